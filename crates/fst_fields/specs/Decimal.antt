@@ -1,0 +1,13 @@
+-- Whole numbers in decimal digits, leading zeros among them.
+use Rattle.std.specs.Prelude.{ℕ, ◌+◌, ◌-◌, ◌*◌, List, [], ◌∷◌, length, nat_le, Option, Some, None, if◌then◌else◌}
+use Rattle.std.specs.Char.{is_ascii_digit}
+
+-- the number n followed by these digits, if all are digits
+abbrev pub digits_after : ℕ → List ℕ → Option ℕ
+digits_after n [] = Some n
+digits_after n (c ∷ cs) = if is_ascii_digit c then digits_after (10 * n + (c - 48)) cs else None
+
+-- the number that one to most digits stand for
+abbrev pub decimal : ℕ → List ℕ → Option ℕ
+decimal most [] = None
+decimal most (c ∷ cs) = if nat_le (length (c ∷ cs)) most then digits_after 0 (c ∷ cs) else None
