@@ -8,6 +8,6 @@ digits_after n [] = Some n
 digits_after n (c ∷ cs) = if is_ascii_digit c then digits_after (10 * n + (c - 48)) cs else None
 
 -- the number that one to most digits stand for
-abbrev pub decimal : ℕ → List ℕ → Option ℕ
-decimal most [] = None
-decimal most (c ∷ cs) = if nat_le (length (c ∷ cs)) most then digits_after 0 (c ∷ cs) else None
+abbrev pub natural_of_text : ℕ → List ℕ → Option ℕ
+natural_of_text most [] = None
+natural_of_text most (c ∷ cs) = if nat_le (length (c ∷ cs)) most then digits_after 0 (c ∷ cs) else None

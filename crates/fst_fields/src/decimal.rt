@@ -1,7 +1,7 @@
 //! Whole numbers in decimal digits.
 
 ghost use Rattle.std.specs.Prelude.{◌≡◌, ◌<◌, ◌≤◌, ◌^◌, IfSome, length};
-ghost use Rattle.fst_fields.specs.Decimal.{decimal, digits_after};
+ghost use Rattle.fst_fields.specs.Decimal.{natural_of_text, digits_after};
 
 /// The number that the bytes stand for, where they are all decimal digits. Leading zeros are read.
 fn digits(field: &[u8]) -> Option<u64>
@@ -23,7 +23,7 @@ fn digits(field: &[u8]) -> Option<u64>
 /// exactly where the field is empty, is longer than `most`, or has a byte that is no digit. Takes no memory.
 pub fn read_decimal(field: &[u8], most: usize) -> Option<u64>
     requires { most ≤ 19 }
-    ensures value { result ≡ decimal most field.now }
+    ensures value { result ≡ natural_of_text most field.now }
     ensures small { IfSome result (λ n. n < 10 ^ most) }
 {
     if field.is_empty() || field.len() > most {

@@ -7,6 +7,8 @@ use crate::arc_type::ArcType;
 use crate::key::Key;
 use crate::number::{LIMIT, read_number};
 use crate::weight::{BadWeight, Weight};
+use itoa::Buffer;
+use std::alloc::AllocError;
 use std::marker::Model;
 
 /// A whole number of absolute value at most 10 to the 18, or infinity. It takes 8 bytes: the number past
@@ -105,6 +107,38 @@ impl Weight for Tropical {
             Some(number) => Ok(Tropical { number }),
             None => Err(BadWeight),
         }
+    }
+
+    fn from_key(key: Key) -> Option<Tropical> {
+        match key {
+            Key {
+                class: 2,
+                first: 0,
+                second: 0,
+            } => Some(Tropical::zero()),
+            Key {
+                class: 1,
+                first,
+                second: 0,
+            } => {
+                if -i128::from(LIMIT) <= first && first <= i128::from(LIMIT) {
+                    Some(Tropical {
+                        number: first as i64,
+                    })
+                } else {
+                    None
+                }
+            }
+            _ => None,
+        }
+    }
+
+    fn push_text(self, out: &mut Vec<u8>) -> Result<(), AllocError> {
+        if self.number > LIMIT {
+            return out.extend_from_slice(b"Infinity");
+        }
+        let mut buffer = Buffer::new();
+        out.extend_from_slice(buffer.format(self.number).as_bytes())
     }
 
     ghost value_apart = { λ a b e. e };

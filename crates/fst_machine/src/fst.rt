@@ -1,0 +1,202 @@
+//! A machine that grows by its calls.
+
+ghost use Rattle.std.specs.Prelude.{◌≡◌, ◌≢◌, ◌<◌, ◌≤◌, ◌↔◌, ◌∷◌, ◌++◌, [], Some, OnOk, OnErr, IfOk, IfSome, IsErrOf, length, slice_get};
+ghost use Rattle.std.specs.Option.{option_map};
+ghost use Rattle.fst_semiring.specs.Cost.{infinite};
+ghost use Rattle.fst_machine.specs.Machine.{Machine, IsMachine, arc_total, bare_state, changed, greatest_label, most_arcs, most_states, no_states, with_arc, with_final};
+
+use crate::arc::FstArc;
+use fst_semiring::Weight;
+use std::alloc::{AllocError, AllocFailed, Global};
+use std::marker::Model;
+
+/// The greatest number of states of a machine.
+pub const MOST_STATES: usize = 4_194_304;
+
+/// The greatest number of arcs of a machine.
+pub const MOST_ARCS: u32 = 33_554_432;
+
+/// The greatest label.
+pub const MOST_LABEL: u32 = 2_147_483_647;
+
+/// Why a machine does not grow. It is then as before.
+#[derive(Clone, Copy, Debug, PartialEq, Eq)]
+pub enum GrowFault {
+    /// It has 4,194,304 states.
+    TooManyStates,
+    /// It has 33,554,432 arcs.
+    TooManyArcs,
+    /// There is no memory.
+    Memory,
+}
+
+impl From<AllocError> for GrowFault {
+    ghost use Rattle.std.specs.Prelude.{◌≡◌};
+    ghost use Rattle.fst_machine.specs.declared.fst.GrowFault.TheVariants as faults;
+
+    ghost from_gives = { λ _ e. e ≡ faults.Memory };
+
+    fn from(_e: AllocError) -> GrowFault {
+        GrowFault::Memory
+    }
+}
+
+impl<T: Drop> From<AllocFailed<T>> for GrowFault {
+    ghost use Rattle.std.specs.Prelude.{◌≡◌};
+    ghost use Rattle.fst_machine.specs.declared.fst.GrowFault.TheVariants as faults;
+
+    ghost from_gives = { λ _ e. e ≡ faults.Memory };
+
+    fn from(_e: AllocFailed<T>) -> GrowFault {
+        GrowFault::Memory
+    }
+}
+
+/// A state: its final weight and its arcs.
+#[derive(Drop)]
+struct FstState<W> {
+    last: W,
+    arcs: Vec<FstArc<W>>,
+}
+
+impl<W> Model for FstState<W> {
+    ghost use Rattle.fst_machine.specs.Machine.{State};
+
+    ghost Value = { State W };
+
+    ghost view = { λ s. record { final = s.last; arcs = s.arcs.items } };
+}
+
+/// A weighted machine: a start or none, and states, each with a final weight and its arcs in order. A state
+/// is final where its final weight is not Zero. (OpenFst manual, "VectorFst".)
+#[derive(Drop)]
+pub struct Fst<W: Weight> {
+    start: Option<u32>,
+    states: Vec<FstState<W>>,
+    total: u32,
+}
+
+impl<W: Weight> Model for Fst<W> {
+    ghost use Rattle.std.specs.Prelude.{◌≡◌};
+    ghost use Rattle.fst_machine.specs.Machine.{Machine, IsMachine, arc_total};
+
+    ghost Value = { Machine W };
+
+    ghost view = { λ m. record { start = m.start; states = m.states.items } };
+
+    ghost invariant = { λ m. (m.total ≡ arc_total m.states.items) × IsMachine W.value (record { start = m.start; states = m.states.items }) };
+}
+
+impl<W: Weight> Fst<W> {
+    /// The machine with no states and no start. Takes no memory.
+    pub fn new(alloc: Global) -> Fst<W>
+        ensures { result ≡ no_states }
+    {
+        Fst {
+            start: None,
+            states: Vec::new(alloc),
+            total: 0,
+        }
+    }
+
+    /// Adds a state with final weight Zero and no arcs behind the others, and gives its number.
+    /// `TooManyStates` exactly where there are 4,194,304 states. Any refusal leaves the machine as it was.
+    pub fn add_state(&mut self) -> Result<u32, GrowFault>
+        ensures number { IfOk result (λ n. n ≡ length self.old.states) }
+        ensures zero { IfOk result (λ n. (zero : W) × (W.value zero ≡ infinite) × (self.new ≡ record self.old { states = self.old.states ++ bare_state zero ∷ [] })) }
+        ensures full { IsErrOf result GrowFault.TooManyStates ↔ (most_states ≤ length self.old.states) }
+        ensures few_arcs { IsErrOf result GrowFault.TooManyArcs → ⊥ }
+        ensures err { OnErr result (self.new ≡ self.old) }
+    {
+        let number = self.states.len();
+        if number >= MOST_STATES {
+            return Err(GrowFault::TooManyStates);
+        }
+        let alloc = *self.states.allocator();
+        self.states.push(FstState {
+            last: W::zero(),
+            arcs: Vec::new(alloc),
+        })?;
+        Ok(number as u32)
+    }
+
+    /// Adds an arc behind the others of a state. `TooManyArcs` exactly where there are 33,554,432 arcs. Any
+    /// refusal leaves the machine as it was.
+    pub fn add_arc(&mut self, state: u32, arc: FstArc<W>) -> Result<(), GrowFault>
+        requires state { state < length self.old.states }
+        requires next { arc.next < length self.old.states }
+        requires ilabel { arc.ilabel ≤ greatest_label }
+        requires olabel { arc.olabel ≤ greatest_label }
+        requires weight { W.value arc.weight ≢ infinite }
+        ensures ok { OnOk result (self.new ≡ record self.old { states = changed (with_arc arc) self.old.states state }) }
+        ensures full { IsErrOf result GrowFault.TooManyArcs ↔ (most_arcs ≤ arc_total self.old.states) }
+        ensures few_states { IsErrOf result GrowFault.TooManyStates → ⊥ }
+        ensures err { OnErr result (self.new ≡ self.old) }
+    {
+        if self.total >= MOST_ARCS {
+            return Err(GrowFault::TooManyArcs);
+        }
+        let s = &mut self.states[state as usize];
+        s.arcs.push(arc)?;
+        self.total += 1;
+        Ok(())
+    }
+
+    /// Makes a state the start.
+    pub fn set_start(&mut self, state: u32)
+        requires { state < length self.old.states }
+        ensures { self.new ≡ record self.old { start = Some state } }
+    {
+        self.start = Some(state);
+    }
+
+    /// Sets the final weight of a state.
+    pub fn set_final(&mut self, state: u32, weight: W)
+        requires { state < length self.old.states }
+        ensures { self.new ≡ record self.old { states = changed (with_final weight) self.old.states state } }
+    {
+        let s = &mut self.states[state as usize];
+        s.last = weight;
+    }
+
+    /// The start; `None` exactly where there is none. Takes no memory.
+    pub fn start(&self) -> Option<u32>
+        ensures value { result ≡ self.now.start }
+        ensures state { IfSome result (λ s. s < length self.now.states) }
+    {
+        self.start
+    }
+
+    /// The number of states, and with it what holds of every machine. Takes no memory.
+    pub fn states(&self) -> u32
+        ensures value { result ≡ length self.now.states }
+        ensures machine { IsMachine W.value self.now }
+    {
+        self.states.len() as u32
+    }
+
+    /// The number of arcs of all states together. Takes no memory.
+    pub fn arc_count(&self) -> u32
+        ensures { result ≡ arc_total self.now.states }
+    {
+        self.total
+    }
+
+    /// The arcs of a state, in order. Takes no memory.
+    pub fn arcs(&self, state: u32) -> &[FstArc<W>]
+        requires { state < length self.now.states }
+        ensures { option_map (λ s. s.arcs) (slice_get self.now.states state) ≡ Some result.now }
+    {
+        let s = &self.states[state as usize];
+        s.arcs.as_slice()
+    }
+
+    /// The final weight of a state; Zero where it is not final. Takes no memory.
+    pub fn final_weight(&self, state: u32) -> W
+        requires { state < length self.now.states }
+        ensures { option_map (λ s. s.final) (slice_get self.now.states state) ≡ Some result }
+    {
+        let s = &self.states[state as usize];
+        s.last
+    }
+}
