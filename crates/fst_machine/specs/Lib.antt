@@ -1,1 +1,10 @@
 pub mod Machine
+pub mod Graph
+pub mod Letters
+pub mod Paths
+pub mod Relation
+pub mod Cycles
+pub mod Matching
+pub mod Distance
+pub mod BreadthFirst
+pub mod PathOrder
