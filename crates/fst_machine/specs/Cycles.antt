@@ -1,8 +1,8 @@
 -- Useful names and improving cycles. (Mohri 2009, section 3.1: accessible and coaccessible states; section
 -- 2.3, closed semirings: a cycle better than One has no closure.)
-use Rattle.std.specs.Prelude.{◌≡◌, ℕ, List, Some}
+use Rattle.std.specs.Prelude.{◌≡◌, List, Some}
 use Rattle.std.specs.declared.cmp.Ordering.TheVariants.{Less}
-use Rattle.fst_semiring.specs.Cost.{Cost, infinite, cost_cmp}
+use Rattle.fst_semiring.specs.Cost.{infinite, cost_cmp}
 use Rattle.fst_semiring.specs.declared.arc_type.ArcType.{ArcType}
 use Rattle.fst_semiring.specs.Semiring.{one_of}
 use Rattle.fst_machine.specs.Graph.{Graph}

@@ -1,6 +1,6 @@
 -- Shortest distances. (Mohri 2009, section 3.3, shortest distance: the sum of the weights of all paths from
 -- one state to another, here the product of a best one.)
-use Rattle.std.specs.Prelude.{◌≡◌, ◌⊎◌, ℕ, List, [], ◌∷◌}
+use Rattle.std.specs.Prelude.{◌≡◌, ◌⊎◌, List, [], ◌∷◌}
 use Rattle.fst_semiring.specs.Cost.{Cost, infinite, plus}
 use Rattle.fst_semiring.specs.declared.arc_type.ArcType.{ArcType}
 use Rattle.fst_semiring.specs.Semiring.{times}

@@ -8,3 +8,9 @@ pub mod Matching
 pub mod Distance
 pub mod BreadthFirst
 pub mod PathOrder
+pub mod Futures
+pub mod Renaming
+pub mod Serving
+pub mod Continuing
+pub mod Turning
+pub mod Numbering

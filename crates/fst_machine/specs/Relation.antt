@@ -1,7 +1,7 @@
 -- The weighted relation of a graph, and the weight of a pair of strings. (Mohri 2009, section 3.1: the
 -- weight that a transducer associates to a pair of strings is the sum of the weights of its successful
 -- paths; by the path property of the semiring it is the weight of a best one.)
-use Rattle.std.specs.Prelude.{◌≡◌, ℕ, List, Option, Some}
+use Rattle.std.specs.Prelude.{◌≡◌, ℕ, List, Some}
 use Rattle.fst_semiring.specs.Cost.{Cost, infinite, plus}
 use Rattle.fst_semiring.specs.declared.arc_type.ArcType.{ArcType}
 use Rattle.fst_semiring.specs.Semiring.{times}
