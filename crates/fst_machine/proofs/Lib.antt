@@ -4,3 +4,8 @@ pub mod Letters
 pub mod Paths
 pub mod Futures
 pub mod Renaming
+pub mod Serving
+pub mod Continuing
+pub mod Turning
+pub mod Numbering
+pub mod Weights
