@@ -9,3 +9,6 @@ pub mod Continuing
 pub mod Turning
 pub mod Numbering
 pub mod Weights
+pub mod Elements
+pub mod Repeats
+pub mod PathOrder
