@@ -12,3 +12,4 @@ pub mod Weights
 pub mod Elements
 pub mod Repeats
 pub mod PathOrder
+pub mod Cycles

@@ -1,6 +1,6 @@
 -- Useful names and improving cycles. (Mohri 2009, section 3.1: accessible and coaccessible states; section
 -- 2.3, closed semirings: a cycle better than One has no closure.)
-use Rattle.std.specs.Prelude.{◌≡◌, List, Some}
+use Rattle.std.specs.Prelude.{◌≡◌, List, ◌∷◌, ◌++◌, Some}
 use Rattle.std.specs.declared.cmp.Ordering.TheVariants.{Less}
 use Rattle.fst_semiring.specs.Cost.{infinite, cost_cmp}
 use Rattle.fst_semiring.specs.declared.arc_type.ArcType.{ArcType}
@@ -36,3 +36,15 @@ module _ {N : Type 0} (g : Graph N) where
   -- no useful name has an improving cycle
   abbrev pub HasNoImprovingCycle : ArcType → Type 0
   HasNoImprovingCycle kind = (p : N) (path : List (Transition N)) → IsUseful p → IsImprovingCycle kind p path → ⊥
+
+  -- A path that meets a name twice: up to that name, round a cycle, and on from it.
+  pub record HasCycle (p : N) (path : List (Transition N)) (q : N) : Type 0 where
+    pub front : List (Transition N)
+    pub first : Transition N
+    pub round : List (Transition N)
+    pub back : List (Transition N)
+    pub turn : N
+    pub same : path ≡ front ++ ((first ∷ round) ++ back)
+    pub arrives : IsPath g p front turn
+    pub turns : IsPath g turn (first ∷ round) turn
+    pub goes : IsPath g turn back q

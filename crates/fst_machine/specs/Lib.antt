@@ -8,6 +8,7 @@ pub mod Matching
 pub mod Distance
 pub mod BreadthFirst
 pub mod PathOrder
+pub mod Within
 pub mod Futures
 pub mod Renaming
 pub mod Serving
