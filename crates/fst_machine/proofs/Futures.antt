@@ -1,5 +1,5 @@
 -- What a name says, one arc at a time.
-use Rattle.std.proofs.Common.{◌≡◌, ◌⊎◌, inl, inr, ℕ, List, [], ◌∷◌, Some, slice_get, sym, refl, ap, ◌∙◌, subst}
+use Rattle.std.proofs.Common.{◌≡◌, ◌⊎◌, inl, inr, ℕ, List, [], ◌∷◌, Some, slice_get, sym, refl, ap, ◌∙◌, subst, length, suc}
 use Rattle.fst_semiring.specs.Cost.{Cost, infinite}
 use Rattle.fst_semiring.specs.declared.arc_type.ArcType.{ArcType}
 use Rattle.fst_semiring.specs.Semiring.{one_of, times}
@@ -29,6 +29,15 @@ module _ {N : Type 0} (kind : ArcType) (g : Graph N) where
         writes = h.writes ∙ ap (before h.arc.olabel) h.says.writes;
         weight = h.weight ∙ (ap (times kind h.arc.weight) h.says.weight ∙ sym (times_assoc kind h.arc.weight _ _));
       }
+
+  -- these paths have no arc, and one arc more
+  pub RelFrom-end-length : (p : N) (x y : List ℕ) (w : Cost) (h : SaysEnd kind g p x y w) → length (RelFrom-end p x y w h).path ≡ 0
+  unfolding RelFrom-end
+  RelFrom-end-length p x y w h = refl
+
+  pub RelFrom-arc-length : (p : N) (x y : List ℕ) (w : Cost) (h : SaysArc kind g p x y w) → length (RelFrom-arc p x y w h).path ≡ suc (length h.says.path)
+  unfolding RelFrom-arc
+  RelFrom-arc-length p x y w h = refl
 
   -- and it says nothing else
   pub RelFrom-cases : (p : N) (x y : List ℕ) (w : Cost) → RelFrom kind g p x y w → SaysEnd kind g p x y w ⊎ SaysArc kind g p x y w

@@ -13,3 +13,5 @@ pub mod Elements
 pub mod Repeats
 pub mod PathOrder
 pub mod Cycles
+pub mod Least
+pub mod Within
