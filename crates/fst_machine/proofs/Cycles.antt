@@ -42,7 +42,7 @@ pub begins_at : {N : Type 0} (g : Graph N) (p q : N) (t : Transition N) (path : 
 begins_at g p q t path leads = leads.0.0
 
 -- a path cut into three, where the second and the third part begin at one state, has a cycle
-pub cut_cycle : {N : Type 0} (g : Graph N) (p q : N) (path front between back : List (Transition N)) (first second : Transition N) → path ≡ front ++ ((first ∷ between) ++ (second ∷ back)) → first.state ≡ second.state → IsPath g p path q → HasCycle g p path q
+abbrev pub cut_cycle : {N : Type 0} (g : Graph N) (p q : N) (path front between back : List (Transition N)) (first second : Transition N) → path ≡ front ++ ((first ∷ between) ++ (second ∷ back)) → first.state ≡ second.state → IsPath g p path q → HasCycle g p path q
 cut_cycle g p q path front between back first second same alike leads =
     let cut = IsPath-split g front ((first ∷ between) ++ (second ∷ back)) p q (subst (λ ts. IsPath g p ts q) same leads) in
     let rest = IsPath-split g (first ∷ between) (second ∷ back) cut.0 q cut.2 in

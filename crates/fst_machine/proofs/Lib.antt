@@ -15,3 +15,4 @@ pub mod PathOrder
 pub mod Cycles
 pub mod Least
 pub mod Within
+pub mod Shortening
