@@ -1,5 +1,5 @@
 -- Where the arcs of a list that was renamed or continued come from.
-use Rattle.std.proofs.Common.{◌≡◌, ◌⊎◌, inl, inr, ℕ, ◌+◌, zero, suc, List, [], ◌∷◌, ◌++◌, Option, None, Some, length, map, slice_get, sym, refl, ap, ◌∙◌, arith}
+use Rattle.std.proofs.Common.{◌≡◌, ◌⊎◌, inl, inr, ℕ, ◌+◌, ◌<◌, zero, suc, List, [], ◌∷◌, ◌++◌, Option, None, Some, length, map, slice_get, sym, refl, ap, ◌∙◌, arith}
 use Rattle.std.proofs.lemmas.Option.{slice_get-map}
 use Rattle.std.specs.Option.{option_map}
 
@@ -38,3 +38,9 @@ append_at (z ∷ xs) ys (suc k) x e = by_rest (append_at xs ys k x e)
     by_rest : (slice_get xs k ≡ Some x) ⊎ ((j : ℕ) × (slice_get ys j ≡ Some x) × (k ≡ length xs + j)) → (slice_get xs k ≡ Some x) ⊎ ((j : ℕ) × (slice_get ys j ≡ Some x) × (suc k ≡ suc (length xs) + j))
     by_rest (inl h) = inl h
     by_rest (inr h) = inr (h.0, h.1, omega (arith, h.2))
+
+-- an element within the first of two lists together is in the same place of the first
+pub at_append_front : {X : Type 0} (xs ys : List X) (k : ℕ) (x : X) → k < length xs → slice_get (xs ++ ys) k ≡ Some x → slice_get xs k ≡ Some x
+at_append_front [] ys k x within e = absurd (omega arith)
+at_append_front (z ∷ xs) ys zero x within e = e
+at_append_front (z ∷ xs) ys (suc k) x within e = at_append_front xs ys k x (omega arith) e

@@ -16,3 +16,4 @@ pub mod Cycles
 pub mod Least
 pub mod Within
 pub mod Shortening
+pub mod Walks
