@@ -17,3 +17,4 @@ pub mod Least
 pub mod Within
 pub mod Shortening
 pub mod Walks
+pub mod Appearances
