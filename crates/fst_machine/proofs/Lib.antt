@@ -18,3 +18,5 @@ pub mod Within
 pub mod Shortening
 pub mod Walks
 pub mod Appearances
+pub mod Pairs
+pub mod BreadthFirst
