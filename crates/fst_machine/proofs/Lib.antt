@@ -20,3 +20,4 @@ pub mod Walks
 pub mod Appearances
 pub mod Pairs
 pub mod BreadthFirst
+pub mod Connected

@@ -15,3 +15,4 @@ pub mod Serving
 pub mod Continuing
 pub mod Turning
 pub mod Numbering
+pub mod Connected
