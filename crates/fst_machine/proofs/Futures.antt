@@ -1,5 +1,5 @@
 -- What a name says, one arc at a time.
-use Rattle.std.proofs.Common.{◌≡◌, ◌⊎◌, inl, inr, ℕ, List, [], ◌∷◌, Some, slice_get, sym, refl, ap, ◌∙◌, subst, length, suc}
+use Rattle.std.proofs.Common.{◌≡◌, ◌⊎◌, ◌↔◌, inl, inr, ℕ, List, [], ◌∷◌, Some, slice_get, sym, refl, ap, ◌∙◌, subst, length, suc}
 use Rattle.fst_semiring.specs.Cost.{Cost, infinite}
 use Rattle.fst_semiring.specs.declared.arc_type.ArcType.{ArcType}
 use Rattle.fst_semiring.specs.Semiring.{one_of, times}
@@ -77,3 +77,11 @@ module _ {N : Type 0} (kind : ArcType) (g : Graph N) where
     writes = refl;
     weight = sym (one_times kind w);
   })
+
+  -- so it says just this
+  pub RelFrom_is : (p : N) (x y : List ℕ) (w : Cost) → RelFrom kind g p x y w ↔ (SaysEnd kind g p x y w ⊎ SaysArc kind g p x y w)
+  RelFrom_is p x y w = (RelFrom-cases p x y w, back)
+    where
+      back : SaysEnd kind g p x y w ⊎ SaysArc kind g p x y w → RelFrom kind g p x y w
+      back (inl h) = RelFrom-end p x y w h
+      back (inr h) = RelFrom-arc p x y w h

@@ -146,3 +146,7 @@ module _ {N : Type 0} (g : Graph N) where
     pub walked_all : (path : List (Transition N)) (p q : N) → Has names p → IsPath g p path q → Has names q
     walked_all [] p q h here = subst (λ y. Has names y) here h
     walked_all (t ∷ path) p q h leads = walked_all path t.arc.next q (walked_closed p t.place t.arc h leads.0.1) leads.1
+
+    -- so each path from the start does
+    pub walked_from_start : (path : List (Transition N)) (q : N) → IsPath g start path q → Has names q
+    walked_from_start path q leads = walked_all path start q (subst (λ ns. Has ns start) (sym walked_begins.1) (inl refl)) leads

@@ -16,3 +16,8 @@ pub mod Continuing
 pub mod Turning
 pub mod Numbering
 pub mod Connected
+pub mod PathLaws
+pub mod GraphLaws
+pub mod WeightLaws
+pub mod ListLaws
+pub mod ValueLaws

@@ -6,6 +6,7 @@
 
 mod arc;
 mod fst;
+pub mod laws;
 
 pub use arc::FstArc;
 pub use fst::{Fst, GrowFault, MOST_ARCS, MOST_LABEL, MOST_STATES};
