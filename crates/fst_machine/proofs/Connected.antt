@@ -10,7 +10,7 @@ use Rattle.fst_machine.specs.Cycles.{IsAccessible}
 use Rattle.fst_machine.specs.Serving.{Serves}
 use Rattle.fst_machine.specs.BreadthFirst.{Has}
 use Rattle.fst_machine.specs.Connected.{Kept, IsConnected}
-use Rattle.fst_machine.proofs.Paths.{IsPath-append}
+use Rattle.fst_machine.proofs.PathParts.{IsPath-append}
 use Rattle.fst_machine.proofs.Elements.{Has_at, at_Has}
 use Rattle.fst_machine.proofs.Serving.{served-Rel}
 

@@ -15,7 +15,7 @@ use Rattle.fst_machine.specs.Paths.{Transition, IsPath, letters}
 use Rattle.fst_machine.specs.Cycles.{HasCycle}
 use Rattle.fst_machine.specs.BreadthFirst.{Has}
 use Rattle.fst_machine.proofs.Letters.{letters-append, product-append}
-use Rattle.fst_machine.proofs.Paths.{IsPath-append, IsPath-split}
+use Rattle.fst_machine.proofs.PathParts.{IsPath-append, IsPath-split}
 use Rattle.fst_machine.proofs.Repeats.{keys, long_repeats}
 
 -- a number that has an arc is the number of a state

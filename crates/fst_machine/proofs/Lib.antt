@@ -1,7 +1,7 @@
 pub mod Changes
 pub mod Arcs
 pub mod Letters
-pub mod Paths
+pub mod PathParts
 pub mod Futures
 pub mod Renaming
 pub mod Serving
@@ -21,3 +21,4 @@ pub mod Appearances
 pub mod Pairs
 pub mod BreadthFirst
 pub mod Connected
+pub mod Walking

@@ -12,7 +12,7 @@ use Rattle.fst_machine.specs.Paths.{IsPath}
 use Rattle.fst_machine.specs.Relation.{IsSuccessful}
 use Rattle.fst_machine.specs.BreadthFirst.{Has, Apart}
 use Rattle.fst_machine.specs.PathOrder.{WeightedPath, arc_places, path_cmp, Ascends, IsFirst}
-use Rattle.fst_machine.proofs.Paths.{same_path}
+use Rattle.fst_machine.proofs.PathParts.{same_path}
 use Rattle.fst_machine.proofs.Elements.{Apart_within}
 
 -- the order of paths is total

@@ -10,7 +10,7 @@ use Rattle.fst_machine.specs.Paths.{Transition, IsPath, letters}
 use Rattle.fst_machine.specs.Relation.{RelFrom}
 use Rattle.fst_machine.specs.Renaming.{moved, Renames}
 use Rattle.fst_machine.proofs.Arcs.{mapped_at, at_mapped}
-use Rattle.fst_machine.proofs.Paths.{same_path}
+use Rattle.fst_machine.proofs.PathParts.{same_path}
 
 module _ {N M : Type 0} (f : N → M) where
   -- a renamed path says the same

@@ -20,7 +20,7 @@ use Rattle.fst_machine.specs.Distance.{IsLeast}
 use Rattle.fst_machine.specs.BreadthFirst.{Has}
 use Rattle.fst_machine.specs.Within.{RelWithin, weight_within}
 use Rattle.fst_machine.proofs.Letters.{letters-append, input-append, output-append}
-use Rattle.fst_machine.proofs.Paths.{IsPath-append, IsPath-split}
+use Rattle.fst_machine.proofs.PathParts.{IsPath-append, IsPath-split}
 use Rattle.fst_machine.proofs.Repeats.{keys, Repeats, long_repeats}
 use Rattle.fst_machine.proofs.Cycles.{state_below, cut_cycle, cycle_left_out, left_out_no_worse}
 use Rattle.fst_machine.proofs.Within.{within_least}

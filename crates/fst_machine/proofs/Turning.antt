@@ -6,7 +6,7 @@ use Rattle.fst_machine.specs.Letters.{Letter, letter_of}
 use Rattle.fst_machine.specs.Paths.{Transition, IsPath, letters}
 use Rattle.fst_machine.specs.Turning.{Turns}
 use Rattle.fst_machine.proofs.Letters.{letters-append}
-use Rattle.fst_machine.proofs.Paths.{IsPath-append}
+use Rattle.fst_machine.proofs.PathParts.{IsPath-append}
 
 -- where arcs lead back, a path has one back, from any name tied to its end to one tied to its beginning,
 -- with its letters turned round

@@ -9,7 +9,7 @@ use Rattle.fst_machine.specs.Graph.{Graph, nexts}
 use Rattle.fst_machine.specs.Paths.{Transition, IsPath}
 use Rattle.fst_machine.specs.BreadthFirst.{Has, Apart, Grows, IsWalked}
 use Rattle.fst_machine.proofs.Arcs.{mapped_at, at_mapped, at_append_front}
-use Rattle.fst_machine.proofs.Paths.{IsPath-append}
+use Rattle.fst_machine.proofs.PathParts.{IsPath-append}
 use Rattle.fst_machine.proofs.Elements.{Has-append_left, Has-append_right, Has-append_cases, Has_at, at_Has, Apart-push}
 
 -- growing by two lists is growing by the one and then by the other

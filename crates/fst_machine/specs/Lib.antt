@@ -21,3 +21,6 @@ pub mod GraphLaws
 pub mod WeightLaws
 pub mod ListLaws
 pub mod ValueLaws
+pub mod Steps
+pub mod Marks
+pub mod Walking

@@ -5,8 +5,12 @@
 #![tactic(auto)]
 
 mod arc;
+mod breadth_first;
 mod fst;
 pub mod laws;
+mod path;
 
 pub use arc::FstArc;
 pub use fst::{Fst, GrowFault, MOST_ARCS, MOST_LABEL, MOST_STATES};
+pub use path::{Path, Paths, Step};
+pub use breadth_first::walk;

@@ -1,5 +1,5 @@
 use Rattle.fst_machine.proofs.Letters.{input-append, output-append, label_word-append, product-append, input-turned, output-turned, product-turned}
-use Rattle.fst_machine.proofs.Paths.{IsPath-append, IsPath-split, walk_of_path, path_of_walk, same_path}
+use Rattle.fst_machine.proofs.PathParts.{IsPath-append, IsPath-split, walk_of_path, path_of_walk, same_path}
 use Rattle.fst_machine.proofs.Futures.{RelFrom_is}
 use Rattle.fst_machine.proofs.laws.path_laws.Goals as goal
 
