@@ -22,3 +22,4 @@ pub mod Pairs
 pub mod BreadthFirst
 pub mod Connected
 pub mod Walking
+pub mod Arriving

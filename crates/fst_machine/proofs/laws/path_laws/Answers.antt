@@ -1,6 +1,6 @@
 use Rattle.fst_machine.proofs.Letters.{input-append, output-append, label_word-append, product-append, input-turned, output-turned, product-turned}
 use Rattle.fst_machine.proofs.PathParts.{IsPath-append, IsPath-split, walk_of_path, path_of_walk, same_path}
-use Rattle.fst_machine.proofs.Futures.{RelFrom_is}
+use Rattle.fst_machine.proofs.Futures.{RelFrom_is, RelFrom-epsilon}
 use Rattle.fst_machine.proofs.laws.path_laws.Goals as goal
 
 pub returns-clause-letters : goal.returns-clause-letters
@@ -22,4 +22,5 @@ returns-clause-paths g c = λ kind graph. record {
     read = path_of_walk graph;
     fixed = same_path graph;
     says = RelFrom_is kind graph;
+    silent = RelFrom-epsilon kind graph;
   }
