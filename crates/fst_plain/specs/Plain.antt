@@ -1,5 +1,5 @@
 -- Values with numbers of 128 bits, as the plain programs compute them.
-use Rattle.std.specs.Prelude.{ℕ, ℤ, pos, neg_ℤ, ◌*◌, ◌+ℤ◌, ◌≤ℤ◌, ◌≤◌}
+use Rattle.std.specs.Prelude.{ℕ, ℤ, pos, neg_ℤ, ◌*◌, ◌+ℤ◌, ◌≤ℤ◌}
 use Rattle.fst_semiring.specs.Cost.{Cost, best, finite, infinite}
 use Rattle.fst_plain.specs.declared.cost.PlainCost.{PlainCost}
 use Rattle.fst_plain.specs.declared.cost.PlainCost.TheVariants as plain

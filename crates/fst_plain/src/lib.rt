@@ -5,5 +5,6 @@
 #![tactic(auto)]
 
 mod cost;
+mod distance;
 
 pub use cost::PlainCost;
