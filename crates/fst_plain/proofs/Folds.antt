@@ -26,3 +26,10 @@ pub ways_more : {X : Type 0} (kind : ArcType) (rest : ℕ → Cost) (view : X �
 ways_more kind rest view xs i x w v low at e f =
     let longer = map_more view xs i x low ∙ ap (λ z. map view (take i xs) ++ view z ∷ []) (sym at) in
     f ∙ (ap (λ z. plus z (times kind (view x).weight (rest (view x).next))) e ∙ (sym (ways-push kind rest (map view (take i xs)) (view x)) ∙ ap (ways_weight kind rest) (sym longer)))
+
+-- the weight by the first arcs, one more of them
+pub arcs_more : {X : Type 0} (kind : ArcType) (rest : ℕ → List ℕ → List ℕ → Cost) (view : X → Arc Cost ℕ) (x y : List ℕ) (xs : List X) (i : ℕ) (a : X) (e w v : Cost) → i < length xs → a ≡ get_or xs i a → w ≡ plus e (arcs_weight kind rest x y (map view (take i xs))) → v ≡ plus w (arc_weight kind rest (view a) (behind (view a).ilabel x) (behind (view a).olabel y)) → v ≡ plus e (arcs_weight kind rest x y (map view (take (i + 1) xs)))
+arcs_more kind rest view x y xs i a e w v low at f g =
+    let way = arc_weight kind rest (view a) (behind (view a).ilabel x) (behind (view a).olabel y) in
+    let longer = map_more view xs i a low ∙ ap (λ z. map view (take i xs) ++ view z ∷ []) (sym at) in
+    g ∙ (ap (λ z. plus z way) f ∙ (plus_assoc e (arcs_weight kind rest x y (map view (take i xs))) way ∙ ap (plus e) (sym (arcs-push kind rest x y (map view (take i xs)) (view a)) ∙ ap (arcs_weight kind rest x y) (sym longer))))

@@ -6,5 +6,10 @@
 
 mod cost;
 mod distance;
+mod pair;
+mod scan;
 
 pub use cost::PlainCost;
+pub use distance::{distances_to, distances_to_final};
+pub use pair::pair_weight;
+pub use scan::breadth_first;
