@@ -1,1 +1,4 @@
 pub mod Machine
+pub mod Store
+pub mod Putting
+pub mod KeptMachine

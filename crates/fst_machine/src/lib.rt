@@ -6,6 +6,10 @@
 
 mod arc;
 mod fst;
+mod slot;
 
 pub use arc::FstArc;
 pub use fst::{Fst, GrowFault, MOST_ARCS, MOST_LABEL, MOST_STATES};
+
+#[cfg(test)]
+mod tests;
