@@ -1,7 +1,7 @@
 -- The states of a machine as they are kept, and what a change of one slot makes of them.
 use Rattle.std.proofs.Common.{◌≡◌, ◌⊎◌, ℕ, ◌+◌, ◌<◌, ◌≤◌, ◌-◌, List, [], ◌∷◌, ◌++◌, length, set, get_or, take, drop, Option, refl, sym, ap, ◌∙◌, subst, inl, inr, arith}
 use Rattle.std.specs.List.{All, AllByRecursion}
-use Rattle.std.proofs.lemmas.List.{length-map, length-append, take-append-le, drop-append-le, length-drop, map-set}
+use Rattle.std.proofs.lemmas.List.{length-map, length-append, take-append-le, drop-append-le, length-drop, map-set, map-append, take_all, drop_at}
 use Rattle.std.proofs.Math.ListN.{get_or-map}
 use Rattle.std.proofs.lemmas.List.Elements.{All-set, All-push, All-weaker, recursion_from_All}
 use Rattle.std.proofs.lemmas.List.Sums.{sum_by_push}
@@ -12,20 +12,20 @@ use Rattle.fst_machine.specs.Putting.{Puts}
 use Rattle.fst_machine.specs.KeptMachine.{IsKept}
 use Rattle.fst_machine.proofs.Changes.{IsMachine-push, IsMachine-with_arc, IsMachine-with_final}
 
--- a part of the store is the same where the store has one more arc
-slot_arcs-more : {V : Type 0} (store : List (Arc V ℕ)) (a : Arc V ℕ) (s : Slot V) → LiesIn (length store) s → slot_arcs (store ++ a ∷ []) s ≡ slot_arcs store s
-slot_arcs-more store a s inside =
+-- a part of the store is the same where the store has more arcs at its end
+slot_arcs-append : {V : Type 0} (store more : List (Arc V ℕ)) (s : Slot V) → LiesIn (length store) s → slot_arcs (store ++ more) s ≡ slot_arcs store s
+slot_arcs-append store more s inside =
     let behind : length (drop s.first store) ≡ length store - s.first = length-drop s.first store in
-    let cut : take s.count (drop s.first (store ++ a ∷ [])) ≡ take s.count (drop s.first store) =
-    ap (take s.count) (drop-append-le s.first store (a ∷ []) (omega arith)) ∙ take-append-le s.count (drop s.first store) (a ∷ []) (omega arith) in
+    let cut : take s.count (drop s.first (store ++ more)) ≡ take s.count (drop s.first store) =
+    ap (take s.count) (drop-append-le s.first store more (omega arith)) ∙ take-append-le s.count (drop s.first store) more (omega arith) in
     ap (own_or s.own) cut
 
 -- so are all states
-kept_states-more : {V : Type 0} (store : List (Arc V ℕ)) (a : Arc V ℕ) (slots : List (Slot V)) → AllByRecursion (LiesIn (length store)) slots → kept_states (store ++ a ∷ []) slots ≡ kept_states store slots
-kept_states-more store a [] inside = refl
-kept_states-more store a (s ∷ slots) inside =
-    ap (λ arcs. record { final = s.final; arcs = arcs } ∷ kept_states (store ++ a ∷ []) slots) (slot_arcs-more store a s inside.0)
-    ∙ ap (λ states. kept_state store s ∷ states) (kept_states-more store a slots inside.1)
+kept_states-append : {V : Type 0} (store more : List (Arc V ℕ)) (slots : List (Slot V)) → AllByRecursion (LiesIn (length store)) slots → kept_states (store ++ more) slots ≡ kept_states store slots
+kept_states-append store more [] inside = refl
+kept_states-append store more (s ∷ slots) inside =
+    ap (λ arcs. record { final = s.final; arcs = arcs } ∷ kept_states (store ++ more) slots) (slot_arcs-append store more s inside.0)
+    ∙ ap (λ states. kept_state store s ∷ states) (kept_states-append store more slots inside.1)
 
 -- what is read of the kept states is what is kept of the slot that is read
 pub kept_read : {V : Type 0} (store : List (Arc V ℕ)) (slots : List (Slot V)) (i : ℕ) (s : Slot V) → s ≡ get_or slots i s → kept_state store s ≡ get_or (kept_states store slots) i (kept_state store s)
@@ -39,7 +39,7 @@ kept_states-put {V} a store new slots i before after inside puts =
     ∙ ap (λ s. set (kept_states store slots) i s) same where
       others : (new ≡ store) ⊎ (new ≡ store ++ a ∷ []) → kept_states new slots ≡ kept_states store slots
       others (inl e) = ap (λ st. kept_states st slots) e
-      others (inr e) = ap (λ st. kept_states st slots) e ∙ kept_states-more store a slots (recursion_from_All (LiesIn (length store)) slots inside)
+      others (inr e) = ap (λ st. kept_states st slots) e ∙ kept_states-append store (a ∷ []) slots (recursion_from_All (LiesIn (length store)) slots inside)
 
       same : kept_state new after ≡ with_arc a (kept_state store before)
       same = ap (λ w. record { final = w; arcs = slot_arcs new after }) puts.final ∙ ap (λ arcs. record { final = before.final; arcs = arcs }) puts.arcs
@@ -98,3 +98,38 @@ IsKept-push {V} value start slots store total w kept room =
       parts = All-push (LiesIn (length store)) slots (record { final = w; first = 0; count = 0; own = [] }) kept.parts (omega arith);
       machine = subst (λ (ss : List (State V)). IsMachine value (record { start = start; states = ss })) (sym same) (IsMachine-push value (record { start = start; states = states }) w kept.machine (omega arith));
     }
+
+-- the slot of arcs that stand at the end of a store
+abbrev pub slot_behind : {V : Type 0} → List (Arc V ℕ) → V → List (Arc V ℕ) → Slot V
+slot_behind store w arcs = record { final = w; first = length store; count = length arcs; own = [] }
+
+-- a state was added with its arcs
+pub kept_states-extend : {V : Type 0} (store arcs : List (Arc V ℕ)) (slots : List (Slot V)) (w : V) → All (LiesIn (length store)) slots → kept_states (store ++ arcs) (slots ++ slot_behind store w arcs ∷ []) ≡ kept_states store slots ++ record { final = w; arcs = arcs } ∷ []
+kept_states-extend store arcs slots w inside =
+    let cut : take (length arcs) (drop (length store) (store ++ arcs)) ≡ arcs =
+    ap (take (length arcs)) (drop_at store arcs (length store) refl) ∙ take_all (length arcs) arcs (omega arith) in
+    map-append (kept_state (store ++ arcs)) slots (slot_behind store w arcs ∷ [])
+    ∙ ap (λ ss. ss ++ kept_state (store ++ arcs) (slot_behind store w arcs) ∷ []) (kept_states-append store arcs slots (recursion_from_All (LiesIn (length store)) slots inside))
+    ∙ ap (λ own. kept_states store slots ++ record { final = w; arcs = own } ∷ []) cut
+
+-- what then holds of the slots
+pub parts-extend : {V : Type 0} (store arcs : List (Arc V ℕ)) (slots : List (Slot V)) (w : V) → All (LiesIn (length store)) slots → All (LiesIn (length (store ++ arcs))) (slots ++ slot_behind store w arcs ∷ [])
+parts-extend {V} store arcs slots w inside =
+    let n : length (store ++ arcs) ≡ length store + length arcs = length-append store arcs in
+    let Inside : Slot V → Type 0 = LiesIn (length (store ++ arcs)) in
+    All-push Inside slots (slot_behind store w arcs) (All-weaker (LiesIn (length store)) Inside (λ s lies. omega arith) slots inside) (omega arith)
+
+pub record Pushed {V : Type 0} (store arcs new_store : List (Arc V ℕ)) (slots new_slots : List (Slot V)) (w : V) : Type 0 where
+  pub states : kept_states new_store new_slots ≡ kept_states store slots ++ record { final = w; arcs = arcs } ∷ []
+  pub counted : length new_store ≡ arc_total (kept_states new_store new_slots)
+  pub parts : All (LiesIn (length new_store)) new_slots
+
+pub pushed : {V : Type 0} (store arcs new_store : List (Arc V ℕ)) (slots new_slots : List (Slot V)) (w : V) → All (LiesIn (length store)) slots → length store ≡ arc_total (kept_states store slots) → new_store ≡ store ++ arcs → new_slots ≡ slots ++ slot_behind store w arcs ∷ [] → Pushed store arcs new_store slots new_slots w
+pushed {V} store arcs new_store slots new_slots w inside counted grown put =
+    let states = kept_states-extend store arcs slots w inside in
+    let sums = sum_by_push (λ (s : State V). length s.arcs) (kept_states store slots) (record { final = w; arcs = arcs }) in
+    let count : length (store ++ arcs) ≡ arc_total (kept_states (store ++ arcs) (slots ++ slot_behind store w arcs ∷ [])) =
+    length-append store arcs ∙ ap (λ n. n + length arcs) counted ∙ sym sums ∙ ap arc_total (sym states) in
+    let there : Pushed store arcs (store ++ arcs) slots (slots ++ slot_behind store w arcs ∷ []) w =
+    record { states = states; counted = count; parts = parts-extend store arcs slots w inside } in
+    subst (λ (ss : List (Slot V)). Pushed store arcs new_store slots ss w) (sym put) (subst (λ (st : List (Arc V ℕ)). Pushed store arcs st slots (slots ++ slot_behind store w arcs ∷ []) w) (sym grown) there)

@@ -7,7 +7,11 @@ ghost use Rattle.fst_machine.specs.Machine.{Machine, IsMachine, arc_total, bare_
 
 use crate::arc::FstArc;
 use crate::slot::Slot;
+
+mod state_list;
+
 use fst_semiring::Weight;
+pub use state_list::StateList;
 use std::alloc::{AllocError, AllocFailed, Global};
 use std::marker::Model;
 

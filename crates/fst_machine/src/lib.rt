@@ -9,7 +9,7 @@ mod fst;
 mod slot;
 
 pub use arc::FstArc;
-pub use fst::{Fst, GrowFault, MOST_ARCS, MOST_LABEL, MOST_STATES};
+pub use fst::{Fst, GrowFault, MOST_ARCS, MOST_LABEL, MOST_STATES, StateList};
 
 #[cfg(test)]
 mod tests;
