@@ -23,3 +23,4 @@ pub mod BreadthFirst
 pub mod Connected
 pub mod Walking
 pub mod Arriving
+pub mod Keeping

@@ -24,3 +24,6 @@ pub mod ValueLaws
 pub mod Steps
 pub mod Marks
 pub mod Walking
+pub mod Store
+pub mod Putting
+pub mod KeptMachine
