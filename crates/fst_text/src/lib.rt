@@ -1,0 +1,15 @@
+//! The text form of a machine, both ways.
+//!
+//! A line of a text is an arc or a final state. `compile` reads a text, with each fault at its line;
+//! `print` writes one.
+#![tactic(auto)]
+
+mod compiling;
+mod fault;
+mod options;
+mod printing;
+
+pub use compiling::compile;
+pub use fault::{PrintFault, TextFault};
+pub use options::TextOptions;
+pub use printing::print;
