@@ -48,14 +48,14 @@ placed numbers a = record { ilabel = a.ilabel; olabel = a.olabel; weight = a.wei
 -- the arcs of the arc entries with this source, in order
 abbrev pub arcs_from : ℕ → List Entry → List (Arc Cost ℕ)
 arcs_from n [] = []
-arcs_from n (arc_entry source a ∷ es) = if source == n then a ∷ arcs_from n es else arcs_from n es
+arcs_from n (arc_entry source a ∷ es) = if n == source then a ∷ arcs_from n es else arcs_from n es
 arcs_from n (final_entry state w ∷ es) = arcs_from n es
 
 -- the weight of the last final entry of this state, or the one given where there is none
 abbrev pub last_weight : Cost → ℕ → List Entry → Cost
 last_weight w n [] = w
 last_weight w n (arc_entry source a ∷ es) = last_weight w n es
-last_weight w n (final_entry state v ∷ es) = if state == n then last_weight v n es else last_weight w n es
+last_weight w n (final_entry state v ∷ es) = if n == state then last_weight v n es else last_weight w n es
 
 -- the state with this written number
 abbrev pub state_of : List ℕ → List Entry → ℕ → State Cost

@@ -45,6 +45,10 @@ not_zero line best = Ok best
 not_zero line (finite a b) = Ok (finite a b)
 not_zero line infinite = Err (BadWeight line)
 
+-- the weight field of an arc
+abbrev pub arc_weight_of_field : ArcType → ℕ → Option (List ℕ) → Result Cost TextFault
+arc_weight_of_field kind line field = weight_of_field kind line field >>= not_zero line
+
 -- an arc line by its fields
 unfoldable pub arc_line : ArcType → ℕ → Room → (source dest ilabel olabel : List ℕ) → Option (List ℕ) → Result Entry TextFault
 arc_line kind line room source dest ilabel olabel weight = do
@@ -52,8 +56,7 @@ arc_line kind line room source dest ilabel olabel weight = do
   d ← state_of_field line (room.states s) dest
   i ← label_of_field line ilabel
   o ← label_of_field line olabel
-  v ← weight_of_field kind line weight
-  w ← not_zero line v
+  w ← arc_weight_of_field kind line weight
   if room.arc then Ok (arc_entry s (record { ilabel = i; olabel = o; weight = w; next = d })) else Err (TooManyArcs line)
 
 -- a final line by its fields

@@ -1,3 +1,4 @@
+pub mod Building
 pub mod Entries
 pub mod Grammar
 pub mod Printed

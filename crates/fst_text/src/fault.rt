@@ -1,6 +1,7 @@
 //! Why a text is not read, or a machine not printed.
 
-use std::alloc::{AllocError, AllocFailed};
+use fst_machine::GrowFault;
+use std::alloc::AllocError;
 
 /// Why a text is no machine: the first fault of the first faulty line. Lines count from 1, blank ones
 /// included. In a line the number of fields comes first, then the fields from left to right, then the
@@ -34,13 +35,14 @@ impl From<AllocError> for TextFault {
     }
 }
 
-impl<T: Drop> From<AllocFailed<T>> for TextFault {
+impl From<GrowFault> for TextFault {
     ghost use Rattle.std.specs.Prelude.{◌≡◌};
     ghost use Rattle.fst_text.specs.declared.fault.TextFault.TheVariants as faults;
 
     ghost from_gives = { λ _ e. e ≡ faults.Memory };
 
-    fn from(_e: AllocFailed<T>) -> TextFault {
+    // Both limits are asked before a machine is made to grow, since their faults want the line.
+    fn from(_e: GrowFault) -> TextFault {
         TextFault::Memory
     }
 }

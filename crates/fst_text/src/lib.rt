@@ -4,9 +4,11 @@
 //! `print` writes one.
 #![tactic(auto)]
 
+mod builder;
 mod compiling;
 mod fault;
 mod options;
+mod places;
 mod printing;
 
 pub use compiling::compile;

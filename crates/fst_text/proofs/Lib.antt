@@ -1,0 +1,9 @@
+pub mod Added
+pub mod Growth
+pub mod Held
+pub mod Holding
+pub mod Lines
+pub mod Numbers
+pub mod Reading
+pub mod Rooms
+pub mod Slots
