@@ -4,6 +4,7 @@ pub mod Held
 pub mod Holding
 pub mod Lines
 pub mod Numbers
+pub mod Prints
 pub mod Reading
 pub mod Rooms
 pub mod Slots

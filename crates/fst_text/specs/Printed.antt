@@ -12,15 +12,18 @@ use Rattle.fst_text.specs.declared.fault.PrintFault.{PrintFault}
 use Rattle.fst_text.specs.declared.fault.PrintFault.TheVariants.{NotAcceptor, Memory}
 use Rattle.fst_text.specs.declared.options.TextOptions.{TextOptions}
 
--- each field with a tab in front of it, and the end of the line
-abbrev pub tabbed : List (List ℕ) → List ℕ
-tabbed [] = 10 ∷ []
-tabbed (field ∷ fields) = (9 ∷ field) ++ tabbed fields
+-- each field with a tab in front of it
+abbrev pub behind_tabs : List (List ℕ) → List ℕ
+behind_tabs fields = flat_map (λ field. 9 ∷ field) fields
 
 -- the text of a line: its fields joined by one tab, and a line feed
 abbrev pub text_of_line : List (List ℕ) → List ℕ
 text_of_line [] = 10 ∷ []
-text_of_line (field ∷ fields) = field ++ tabbed fields
+text_of_line (field ∷ fields) = field ++ behind_tabs fields ++ 10 ∷ []
+
+-- the text of lines
+abbrev pub text_of_lines : List (List (List ℕ)) → List ℕ
+text_of_lines lines = flat_map text_of_line lines
 
 -- the value is Zero
 abbrev pub is_zero : Cost → Bool
@@ -84,7 +87,7 @@ refusal options m = if options.acceptor then split_state 0 m.states else None
 
 -- the printed text of a machine, or why there is none
 abbrev pub text_of_machine : ArcType → TextOptions → Machine Cost → Result (List ℕ) PrintFault
-text_of_machine kind options m = elim (refusal options m) [ None ↦ Ok (flat_map text_of_line (machine_lines kind options m)) | Some fault ↦ Err fault ]
+text_of_machine kind options m = elim (refusal options m) [ None ↦ Ok (text_of_lines (machine_lines kind options m)) | Some fault ↦ Err fault ]
 
 -- what was returned, seen by view, is this text or this refusal, unless memory ran out
 abbrev pub Prints : {X : Type 0} → (X → List ℕ) → Result X PrintFault → Result (List ℕ) PrintFault → Type 0

@@ -1,0 +1,90 @@
+-- The states of a machine one after another, as they are printed.
+use Rattle.std.proofs.Common.{◌≡◌, ℕ, ◌+◌, ◌<◌, ◌≤◌, ◌==◌, zero, suc, cond, List, [], ◌∷◌, ◌++◌, length, map, drop, get_or, Option, Some, None, refl, sym, ap, ◌∙◌, subst, arith, append_assoc}
+use Rattle.std.specs.List.{flat_map, slice_get, drop-map}
+use Rattle.std.specs.Option.{option_map}
+use Rattle.std.proofs.lemmas.Grind.{flat_map-append}
+use Rattle.std.proofs.lemmas.List.{length-map}
+use Rattle.std.proofs.lemmas.List.Sums.{get_or-le-sum_by}
+use Rattle.std.proofs.lemmas.Option.{get_or_from_slice_get, slice_get-map, slice_get_within}
+use Rattle.fst_semiring.specs.declared.arc_type.ArcType.{ArcType}
+use Rattle.fst_semiring.specs.Cost.{Cost}
+use Rattle.fst_machine.specs.Machine.{Arc, State, arc_total, most_arcs, valued_arc, valued_state}
+use Rattle.fst_text.specs.declared.fault.PrintFault.{PrintFault}
+use Rattle.fst_text.specs.declared.options.TextOptions.{TextOptions}
+use Rattle.fst_text.specs.Printed.{arc_fields, final_lines, lines_at, other_lines, split_arc, split_state, state_lines, text_of_line, text_of_lines}
+
+-- what is read of a state is of the one that stands there
+state-there : {V : Type 0} (states : List (State V)) (q : ℕ) (arcs : List (Arc V ℕ)) → option_map (λ s. s.arcs) (slice_get states q) ≡ Some arcs → (s : State V) × (slice_get states q ≡ Some s) × (s.arcs ≡ arcs)
+state-there {V} states q arcs h = go (slice_get states q) refl h where
+  go : (o : Option (State V)) → slice_get states q ≡ o → option_map (λ s. s.arcs) o ≡ Some arcs → (s : State V) × (slice_get states q ≡ Some s) × (s.arcs ≡ arcs)
+  go None e h = absurd (cc)
+  go (Some s) e h = (s, e, cc)
+
+final-there : {V : Type 0} (states : List (State V)) (q : ℕ) (s : State V) (w : V) → slice_get states q ≡ Some s → option_map (λ s. s.final) (slice_get states q) ≡ Some w → s.final ≡ w
+final-there {V} states q s w e h =
+    let both : option_map (λ (s : State V). s.final) (Some s) ≡ Some w = ap (option_map (λ (s : State V). s.final)) (sym e) ∙ h in
+    cc
+
+drop-there : {X : Type 0} (xs : List X) (i : ℕ) (x : X) → slice_get xs i ≡ Some x → drop i xs ≡ x ∷ drop (i + 1) xs
+drop-there [] i x h = absurd (cc)
+drop-there (y ∷ xs) zero x h = let same : y ≡ x = cc in ap (λ z. z ∷ xs) same
+drop-there (y ∷ xs) (suc i) x h =
+    let next : suc (i + 1) ≡ suc i + 1 = omega arith in
+    drop-there xs i x h ∙ ap (λ (k : ℕ). x ∷ drop k (y ∷ xs)) next
+
+-- the lines of a state are those of what is read of it
+pub lines-read : {V : Type 0} (value : V → Cost) (kind : ArcType) (options : TextOptions) (states : List (State V)) (q : ℕ) (arcs : List (Arc V ℕ)) (w : V) → option_map (λ s. s.arcs) (slice_get states q) ≡ Some arcs → option_map (λ s. s.final) (slice_get states q) ≡ Some w → lines_at kind options q (map (valued_state value) states) ≡ map (arc_fields kind options q) (map (valued_arc value) arcs) ++ final_lines kind options q (record { final = value w; arcs = map (valued_arc value) arcs })
+lines-read {V} value kind options states q arcs w ha hw =
+    let there = state-there states q arcs ha in
+    let s : State V = there.0 in
+    ap (λ (o : Option (State Cost)). elim o [ None ↦ [] | Some s ↦ state_lines kind options q s ]) (slice_get-map (valued_state value) states q ∙ ap (option_map (valued_state value)) there.1)
+    ∙ ap (λ (as_read : List (Arc V ℕ)). state_lines kind options q (record { final = value s.final; arcs = map (valued_arc value) as_read })) there.2
+    ∙ ap (λ (u : V). state_lines kind options q (record { final = value u; arcs = map (valued_arc value) arcs })) (final-there states q s w there.1 hw)
+
+-- texts one behind the other
+pub texts-append : (old a b : List ℕ) (first second : List (List (List ℕ))) → a ≡ old ++ text_of_lines first → b ≡ a ++ text_of_lines second → b ≡ old ++ text_of_lines (first ++ second)
+texts-append old a b first second ea eb =
+    eb ∙ ap (λ (x : List ℕ). x ++ text_of_lines second) ea ∙ append_assoc old (text_of_lines first) (text_of_lines second) ∙ ap (λ (x : List ℕ). old ++ x) (sym (flat_map-append text_of_line first second))
+
+-- the lines of the next state, and those of the states behind it
+other-step : (kind : ArcType) (options : TextOptions) (start n : ℕ) (states : List (State Cost)) (q : ℕ) → q < length states → other_lines kind options start n (drop q states) ≡ cond (n == start) [] (elim (slice_get states q) [ None ↦ [] | Some s ↦ state_lines kind options n s ]) ++ other_lines kind options start (n + 1) (drop (q + 1) states)
+other-step kind options start n [] q h = absurd (omega arith)
+other-step kind options start n (s ∷ states) zero h = refl
+other-step kind options start n (s ∷ states) (suc q) h =
+    let next : suc (q + 1) ≡ suc q + 1 = omega arith in
+    other-step kind options start n states q (omega arith) ∙ ap (λ (k : ℕ). cond (n == start) [] (elim (slice_get states q) [ None ↦ [] | Some s ↦ state_lines kind options n s ]) ++ other_lines kind options start (n + 1) (drop k (s ∷ states))) next
+
+-- the text of the states that are left, after that of the next one
+pub others-pushed : {V : Type 0} (value : V → Cost) (kind : ArcType) (options : TextOptions) (start q : ℕ) (states : List (State V)) (old out more : List ℕ) → q < length states → more ≡ out ++ text_of_lines (cond (q == start) [] (lines_at kind options q (map (valued_state value) states))) → out ++ text_of_lines (other_lines kind options start q (map (valued_state value) (drop q states))) ≡ old → more ++ text_of_lines (other_lines kind options start (q + 1) (map (valued_state value) (drop (q + 1) states))) ≡ old
+others-pushed value kind options start q states old out more low e h =
+    let mapped = map (valued_state value) states in
+    let first = cond (q == start) [] (lines_at kind options q mapped) in
+    let behind = other_lines kind options start (q + 1) (map (valued_state value) (drop (q + 1) states)) in
+    let many : q < length mapped = rw (length-map states (valued_state value)) low in
+    let step : other_lines kind options start q (map (valued_state value) (drop q states)) ≡ first ++ behind =
+    ap (other_lines kind options start q) (sym (drop-map (valued_state value) q states)) ∙ other-step kind options start q mapped q many ∙ ap (λ (ss : List (State Cost)). first ++ other_lines kind options start (q + 1) ss) (drop-map (valued_state value) (q + 1) states) in
+    texts-append out more (more ++ text_of_lines behind) first behind e refl ∙ ap (λ (ls : List (List (List ℕ))). out ++ text_of_lines ls) (sym step) ∙ h
+
+-- the first arc with two labels is in the next state or behind it
+split-step : {V : Type 0} (value : V → Cost) (states : List (State V)) (q : ℕ) (arcs : List (Arc V ℕ)) → option_map (λ s. s.arcs) (slice_get states q) ≡ Some arcs → split_state q (map (valued_state value) (drop q states)) ≡ elim (split_arc q 0 (map (valued_arc value) arcs)) [ None ↦ split_state (q + 1) (map (valued_state value) (drop (q + 1) states)) | Some fault ↦ Some fault ]
+split-step {V} value states q arcs h =
+    let there = state-there states q arcs h in
+    ap (λ (ss : List (State V)). split_state q (map (valued_state value) ss)) (drop-there states q there.0 there.1)
+    ∙ ap (λ (as_read : List (Arc V ℕ)). elim (split_arc q 0 (map (valued_arc value) as_read)) [ None ↦ split_state (q + 1) (map (valued_state value) (drop (q + 1) states)) | Some fault ↦ Some fault ]) there.2
+
+pub split-found : {V : Type 0} (value : V → Cost) (states : List (State V)) (q : ℕ) (arcs : List (Arc V ℕ)) (fault : PrintFault) → option_map (λ s. s.arcs) (slice_get states q) ≡ Some arcs → Some fault ≡ split_arc q 0 (map (valued_arc value) arcs) → split_state q (map (valued_state value) (drop q states)) ≡ Some fault
+split-found value states q arcs fault h found = split-step value states q arcs h ∙ ap (λ (o : Option PrintFault). elim o [ None ↦ split_state (q + 1) (map (valued_state value) (drop (q + 1) states)) | Some fault ↦ Some fault ]) (sym found)
+
+pub split-later : {V : Type 0} (value : V → Cost) (states : List (State V)) (q : ℕ) (arcs : List (Arc V ℕ)) → option_map (λ s. s.arcs) (slice_get states q) ≡ Some arcs → None ≡ split_arc q 0 (map (valued_arc value) arcs) → split_state q (map (valued_state value) (drop q states)) ≡ split_state (q + 1) (map (valued_state value) (drop (q + 1) states))
+split-later value states q arcs h none = split-step value states q arcs h ∙ ap (λ (o : Option PrintFault). elim o [ None ↦ split_state (q + 1) (map (valued_state value) (drop (q + 1) states)) | Some fault ↦ Some fault ]) (sym none)
+
+-- a state has no more arcs than a machine may have
+pub few-arcs : {V : Type 0} (states : List (State V)) (q : ℕ) (arcs : List (Arc V ℕ)) → option_map (λ s. s.arcs) (slice_get states q) ≡ Some arcs → arc_total states ≤ most_arcs → length arcs ≤ most_arcs
+few-arcs {V} states q arcs h few =
+    let there = state-there states q arcs h in
+    let s : State V = there.0 in
+    let within = slice_get_within states q s there.1 in
+    let at : get_or states q s ≡ s = get_or_from_slice_get states q s s there.1 in
+    let count : length (get_or states q s).arcs ≡ length arcs = ap (λ (t : State V). length t.arcs) at ∙ ap length there.2 in
+    let sum = get_or-le-sum_by (λ (t : State V). length t.arcs) states q s within in
+    omega arith
