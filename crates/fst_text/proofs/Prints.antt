@@ -11,7 +11,8 @@ use Rattle.fst_semiring.specs.Cost.{Cost}
 use Rattle.fst_machine.specs.Machine.{Arc, State, arc_total, most_arcs, valued_arc, valued_state}
 use Rattle.fst_text.specs.declared.fault.PrintFault.{PrintFault}
 use Rattle.fst_text.specs.declared.options.TextOptions.{TextOptions}
-use Rattle.fst_text.specs.Printed.{arc_fields, final_lines, lines_at, other_lines, split_arc, split_state, state_lines, text_of_line, text_of_lines}
+use Rattle.fst_text.specs.Entries.{Entry, arc_entry}
+use Rattle.fst_text.specs.Printed.{entries_at, fields_of_entry, final_entries, other_entries, split_arc, split_state, state_entries, text_of_entries, text_of_line}
 
 -- what is read of a state is of the one that stands there
 state-there : {V : Type 0} (states : List (State V)) (q : ℕ) (arcs : List (Arc V ℕ)) → option_map (λ s. s.arcs) (slice_get states q) ≡ Some arcs → (s : State V) × (slice_get states q ≡ Some s) × (s.arcs ≡ arcs)
@@ -32,38 +33,40 @@ drop-there (y ∷ xs) (suc i) x h =
     let next : suc (i + 1) ≡ suc i + 1 = omega arith in
     drop-there xs i x h ∙ ap (λ (k : ℕ). x ∷ drop k (y ∷ xs)) next
 
--- the lines of a state are those of what is read of it
-pub lines-read : {V : Type 0} (value : V → Cost) (kind : ArcType) (options : TextOptions) (states : List (State V)) (q : ℕ) (arcs : List (Arc V ℕ)) (w : V) → option_map (λ s. s.arcs) (slice_get states q) ≡ Some arcs → option_map (λ s. s.final) (slice_get states q) ≡ Some w → lines_at kind options q (map (valued_state value) states) ≡ map (arc_fields kind options q) (map (valued_arc value) arcs) ++ final_lines kind options q (record { final = value w; arcs = map (valued_arc value) arcs })
-lines-read {V} value kind options states q arcs w ha hw =
+-- the entries of a state are those of what is read of it
+pub entries-read : {V : Type 0} (value : V → Cost) (states : List (State V)) (q : ℕ) (arcs : List (Arc V ℕ)) (w : V) → option_map (λ s. s.arcs) (slice_get states q) ≡ Some arcs → option_map (λ s. s.final) (slice_get states q) ≡ Some w → entries_at q (map (valued_state value) states) ≡ map (arc_entry q) (map (valued_arc value) arcs) ++ final_entries q (value w) (map (valued_arc value) arcs)
+entries-read {V} value states q arcs w ha hw =
     let there = state-there states q arcs ha in
     let s : State V = there.0 in
-    ap (λ (o : Option (State Cost)). elim o [ None ↦ [] | Some s ↦ state_lines kind options q s ]) (slice_get-map (valued_state value) states q ∙ ap (option_map (valued_state value)) there.1)
-    ∙ ap (λ (as_read : List (Arc V ℕ)). state_lines kind options q (record { final = value s.final; arcs = map (valued_arc value) as_read })) there.2
-    ∙ ap (λ (u : V). state_lines kind options q (record { final = value u; arcs = map (valued_arc value) arcs })) (final-there states q s w there.1 hw)
+    ap (λ (o : Option (State Cost)). elim o [ None ↦ [] | Some s ↦ state_entries q s ]) (slice_get-map (valued_state value) states q ∙ ap (option_map (valued_state value)) there.1)
+    ∙ ap (λ (as_read : List (Arc V ℕ)). state_entries q (record { final = value s.final; arcs = map (valued_arc value) as_read })) there.2
+    ∙ ap (λ (u : V). state_entries q (record { final = value u; arcs = map (valued_arc value) arcs })) (final-there states q s w there.1 hw)
 
 -- texts one behind the other
-pub texts-append : (old a b : List ℕ) (first second : List (List (List ℕ))) → a ≡ old ++ text_of_lines first → b ≡ a ++ text_of_lines second → b ≡ old ++ text_of_lines (first ++ second)
-texts-append old a b first second ea eb =
-    eb ∙ ap (λ (x : List ℕ). x ++ text_of_lines second) ea ∙ append_assoc old (text_of_lines first) (text_of_lines second) ∙ ap (λ (x : List ℕ). old ++ x) (sym (flat_map-append text_of_line first second))
+pub texts-append : (kind : ArcType) (options : TextOptions) (old a b : List ℕ) (first second : List Entry) → a ≡ old ++ text_of_entries kind options first → b ≡ a ++ text_of_entries kind options second → b ≡ old ++ text_of_entries kind options (first ++ second)
+texts-append kind options old a b first second ea eb =
+    let text = text_of_entries kind options in
+    eb ∙ ap (λ (x : List ℕ). x ++ text second) ea ∙ append_assoc old (text first) (text second) ∙ ap (λ (x : List ℕ). old ++ x) (sym (flat_map-append (λ e. text_of_line (fields_of_entry kind options e)) first second))
 
--- the lines of the next state, and those of the states behind it
-other-step : (kind : ArcType) (options : TextOptions) (start n : ℕ) (states : List (State Cost)) (q : ℕ) → q < length states → other_lines kind options start n (drop q states) ≡ cond (n == start) [] (elim (slice_get states q) [ None ↦ [] | Some s ↦ state_lines kind options n s ]) ++ other_lines kind options start (n + 1) (drop (q + 1) states)
-other-step kind options start n [] q h = absurd (omega arith)
-other-step kind options start n (s ∷ states) zero h = refl
-other-step kind options start n (s ∷ states) (suc q) h =
+-- the entries of the next state, and those of the states behind it
+other-step : (start n : ℕ) (states : List (State Cost)) (q : ℕ) → q < length states → other_entries start n (drop q states) ≡ cond (n == start) [] (elim (slice_get states q) [ None ↦ [] | Some s ↦ state_entries n s ]) ++ other_entries start (n + 1) (drop (q + 1) states)
+other-step start n [] q h = absurd (omega arith)
+other-step start n (s ∷ states) zero h = refl
+other-step start n (s ∷ states) (suc q) h =
     let next : suc (q + 1) ≡ suc q + 1 = omega arith in
-    other-step kind options start n states q (omega arith) ∙ ap (λ (k : ℕ). cond (n == start) [] (elim (slice_get states q) [ None ↦ [] | Some s ↦ state_lines kind options n s ]) ++ other_lines kind options start (n + 1) (drop k (s ∷ states))) next
+    other-step start n states q (omega arith) ∙ ap (λ (k : ℕ). cond (n == start) [] (elim (slice_get states q) [ None ↦ [] | Some s ↦ state_entries n s ]) ++ other_entries start (n + 1) (drop k (s ∷ states))) next
 
 -- the text of the states that are left, after that of the next one
-pub others-pushed : {V : Type 0} (value : V → Cost) (kind : ArcType) (options : TextOptions) (start q : ℕ) (states : List (State V)) (old out more : List ℕ) → q < length states → more ≡ out ++ text_of_lines (cond (q == start) [] (lines_at kind options q (map (valued_state value) states))) → out ++ text_of_lines (other_lines kind options start q (map (valued_state value) (drop q states))) ≡ old → more ++ text_of_lines (other_lines kind options start (q + 1) (map (valued_state value) (drop (q + 1) states))) ≡ old
+pub others-pushed : {V : Type 0} (value : V → Cost) (kind : ArcType) (options : TextOptions) (start q : ℕ) (states : List (State V)) (old out more : List ℕ) → q < length states → more ≡ out ++ text_of_entries kind options (cond (q == start) [] (entries_at q (map (valued_state value) states))) → out ++ text_of_entries kind options (other_entries start q (map (valued_state value) (drop q states))) ≡ old → more ++ text_of_entries kind options (other_entries start (q + 1) (map (valued_state value) (drop (q + 1) states))) ≡ old
 others-pushed value kind options start q states old out more low e h =
+    let text = text_of_entries kind options in
     let mapped = map (valued_state value) states in
-    let first = cond (q == start) [] (lines_at kind options q mapped) in
-    let behind = other_lines kind options start (q + 1) (map (valued_state value) (drop (q + 1) states)) in
+    let first = cond (q == start) [] (entries_at q mapped) in
+    let behind = other_entries start (q + 1) (map (valued_state value) (drop (q + 1) states)) in
     let many : q < length mapped = rw (length-map states (valued_state value)) low in
-    let step : other_lines kind options start q (map (valued_state value) (drop q states)) ≡ first ++ behind =
-    ap (other_lines kind options start q) (sym (drop-map (valued_state value) q states)) ∙ other-step kind options start q mapped q many ∙ ap (λ (ss : List (State Cost)). first ++ other_lines kind options start (q + 1) ss) (drop-map (valued_state value) (q + 1) states) in
-    texts-append out more (more ++ text_of_lines behind) first behind e refl ∙ ap (λ (ls : List (List (List ℕ))). out ++ text_of_lines ls) (sym step) ∙ h
+    let step : other_entries start q (map (valued_state value) (drop q states)) ≡ first ++ behind =
+        ap (other_entries start q) (sym (drop-map (valued_state value) q states)) ∙ other-step start q mapped q many ∙ ap (λ (ss : List (State Cost)). first ++ other_entries start (q + 1) ss) (drop-map (valued_state value) (q + 1) states) in
+    texts-append kind options out more (more ++ text behind) first behind e refl ∙ ap (λ (es : List Entry). out ++ text es) (sym step) ∙ h
 
 -- the first arc with two labels is in the next state or behind it
 split-step : {V : Type 0} (value : V → Cost) (states : List (State V)) (q : ℕ) (arcs : List (Arc V ℕ)) → option_map (λ s. s.arcs) (slice_get states q) ≡ Some arcs → split_state q (map (valued_state value) (drop q states)) ≡ elim (split_arc q 0 (map (valued_arc value) arcs)) [ None ↦ split_state (q + 1) (map (valued_state value) (drop (q + 1) states)) | Some fault ↦ Some fault ]

@@ -8,6 +8,7 @@ use Rattle.fst_semiring.specs.Cost.{Cost, class_of, cost_cmp}
 use Rattle.fst_semiring.specs.Semiring.{one_of}
 use Rattle.fst_semiring.specs.WeightText.{text_of_cost}
 use Rattle.fst_machine.specs.Machine.{Arc, State, Machine}
+use Rattle.fst_text.specs.Entries.{Entry, arc_entry, final_entry}
 use Rattle.fst_text.specs.declared.fault.PrintFault.{PrintFault}
 use Rattle.fst_text.specs.declared.fault.PrintFault.TheVariants.{NotAcceptor, Memory}
 use Rattle.fst_text.specs.declared.options.TextOptions.{TextOptions}
@@ -20,10 +21,6 @@ behind_tabs fields = flat_map (λ field. 9 ∷ field) fields
 abbrev pub text_of_line : List (List ℕ) → List ℕ
 text_of_line [] = 10 ∷ []
 text_of_line (field ∷ fields) = field ++ behind_tabs fields ++ 10 ∷ []
-
--- the text of lines
-abbrev pub text_of_lines : List (List (List ℕ)) → List ℕ
-text_of_lines lines = flat_map text_of_line lines
 
 -- the value is Zero
 abbrev pub is_zero : Cost → Bool
@@ -41,35 +38,36 @@ weight_fields kind options w = if options.show_weight_one then text_of_cost kind
 abbrev pub label_fields : TextOptions → Arc Cost ℕ → List (List ℕ)
 label_fields options a = if options.acceptor then decimal a.ilabel ∷ [] else decimal a.ilabel ∷ decimal a.olabel ∷ []
 
--- the line of an arc from a state
-abbrev pub arc_fields : ArcType → TextOptions → ℕ → Arc Cost ℕ → List (List ℕ)
-arc_fields kind options state a = decimal state ∷ decimal a.next ∷ label_fields options a ++ weight_fields kind options a.weight
+-- the fields of an entry, states by their numbers
+abbrev pub fields_of_entry : ArcType → TextOptions → Entry → List (List ℕ)
+fields_of_entry kind options (arc_entry source a) = decimal source ∷ decimal a.next ∷ label_fields options a ++ weight_fields kind options a.weight
+fields_of_entry kind options (final_entry state w) = decimal state ∷ weight_fields kind options w
 
--- the line of a state that is not final: one with this weight, Zero, where it has no arcs
-abbrev pub bare_lines : ArcType → ℕ → Cost → List (Arc Cost ℕ) → List (List (List ℕ))
-bare_lines kind state w [] = (decimal state ∷ text_of_cost kind w ∷ []) ∷ []
-bare_lines kind state w (a ∷ arcs) = []
+-- the text of entries, a line each
+abbrev pub text_of_entries : ArcType → TextOptions → List Entry → List ℕ
+text_of_entries kind options es = flat_map (λ e. text_of_line (fields_of_entry kind options e)) es
 
--- the final line of a state
-abbrev pub final_lines : ArcType → TextOptions → ℕ → State Cost → List (List (List ℕ))
-final_lines kind options state s = if is_zero s.final then bare_lines kind state s.final s.arcs else (decimal state ∷ weight_fields kind options s.final) ∷ []
+-- a state has a final entry where it is final, and where it has no arcs
+abbrev pub final_entries : ℕ → Cost → List (Arc Cost ℕ) → List Entry
+final_entries state w [] = final_entry state w ∷ []
+final_entries state w (a ∷ arcs) = if is_zero w then [] else final_entry state w ∷ []
 
--- the lines of a state: its arcs in order, then its final line
-abbrev pub state_lines : ArcType → TextOptions → ℕ → State Cost → List (List (List ℕ))
-state_lines kind options state s = map (arc_fields kind options state) s.arcs ++ final_lines kind options state s
+-- the entries of a state: its arcs in order, then its final entry
+abbrev pub state_entries : ℕ → State Cost → List Entry
+state_entries state s = map (arc_entry state) s.arcs ++ final_entries state s.final s.arcs
 
--- the lines of the states but the start, where the first of them has this number
-abbrev pub other_lines : ArcType → TextOptions → ℕ → ℕ → List (State Cost) → List (List (List ℕ))
-other_lines kind options start state [] = []
-other_lines kind options start state (s ∷ states) = (if state == start then [] else state_lines kind options state s) ++ other_lines kind options start (state + 1) states
+-- the entries of the states but the start, where the first of them has this number
+abbrev pub other_entries : ℕ → ℕ → List (State Cost) → List Entry
+other_entries start state [] = []
+other_entries start state (s ∷ states) = (if state == start then [] else state_entries state s) ++ other_entries start (state + 1) states
 
--- the lines of the state with this number
-abbrev pub lines_at : ArcType → TextOptions → ℕ → List (State Cost) → List (List (List ℕ))
-lines_at kind options state states = elim (slice_get states state) [ None ↦ [] | Some s ↦ state_lines kind options state s ]
+-- the entries of the state with this number
+abbrev pub entries_at : ℕ → List (State Cost) → List Entry
+entries_at state states = elim (slice_get states state) [ None ↦ [] | Some s ↦ state_entries state s ]
 
--- the lines of a machine: those of the start, then those of the other states by number
-abbrev pub machine_lines : ArcType → TextOptions → Machine Cost → List (List (List ℕ))
-machine_lines kind options m = elim m.start [ None ↦ [] | Some start ↦ lines_at kind options start m.states ++ other_lines kind options start 0 m.states ]
+-- the entries of a machine: those of the start, then those of the other states by number
+abbrev pub entries_of_machine : Machine Cost → List Entry
+entries_of_machine m = elim m.start [ None ↦ [] | Some start ↦ entries_at start m.states ++ other_entries start 0 m.states ]
 
 -- the first arc of these with two different labels, where the first of them has this place
 abbrev pub split_arc : ℕ → ℕ → List (Arc Cost ℕ) → Option PrintFault
@@ -87,7 +85,7 @@ refusal options m = if options.acceptor then split_state 0 m.states else None
 
 -- the printed text of a machine, or why there is none
 abbrev pub text_of_machine : ArcType → TextOptions → Machine Cost → Result (List ℕ) PrintFault
-text_of_machine kind options m = elim (refusal options m) [ None ↦ Ok (text_of_lines (machine_lines kind options m)) | Some fault ↦ Err fault ]
+text_of_machine kind options m = elim (refusal options m) [ None ↦ Ok (text_of_entries kind options (entries_of_machine m)) | Some fault ↦ Err fault ]
 
 -- what was returned, seen by view, is this text or this refusal, unless memory ran out
 abbrev pub Prints : {X : Type 0} → (X → List ℕ) → Result X PrintFault → Result (List ℕ) PrintFault → Type 0

@@ -15,3 +15,6 @@ pub use compiling::compile;
 pub use fault::{PrintFault, TextFault};
 pub use options::TextOptions;
 pub use printing::print;
+
+#[cfg(test)]
+mod tests;

@@ -2,9 +2,9 @@
 
 ghost use Rattle.std.specs.Prelude.{◌≡◌, ◌<◌, ◌≤◌, ◌==◌, ◌∷◌, ◌++◌, if◌then◌else◌, [], length, map, None, Some, IfOk, OnOk, OnErr, MatchOption};
 ghost use Rattle.std.specs.Fmt.{decimal};
-ghost use Rattle.fst_semiring.specs.WeightText.{text_of_cost};
 ghost use Rattle.fst_machine.specs.Machine.{most_arcs, valued, valued_arc, valued_state};
-ghost use Rattle.fst_text.specs.Printed.{Prints, arc_fields, behind_tabs, final_lines, is_one, is_zero, label_fields, lines_at, other_lines, refusal, split_arc, split_state, text_of_line, text_of_lines, text_of_machine, weight_fields};
+ghost use Rattle.fst_text.specs.Entries.{arc_entry};
+ghost use Rattle.fst_text.specs.Printed.{Prints, behind_tabs, entries_at, final_entries, is_one, label_fields, other_entries, split_arc, split_state, text_of_entries, text_of_machine, weight_fields};
 
 use crate::fault::PrintFault;
 use crate::options::TextOptions;
@@ -38,14 +38,6 @@ fn push_number_field(out: &mut Vec<u8>, number: u32) -> Result<(), AllocError>
     push_number(out, number)
 }
 
-/// Appends a field that is a weight.
-fn push_weight_field<W: Weight>(out: &mut Vec<u8>, weight: W) -> Result<(), AllocError>
-    ensures { OnOk result (out.new.items ≡ out.old.items ++ behind_tabs (text_of_cost W.KIND (W.value weight) ∷ [])) }
-{
-    out.push(b'\t')?;
-    weight.push_text(out)
-}
-
 /// Appends the field of a weight, where it is not left out.
 fn push_weight<W: Weight>(
     out: &mut Vec<u8>,
@@ -55,7 +47,8 @@ fn push_weight<W: Weight>(
     ensures { OnOk result (out.new.items ≡ out.old.items ++ behind_tabs (weight_fields W.KIND options.now (W.value weight))) }
 {
     if options.show_weight_one || !is_one::<W>(weight) {
-        return push_weight_field::<W>(out, weight);
+        out.push(b'\t')?;
+        return weight.push_text(out);
     }
     Ok(())
 }
@@ -82,7 +75,7 @@ fn push_arc<W: Weight>(
     state: u32,
     arc: &FstArc<W>,
 ) -> Result<(), AllocError>
-    ensures { OnOk result (out.new.items ≡ out.old.items ++ text_of_line (arc_fields W.KIND options.now state (valued_arc W.value arc.now))) }
+    ensures { OnOk result (out.new.items ≡ out.old.items ++ text_of_entries W.KIND options.now (arc_entry state (valued_arc W.value arc.now) ∷ [])) }
 {
     push_number(out, state)?;
     push_number_field(out, arc.next)?;
@@ -99,7 +92,7 @@ fn push_arcs<W: Weight>(
     state: u32,
     arcs: &[FstArc<W>],
 ) -> Result<(), AllocError>
-    ensures { OnOk result (out.new.items ≡ out.old.items ++ text_of_lines (map (arc_fields W.KIND options.now state) (map (valued_arc W.value) arcs.now))) }
+    ensures { OnOk result (out.new.items ≡ out.old.items ++ text_of_entries W.KIND options.now (map (arc_entry state) (map (valued_arc W.value) arcs.now))) }
 {
     for arc in arcs {
         push_arc::<W>(out, options, state, arc)?;
@@ -115,18 +108,13 @@ fn push_final<W: Weight>(
     weight: W,
     arcs: &[FstArc<W>],
 ) -> Result<(), AllocError>
-    ensures { OnOk result (out.new.items ≡ out.old.items ++ text_of_lines (final_lines W.KIND options.now state (record { final = W.value weight; arcs = map (valued_arc W.value) arcs.now }))) }
+    ensures { OnOk result (out.new.items ≡ out.old.items ++ text_of_entries W.KIND options.now (final_entries state (W.value weight) (map (valued_arc W.value) arcs.now))) }
 {
-    if W::key(weight.widen()).class == 2 {
-        if !arcs.is_empty() {
-            return Ok(());
-        }
-        push_number(out, state)?;
-        push_weight_field::<W>(out, weight)?;
-    } else {
-        push_number(out, state)?;
-        push_weight::<W>(out, options, weight)?;
+    if !arcs.is_empty() && W::key(weight.widen()).class == 2 {
+        return Ok(());
     }
+    push_number(out, state)?;
+    push_weight::<W>(out, options, weight)?;
     out.push(b'\n')?;
     Ok(())
 }
@@ -139,7 +127,7 @@ fn push_state<W: Weight>(
     state: u32,
 ) -> Result<(), AllocError>
     requires { state < length fst.now.states }
-    ensures { OnOk result (out.new.items ≡ out.old.items ++ text_of_lines (lines_at W.KIND options.now state (map (valued_state W.value) fst.now.states))) }
+    ensures { OnOk result (out.new.items ≡ out.old.items ++ text_of_entries W.KIND options.now (entries_at state (map (valued_state W.value) fst.now.states))) }
 {
     let arcs = fst.arcs(state);
     push_arcs::<W>(out, options, state, arcs)?;
@@ -156,7 +144,7 @@ fn push_other<W: Weight>(
     state: u32,
 ) -> Result<(), AllocError>
     requires { state < length fst.now.states }
-    ensures { OnOk result (out.new.items ≡ out.old.items ++ text_of_lines (if state == start then [] else lines_at W.KIND options.now state (map (valued_state W.value) fst.now.states))) }
+    ensures { OnOk result (out.new.items ≡ out.old.items ++ text_of_entries W.KIND options.now (if state == start then [] else entries_at state (map (valued_state W.value) fst.now.states))) }
 {
     if state == start {
         return Ok(());
@@ -171,7 +159,7 @@ fn push_others<W: Weight>(
     fst: &Fst<W>,
     start: u32,
 ) -> Result<(), AllocError>
-    ensures { OnOk result (out.new.items ≡ out.old.items ++ text_of_lines (other_lines W.KIND options.now start 0 (map (valued_state W.value) fst.now.states))) }
+    ensures { OnOk result (out.new.items ≡ out.old.items ++ text_of_entries W.KIND options.now (other_entries start 0 (map (valued_state W.value) fst.now.states))) }
 {
     for state in 0..fst.states() {
         push_other::<W>(out, options, fst, start, state)?;
@@ -216,7 +204,7 @@ fn print_from<W: Weight>(
     start: u32,
 ) -> Result<Vec<u8>, AllocError>
     requires { start < length fst.now.states }
-    ensures { IfOk result (λ text. text.items ≡ text_of_lines (lines_at W.KIND options.now start (map (valued_state W.value) fst.now.states) ++ other_lines W.KIND options.now start 0 (map (valued_state W.value) fst.now.states))) }
+    ensures { IfOk result (λ text. text.items ≡ text_of_entries W.KIND options.now (entries_at start (map (valued_state W.value) fst.now.states) ++ other_entries start 0 (map (valued_state W.value) fst.now.states))) }
 {
     let mut out = Vec::new(alloc);
     push_state::<W>(&mut out, options, fst, start)?;
