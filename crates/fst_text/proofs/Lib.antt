@@ -1,10 +1,14 @@
 pub mod Added
+pub mod Counted
 pub mod Growth
 pub mod Held
 pub mod Holding
 pub mod Lines
 pub mod Numbers
+pub mod Numerals
 pub mod Prints
 pub mod Reading
 pub mod Rooms
 pub mod Slots
+pub mod TextLines
+pub mod WeightTexts

@@ -16,6 +16,12 @@ abbrev pub states_named : Entry → List ℕ
 states_named (arc_entry source a) = source ∷ a.next ∷ []
 states_named (final_entry state w) = state ∷ []
 
+-- how many of them are arcs
+abbrev pub arc_count : List Entry → ℕ
+arc_count [] = 0
+arc_count (arc_entry source a ∷ es) = suc (arc_count es)
+arc_count (final_entry state w ∷ es) = arc_count es
+
 -- the different numbers of a list in the order of first appearance
 abbrev pub different : List ℕ → List ℕ
 different [] = []

@@ -8,11 +8,11 @@ use Rattle.fst_semiring.specs.declared.arc_type.ArcType.{ArcType}
 use Rattle.fst_semiring.specs.Cost.{Cost, best, finite, infinite}
 use Rattle.fst_semiring.specs.Semiring.{one_of}
 use Rattle.fst_semiring.specs.WeightText.{cost_of_text}
-use Rattle.fst_machine.specs.Machine.{Machine, arc_total, greatest_label, most_arcs, most_states}
+use Rattle.fst_machine.specs.Machine.{Machine, greatest_label, most_arcs, most_states}
 use Rattle.fst_text.specs.declared.fault.TextFault.{TextFault}
 use Rattle.fst_text.specs.declared.fault.TextFault.TheVariants.{BadColumns, BadState, BadLabel, BadWeight, TooManyStates, TooManyArcs, Memory}
 use Rattle.fst_text.specs.declared.options.TextOptions.{TextOptions}
-use Rattle.fst_text.specs.Entries.{Entry, arc_entry, final_entry, states_named, state_numbers, machine_of_entries}
+use Rattle.fst_text.specs.Entries.{Entry, arc_count, arc_entry, final_entry, states_named, state_numbers, machine_of_entries}
 
 infixl 10 ◌>>=◌
 -- reading goes on with what was read, or ends with the first fault
@@ -94,7 +94,7 @@ abbrev pub room_behind : Bool → List Entry → Room
 room_behind kept before = record {
   state = λ s. fits kept before (s ∷ []);
   states = λ s d. fits kept before (s ∷ d ∷ []);
-  arc = nat_lt (arc_total (machine_of_entries kept before).states) most_arcs;
+  arc = nat_lt (arc_count before) most_arcs;
 }
 
 -- the entries before, and behind them those of lines of which the first has this number; blank lines say nothing
