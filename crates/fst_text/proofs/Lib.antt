@@ -1,13 +1,17 @@
 pub mod Added
 pub mod Counted
+pub mod Describing
+pub mod EntryTexts
 pub mod Growth
 pub mod Held
 pub mod Holding
 pub mod Lines
+pub mod MachineEntries
 pub mod Numbers
 pub mod Numerals
 pub mod Prints
 pub mod Reading
+pub mod Rereading
 pub mod Rooms
 pub mod Slots
 pub mod TextLines

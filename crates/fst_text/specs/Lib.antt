@@ -1,4 +1,5 @@
 pub mod Building
 pub mod Entries
 pub mod Grammar
+pub mod Laws
 pub mod Printed

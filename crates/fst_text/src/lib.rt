@@ -7,12 +7,14 @@
 mod builder;
 mod compiling;
 mod fault;
+mod laws;
 mod options;
 mod places;
 mod printing;
 
 pub use compiling::compile;
 pub use fault::{PrintFault, TextFault};
+pub use laws::printed_machine_compiles_back;
 pub use options::TextOptions;
 pub use printing::print;
 
