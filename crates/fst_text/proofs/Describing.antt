@@ -34,22 +34,24 @@ arcs-good : (kind : ArcType) (options : TextOptions) (states q place : ℕ) (arc
 arcs-good kind options states q place [] h w one = tt
 arcs-good kind options states q place (a ∷ arcs) h w one =
     let labels : (acceptor : options.acceptor ≡ true) → (a.ilabel ≡ a.olabel) × (split_arc q (place + 1) arcs ≡ None) = λ acceptor. go (a.ilabel == a.olabel) refl (one acceptor) in
-    let good = h.0 in
-    (record { ilabel = good.ilabel; olabel = good.olabel; weight = good.weight; next = good.next; value = w.0; same = λ acceptor. (labels acceptor).0 },
-      arcs-good kind options states q (place + 1) arcs h.1 w.1 (λ acceptor. (labels acceptor).1)) where
-  go : (same : Bool) → (a.ilabel == a.olabel) ≡ same → cond same (split_arc q (place + 1) arcs) (Some (NotAcceptor q place)) ≡ None → (a.ilabel ≡ a.olabel) × (split_arc q (place + 1) arcs ≡ None)
-  go true e none = (equal_is a.ilabel a.olabel e, none)
-  go false e none = absurd (cc)
+    let good = h.0 in (
+      record { ilabel = good.ilabel; olabel = good.olabel; weight = good.weight; next = good.next; value = w.0; same = λ acceptor. (labels acceptor).0 },
+      arcs-good kind options states q (place + 1) arcs h.1 w.1 (λ acceptor. (labels acceptor).1),
+    ) where
+      go : (same : Bool) → (a.ilabel == a.olabel) ≡ same → cond same (split_arc q (place + 1) arcs) (Some (NotAcceptor q place)) ≡ None → (a.ilabel ≡ a.olabel) × (split_arc q (place + 1) arcs ≡ None)
+      go true e none = (equal_is a.ilabel a.olabel e, none)
+      go false e none = absurd (cc)
 
 states-good : (kind : ArcType) (options : TextOptions) (count q : ℕ) (states : List (State Cost)) → AllByRecursion (λ s. All (IsArc (λ v. v) count) s.arcs) states → AllByRecursion (λ s. All (λ a. IsWeight kind a.weight) s.arcs) states → AllByRecursion (λ s. IsWeight kind s.final) states → (options.acceptor ≡ true → split_state q states ≡ None) → AllByRecursion (GoodState kind options count) states
 states-good kind options count q [] h w f one = tt
 states-good kind options count q (s ∷ states) h w f one =
-    let split : (acceptor : options.acceptor ≡ true) → (split_arc q 0 s.arcs ≡ None) × (split_state (q + 1) states ≡ None) = λ acceptor. go (split_arc q 0 s.arcs) (one acceptor) in
-    ((arcs-good kind options count q 0 s.arcs (recursion_from_All (IsArc (λ v. v) count) s.arcs h.0) (recursion_from_All (λ a. IsWeight kind a.weight) s.arcs w.0) (λ acceptor. (split acceptor).0), f.0),
-      states-good kind options count (q + 1) states h.1 w.1 f.1 (λ acceptor. (split acceptor).1)) where
-  go : (o : Option PrintFault) → ◌≡◌ {A = Option PrintFault} (elim o [ None ↦ split_state (q + 1) states | Some fault ↦ Some fault ]) None → (o ≡ None) × (split_state (q + 1) states ≡ None)
-  go None none = (refl, none)
-  go (Some fault) none = absurd (cc)
+    let split : (acceptor : options.acceptor ≡ true) → (split_arc q 0 s.arcs ≡ None) × (split_state (q + 1) states ≡ None) = λ acceptor. go (split_arc q 0 s.arcs) (one acceptor) in (
+      (arcs-good kind options count q 0 s.arcs (recursion_from_All (IsArc (λ v. v) count) s.arcs h.0) (recursion_from_All (λ a. IsWeight kind a.weight) s.arcs w.0) (λ acceptor. (split acceptor).0), f.0),
+      states-good kind options count (q + 1) states h.1 w.1 f.1 (λ acceptor. (split acceptor).1),
+    ) where
+      go : (o : Option PrintFault) → ◌≡◌ {A = Option PrintFault} (elim o [ None ↦ split_state (q + 1) states | Some fault ↦ Some fault ]) None → (o ≡ None) × (split_state (q + 1) states ≡ None)
+      go None none = (refl, none)
+      go (Some fault) none = absurd (cc)
 
 all-append : {X : Type 0} (P : X → Type 0) (xs ys : List X) → AllByRecursion P xs → AllByRecursion P ys → AllByRecursion P (xs ++ ys)
 all-append P [] ys h g = g
@@ -111,9 +113,9 @@ count-others start k (s ∷ states) =
     let both = arc_count-append (cond (k == start) [] (state_entries k s)) (other_entries start (k + 1) states) in
     let first : arc_count (cond (k == start) [] (state_entries k s)) ≤ length s.arcs = go (k == start) in
     omega arith where
-  go : (skip : Bool) → arc_count (cond skip [] (state_entries k s)) ≤ length s.arcs
-  go true = omega arith
-  go false = let e = count-state k s in omega arith
+      go : (skip : Bool) → arc_count (cond skip [] (state_entries k s)) ≤ length s.arcs
+      go true = omega arith
+      go false = let e = count-state k s in omega arith
 
 count-with : (start k i : ℕ) (states : List (State Cost)) (s : State Cost) → slice_get states i ≡ Some s → k + i ≡ start → arc_count (other_entries start k states) + length s.arcs ≤ arc_total states
 count-with start k i [] s h at = absurd (cc)
@@ -130,9 +132,9 @@ count-with start k (suc i) (t ∷ states) s h at =
     let both = arc_count-append (cond (k == start) [] (state_entries k t)) (other_entries start (k + 1) states) in
     let first : arc_count (cond (k == start) [] (state_entries k t)) ≤ length t.arcs = go (k == start) in
     omega arith where
-  go : (skip : Bool) → arc_count (cond skip [] (state_entries k t)) ≤ length t.arcs
-  go true = omega arith
-  go false = let e = count-state k t in omega arith
+      go : (skip : Bool) → arc_count (cond skip [] (state_entries k t)) ≤ length t.arcs
+      go true = omega arith
+      go false = let e = count-state k t in omega arith
 
 -- which states are named
 named-below : (kind : ArcType) (options : TextOptions) (count : ℕ) (es : List Entry) → AllByRecursion (GoodEntry kind options count) es → above (flat_map states_named es) ≤ count
@@ -152,9 +154,9 @@ named-others start k zero (t ∷ states) s h apart =
     let both = ap above (named-append first behind) ∙ above-append (flat_map states_named first) (flat_map states_named behind) in
     let named : k + 1 ≤ above (flat_map states_named first) = go (k == start) refl in
     omega arith where
-  go : (skip : Bool) → (k == start) ≡ skip → k + 1 ≤ above (flat_map states_named (cond skip [] (state_entries k t)))
-  go true e = absurd (apart (let same = equal_is k start e in omega arith))
-  go false e = named-state k t.final t.arcs
+      go : (skip : Bool) → (k == start) ≡ skip → k + 1 ≤ above (flat_map states_named (cond skip [] (state_entries k t)))
+      go true e = absurd (apart (let same = equal_is k start e in omega arith))
+      go false e = named-state k t.final t.arcs
 named-others start k (suc i) (t ∷ states) s h apart =
     let first = cond (k == start) [] (state_entries k t) in
     let behind = other_entries start (k + 1) states in
@@ -167,9 +169,9 @@ named-machine start i states first s h =
     let both = ap above (named-append (state_entries start first) (other_entries start 0 states)) ∙ above-append (flat_map states_named (state_entries start first)) (flat_map states_named (other_entries start 0 states)) in
     let own = named-state start first.final first.arcs in
     go (i == start) refl both own where
-  go : (here : Bool) → (i == start) ≡ here → above (flat_map states_named (state_entries start first ++ other_entries start 0 states)) ≡ max (above (flat_map states_named (state_entries start first))) (above (flat_map states_named (other_entries start 0 states))) → start + 1 ≤ above (flat_map states_named (state_entries start first)) → i + 1 ≤ above (flat_map states_named (state_entries start first ++ other_entries start 0 states))
-  go true e both own = let same = equal_is i start e in omega arith
-  go false e both own = let rest = named-others start 0 i states s h (λ same. absurd (let t = eq-eqb i start (omega arith) in cc)) in omega arith
+      go : (here : Bool) → (i == start) ≡ here → above (flat_map states_named (state_entries start first ++ other_entries start 0 states)) ≡ max (above (flat_map states_named (state_entries start first))) (above (flat_map states_named (other_entries start 0 states))) → start + 1 ≤ above (flat_map states_named (state_entries start first)) → i + 1 ≤ above (flat_map states_named (state_entries start first ++ other_entries start 0 states))
+      go true e both own = let same = equal_is i start e in omega arith
+      go false e both own = let rest = named-others start 0 i states s h (λ same. absurd (let t = eq-eqb i start (omega arith) in cc)) in omega arith
 
 -- the first state named
 first-state : (q : ℕ) (w : Cost) (arcs : List (Arc Cost ℕ)) (es : List Entry) → first_in (flat_map states_named ((map (arc_entry q) arcs ++ final_entries q w arcs) ++ es)) ≡ Some q
@@ -196,10 +198,10 @@ machine-back kind options start states first h good =
     let named : above (flat_map states_named es) ≡ count = omega arith in
     let ns = from_zero count in
     let each : (i : ℕ) (s : State Cost) → slice_get states i ≡ Some s → state_of ns es i ≡ s = λ i s e.
-        let says = machine-says start states first i s h e in
-        let goods = good-at (GoodState kind options count) states i s good e in
-        ap (λ (w : Cost). record { final = w; arcs = map (placed ns) (arcs_from i es) }) says.final
-        ∙ ap (λ (arcs : List (Arc Cost ℕ)). record { final = s.final; arcs = arcs }) (ap (map (placed ns)) says.arcs ∙ arcs-placed kind options count s.arcs goods.0) in
+    let says = machine-says start states first i s h e in
+    let goods = good-at (GoodState kind options count) states i s good e in
+    ap (λ (w : Cost). record { final = w; arcs = map (placed ns) (arcs_from i es) }) says.final
+    ∙ ap (λ (arcs : List (Arc Cost ℕ)). record { final = s.final; arcs = arcs }) (ap (map (placed ns)) says.arcs ∙ arcs-placed kind options count s.arcs goods.0) in
     let begins : option_map (place_in ns) (first_in (flat_map states_named es)) ≡ Some start = ap (option_map (place_in ns)) (first-state start first.final first.arcs (other_entries start 0 states)) ∙ ap (λ (p : ℕ). Some p) (place_in-from_zero count start low) in
     ap (λ (n : ℕ). machine_over (from_zero n) es) named
     ∙ ap (λ (o : Option ℕ). record { start = o; states = map (state_of ns es) ns }) begins
@@ -249,8 +251,8 @@ compiles-back kind options m text machine weights some kept h = go m.start refl 
       let first = get_or states start bare in
       let good = states-good kind options (length states) 0 states (recursion_from_All (λ s. All (IsArc (λ v. v) (length states)) s.arcs) states machine.arcs) (recursion_from_All (λ s. All (λ a. IsWeight kind a.weight) s.arcs) states weights.arcs) (recursion_from_All (λ s. IsWeight kind s.final) states weights.final) (accepts options states out.0) in
       let entries : entries_of_machine m ≡ state_entries start first ++ other_entries start 0 states =
-          ap (λ (o : Option ℕ). elim o [ None ↦ [] | Some start ↦ entries_at start states ++ other_entries start 0 states ]) e
-          ∙ ap (λ (o : Option (State Cost)). elim o [ None ↦ [] | Some s ↦ state_entries start s ] ++ other_entries start 0 states) there in
+      ap (λ (o : Option ℕ). elim o [ None ↦ [] | Some start ↦ entries_at start states ++ other_entries start 0 states ]) e
+      ∙ ap (λ (o : Option (State Cost)). elim o [ None ↦ [] | Some s ↦ state_entries start s ] ++ other_entries start 0 states) there in
       ap (machine_of_text kind options) (out.1 ∙ ap (text_of_entries kind options) entries)
       ∙ back-from kind options start states first there machine.few_states machine.few_arcs good kept
       ∙ ap (λ (o : Option ℕ). Ok (record { start = o; states = states })) (sym e)

@@ -63,9 +63,9 @@ pub fields-good : (kind : ArcType) (options : TextOptions) (states : ℕ) (e : E
 fields-good kind options states (arc_entry source a) few h =
     let good = h.1 in
     (decimal-field source (omega arith), (decimal-field a.next (omega (arith, good.next)), fields-append (cond options.acceptor (decimal a.ilabel ∷ []) (decimal a.ilabel ∷ decimal a.olabel ∷ [])) (weight_fields kind options a.weight) (go options.acceptor) (weight-fields-good kind options a.weight good.value))) where
-  go : (acceptor : Bool) → AllByRecursion IsField (cond acceptor (decimal a.ilabel ∷ []) (decimal a.ilabel ∷ decimal a.olabel ∷ []))
-  go true = (decimal-field a.ilabel (omega (arith, h.1.ilabel)), tt)
-  go false = (decimal-field a.ilabel (omega (arith, h.1.ilabel)), (decimal-field a.olabel (omega (arith, h.1.olabel)), tt))
+      go : (acceptor : Bool) → AllByRecursion IsField (cond acceptor (decimal a.ilabel ∷ []) (decimal a.ilabel ∷ decimal a.olabel ∷ []))
+      go true = (decimal-field a.ilabel (omega (arith, h.1.ilabel)), tt)
+      go false = (decimal-field a.ilabel (omega (arith, h.1.ilabel)), (decimal-field a.olabel (omega (arith, h.1.olabel)), tt))
 fields-good kind options states (final_entry state w) few h = (decimal-field state (omega arith), weight-fields-good kind options w h.1)
 
 state-reads : (line : ℕ) (room : ℕ → Bool) (n : ℕ) → n < most_states → room n ≡ true → state_of_field line room (decimal n) ≡ Ok n
@@ -118,8 +118,10 @@ pub arc-entry-reads : (kind : ArcType) (options : TextOptions) (states line : �
 arc-entry-reads kind options states line room s a few roomy arc low good = go options.acceptor options.show_weight_one (is_one kind a.weight) good.same refl where
   reads : (o : ℕ) (field : Option (List ℕ)) → o ≤ greatest_label → weight_of_field kind line field ≡ Ok a.weight → arc_line kind line room (decimal s) (decimal a.next) (decimal a.ilabel) (decimal o) field ≡ Ok (arc_entry s (record { ilabel = a.ilabel; olabel = o; weight = a.weight; next = a.next }))
   reads o field lo weight = arc-reads kind line room s a.next a.ilabel o a.weight field (omega arith) (omega (arith, good.next)) (roomy.one s low) (roomy.two s a.next low good.next) arc good.ilabel lo good.weight weight
+
   one_label : a.ilabel ≡ a.olabel → (r : Result Entry TextFault) → r ≡ Ok (arc_entry s (record { ilabel = a.ilabel; olabel = a.ilabel; weight = a.weight; next = a.next })) → r ≡ Ok (arc_entry s a)
   one_label same r h = h ∙ ap (λ (o : ℕ). Ok (arc_entry s (record { ilabel = a.ilabel; olabel = o; weight = a.weight; next = a.next }))) same
+
   go : (acceptor show one : Bool) → (acceptor ≡ true → a.ilabel ≡ a.olabel) → is_one kind a.weight ≡ one → entry_of_fields kind acceptor line room ((decimal s ∷ decimal a.next ∷ cond acceptor (decimal a.ilabel ∷ []) (decimal a.ilabel ∷ decimal a.olabel ∷ [])) ++ cond show (text_of_cost kind a.weight ∷ []) (cond one [] (text_of_cost kind a.weight ∷ []))) ≡ Ok (arc_entry s a)
   go true true one same e = one_label (same refl) _ (reads a.ilabel (Some (text_of_cost kind a.weight)) good.ilabel (weight-shown kind line a.weight good.value))
   go true false true same e = one_label (same refl) _ (reads a.ilabel None good.ilabel (weight-left_out kind line a.weight e))
@@ -132,6 +134,7 @@ pub final-entry-reads : (kind : ArcType) (options : TextOptions) (states line : 
 final-entry-reads kind options states line room s w few roomy low good = go options.acceptor options.show_weight_one (is_one kind w) refl where
   reads : (field : Option (List ℕ)) → weight_of_field kind line field ≡ Ok w → final_line kind line room (decimal s) field ≡ Ok (final_entry s w)
   reads field weight = final-reads kind line room s w field (omega arith) (roomy.one s low) weight
+
   go : (acceptor show one : Bool) → is_one kind w ≡ one → entry_of_fields kind acceptor line room (decimal s ∷ cond show (text_of_cost kind w ∷ []) (cond one [] (text_of_cost kind w ∷ []))) ≡ Ok (final_entry s w)
   go true true one e = reads (Some (text_of_cost kind w)) (weight-shown kind line w good)
   go true false true e = reads None (weight-left_out kind line w e)

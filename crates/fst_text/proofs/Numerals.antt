@@ -33,6 +33,7 @@ decimal-value n small = decimal_by_steps (λ k ds. digits_after 0 ds ≡ Some k)
   one k low =
       let same : 10 * 0 + (48 + k - 48) ≡ k = omega arith in
       digits_after-push 0 0 (48 + k) [] refl (omega arith, omega arith) ∙ ap (λ (j : ℕ). Some j) same
+
   more : (k : ℕ) (ds : List ℕ) → 10 ≤ k → digits_after 0 ds ≡ Some (k / 10) → digits_after 0 (ds ++ ((48 + k % 10) ∷ [])) ≡ Some k
   more k ds high e =
       let same : 10 * (k / 10) + (48 + k % 10 - 48) ≡ k = omega arith in
@@ -54,6 +55,7 @@ pub decimal-digits : (n : ℕ) → n < 2 ^ 64 → AreDigits (decimal n)
 decimal-digits n small = decimal_by_steps (λ k ds. AreDigits ds) one more n small where
   one : (k : ℕ) → k < 10 → AreDigits ((48 + k) ∷ [])
   one k low = ((omega arith, omega arith), tt)
+
   more : (k : ℕ) (ds : List ℕ) → 10 ≤ k → AreDigits ds → AreDigits (ds ++ ((48 + k % 10) ∷ []))
   more k ds high h = AreDigits-push ds (48 + k % 10) h (omega arith, omega arith)
 

@@ -65,7 +65,7 @@ others-pushed value kind options start q states old out more low e h =
     let behind = other_entries start (q + 1) (map (valued_state value) (drop (q + 1) states)) in
     let many : q < length mapped = rw (length-map states (valued_state value)) low in
     let step : other_entries start q (map (valued_state value) (drop q states)) ≡ first ++ behind =
-        ap (other_entries start q) (sym (drop-map (valued_state value) q states)) ∙ other-step start q mapped q many ∙ ap (λ (ss : List (State Cost)). first ++ other_entries start (q + 1) ss) (drop-map (valued_state value) (q + 1) states) in
+    ap (other_entries start q) (sym (drop-map (valued_state value) q states)) ∙ other-step start q mapped q many ∙ ap (λ (ss : List (State Cost)). first ++ other_entries start (q + 1) ss) (drop-map (valued_state value) (q + 1) states) in
     texts-append kind options out more (more ++ text behind) first behind e refl ∙ ap (λ (es : List Entry). out ++ text es) (sym step) ∙ h
 
 -- the first arc with two labels is in the next state or behind it

@@ -28,7 +28,7 @@ room-held kept es b h =
     let two : (s d : ℕ) → room.states s d ≡ (room_behind kept es).states s d = λ s d.
     ap (λ (k : ℕ). nat_le k most_states) (states-count kept (with_more kept (with_more kept ns s) d) es (with_number kept (with_number kept b s) d) (number-held kept (with_more kept ns s) es (with_number kept b s) d (number-held kept ns es b s h)) ∙ ap length (sym (numbers-two kept named s d))) in
     let arc : room.arc ≡ (room_behind kept es).arc =
-        ap (λ (m : Machine Cost). nat_lt (arc_total m.states) most_arcs) h.machine ∙ ap (λ (k : ℕ). nat_lt k most_arcs) (arc-counted ns es h.named h.apart) in
+    ap (λ (m : Machine Cost). nat_lt (arc_total m.states) most_arcs) h.machine ∙ ap (λ (k : ℕ). nat_lt k most_arcs) (arc-counted ns es h.named h.apart) in
     ap (λ (f : ℕ → Bool). record { state = f; states = room.states; arc = room.arc }) (fun_ext one)
     ∙ ap (λ (f : ℕ → ℕ → Bool). record { state = (room_behind kept es).state; states = f; arc = room.arc }) (fun_ext (λ s. fun_ext (two s)))
     ∙ ap (λ (t : Bool). record { state = (room_behind kept es).state; states = (room_behind kept es).states; arc = t }) arc

@@ -142,7 +142,6 @@ dark-field : (x : List ℕ) → IsField x → AllByRecursion IsDark x
 dark-field [] h = absurd h
 dark-field (c ∷ x) h = h
 
-
 -- such bytes by a test
 dark-all : (cs : List ℕ) → list_all (λ c. nat_lt 32 c) cs ≡ true → AllByRecursion IsDark cs
 dark-all [] h = tt

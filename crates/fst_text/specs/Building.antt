@@ -8,6 +8,7 @@ use Rattle.fst_text.specs.declared.fault.TextFault.{TextFault}
 use Rattle.fst_text.specs.declared.options.TextOptions.{TextOptions}
 use Rattle.fst_text.specs.declared.places.Places.{Places}
 use Rattle.fst_text.specs.declared.builder.Builder.{Builder}
+use Rattle.fst_text.specs.Slots.{found_among}
 use Rattle.fst_text.specs.Entries.{Entry, arc_entry, final_entry}
 use Rattle.fst_text.specs.Grammar.{Room, ◌>>=◌, arc_line, Fails, entry_of_fields, final_line}
 
@@ -16,13 +17,9 @@ pub record Building : Type 0 where
   pub found : ℕ → Option ℕ
   pub machine : Machine Cost
 
--- a slot of a table of places; the greatest number of 32 bits stands for none
-abbrev pub place_in_slot : ℕ → Option ℕ
-place_in_slot slot = if slot == 4294967295 then None else Some slot
-
--- what a table of places tells of a number
+-- what is known of a number
 abbrev pub found_in : Places → ℕ → Option ℕ
-found_in places n = if nat_lt n places.bound then place_in_slot (get_or places.dense.items n 4294967295) else get nat_eq places.sparse n
+found_in places n = found_among places.bound places.dense.items (get nat_eq places.sparse) n
 
 -- one more number with its place
 abbrev pub with_place : (ℕ → Option ℕ) → ℕ → ℕ → ℕ → Option ℕ

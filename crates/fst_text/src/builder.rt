@@ -152,8 +152,20 @@ impl<W: Weight> Builder<W> {
         }
     }
 
+    /// The place of a number, if it is known; `again` where it is likely to be asked for again at once.
+    fn find(&mut self, number: u64, again: bool) -> Option<u32>
+        ensures place { result ≡ (built W.value self.old).found number }
+        ensures fst { self.new.fst ≡ self.old.fst }
+        ensures same { built W.value self.new ≡ built W.value self.old }
+    {
+        if again {
+            return self.places.find_again(number);
+        }
+        self.places.find(number)
+    }
+
     /// The state of a number for which there is room; it is added where it is not known.
-    fn state(&mut self, kept: bool, number: u64) -> Result<u32, TextFault>
+    fn state(&mut self, kept: bool, number: u64, again: bool) -> Result<u32, TextFault>
         requires placed { IsPlaced (built W.value self.old) }
         requires room { (room_of kept (built W.value self.old)).state number ≡ true }
         ensures place { IfOk result (λ place. place ≡ place_of kept (built W.value self.old) number) }
@@ -167,7 +179,7 @@ impl<W: Weight> Builder<W> {
             self.grow(number)?;
             return Ok(number as u32);
         }
-        match self.places.find(number) {
+        match self.find(number, again) {
             Some(place) => Ok(place),
             None => self.add(number),
         }
@@ -236,8 +248,8 @@ impl<W: Weight> Builder<W> {
         ensures placed { OnOk result (IsPlaced (built W.value self.new)) }
         ensures err { IfErr result (λ e. e ≡ TextFault.Memory) }
     {
-        let from = self.state(kept, source)?;
-        let next = self.state(kept, dest)?;
+        let from = self.state(kept, source, true)?;
+        let next = self.state(kept, dest, false)?;
         self.begin(from);
         self.fst.add_arc(
             from,
@@ -259,7 +271,7 @@ impl<W: Weight> Builder<W> {
         ensures placed { OnOk result (IsPlaced (built W.value self.new)) }
         ensures err { IfErr result (λ e. e ≡ TextFault.Memory) }
     {
-        let state = self.state(kept, number)?;
+        let state = self.state(kept, number, true)?;
         self.begin(state);
         self.fst.set_final(state, weight);
         Ok(())

@@ -10,5 +10,4 @@ ghost use Rattle.fst_text.specs.Laws.{CompilesBack};
 /// same machine. The function does nothing: its clause is the law.
 pub fn printed_machine_compiles_back()
     ensures { (kind : ArcType) (options : TextOptions) (m : Machine Cost) → CompilesBack kind options m }
-{
-}
+{}

@@ -1,7 +1,9 @@
 //! Where the state of each written number stands.
 
-ghost use Rattle.std.specs.Prelude.{◌≡◌, ◌<◌, ℕ, None, OnOk, length};
-ghost use Rattle.fst_text.specs.Building.{found_in, with_place};
+ghost use Rattle.std.specs.Prelude.{◌≡◌, ◌<◌, ℕ, None, Some, OnOk, length, nat_eq};
+ghost use Rattle.std.specs.Option.{ForSome};
+ghost use Rattle.std.specs.HashMap.{get};
+ghost use Rattle.fst_text.specs.Slots.{found_among};
 
 use std::alloc::{AllocError, AllocFailed, Global};
 use std::collections::HashMap;
@@ -15,9 +17,14 @@ pub struct Places {
     bound: usize,
     dense: Vec<u32>,
     sparse: HashMap<u64, u32>,
+    // The source of the line before, since the arcs of a state mostly come one after another.
+    recent: Option<(u64, u32)>,
+    ghost remembered: { ForSome recent (λ r. found_among bound dense.items (get nat_eq sparse) r.0 ≡ Some r.1) },
 }
 
 impl Places {
+    ghost use Rattle.fst_text.specs.Building.{found_in, with_place};
+
     /// No number is known. The table takes no more than `bound` slots. Takes no memory.
     pub fn new(alloc: Global, bound: usize) -> Places
         ensures { (n : ℕ) → found_in result n ≡ None }
@@ -26,6 +33,7 @@ impl Places {
             bound,
             dense: Vec::new(alloc),
             sparse: HashMap::new(alloc),
+            recent: None,
         }
     }
 
@@ -40,6 +48,23 @@ impl Places {
             Some(place) => { if *place == ABSENT { None } else { Some(*place) } }
             None => None,
         }
+    }
+
+    /// The place of a number that is likely to be asked for again at once. Takes no memory.
+    pub fn find_again(&mut self, number: u64) -> Option<u32>
+        ensures place { result ≡ found_in self.old number }
+        ensures same { found_in self.new ≡ found_in self.old }
+    {
+        if let Some((recent, place)) = self.recent {
+            if recent == number {
+                return Some(place);
+            }
+        }
+        let found = self.find(number);
+        if let Some(place) = found {
+            self.recent = Some((number, place));
+        }
+        found
     }
 
     /// Makes the table long enough for a slot, at least doubling it.
@@ -62,7 +87,8 @@ impl Places {
 
     /// Adds a number with its place.
     pub fn add(&mut self, number: u64, place: u32) -> Result<(), AllocError>
-        requires { place < 4294967295 }
+        requires place { place < 4294967295 }
+        requires absent { found_in self.old number ≡ None }
         ensures { OnOk result ((n : ℕ) → found_in self.new n ≡ with_place (found_in self.old) number place n) }
     {
         if number >= self.bound as u64 {

@@ -96,7 +96,11 @@ fn names_the_first_fault(rt: HostRuntime) {
     let acceptor = choose(true, false, false);
     let kept = choose(false, true, false);
     for (text, options, want) in [
-        (b"0 1 1\n".as_slice(), plain, TextFault::BadColumns { line: 1 }),
+        (
+            b"0 1 1\n".as_slice(),
+            plain,
+            TextFault::BadColumns { line: 1 },
+        ),
         (
             b"0 1 1 2\n0 1 5\n".as_slice(),
             plain,
@@ -112,7 +116,11 @@ fn names_the_first_fault(rt: HostRuntime) {
             acceptor,
             TextFault::BadColumns { line: 1 },
         ),
-        (b"\n \nx\n".as_slice(), plain, TextFault::BadState { line: 3 }),
+        (
+            b"\n \nx\n".as_slice(),
+            plain,
+            TextFault::BadState { line: 3 },
+        ),
         (
             b"0 -1 x x x\n".as_slice(),
             plain,
@@ -182,9 +190,7 @@ fn prints_no_arc_with_two_labels_as_an_acceptor(rt: HostRuntime) {
     match compile::<Tropical>(rt.alloc(), text, &choose(false, false, false)) {
         Ok(fst) => match print(rt.alloc(), &fst, &choose(true, false, false)) {
             Ok(_) => panic!(rt; "it is printed"),
-            Err(fault) => {
-                assert_eq!(rt; fault, PrintFault::NotAcceptor { state: 1, place: 1 })
-            }
+            Err(fault) => { assert_eq!(rt; fault, PrintFault::NotAcceptor { state: 1, place: 1 }) }
         },
         Err(fault) => panic!(rt; "{fault:?}"),
     }
