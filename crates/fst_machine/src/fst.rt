@@ -10,6 +10,10 @@ use fst_semiring::Weight;
 use std::alloc::{AllocError, AllocFailed, Global};
 use std::marker::Model;
 
+mod state_list;
+
+pub use state_list::StateList;
+
 /// The greatest number of states of a machine.
 pub const MOST_STATES: usize = 4_194_304;
 

@@ -8,4 +8,4 @@ mod arc;
 mod fst;
 
 pub use arc::FstArc;
-pub use fst::{Fst, GrowFault, MOST_ARCS, MOST_LABEL, MOST_STATES};
+pub use fst::{Fst, GrowFault, MOST_ARCS, MOST_LABEL, MOST_STATES, StateList};

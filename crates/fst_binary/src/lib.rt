@@ -1,0 +1,14 @@
+//! The binary form of a machine, both ways.
+//!
+//! `specs/Spelling.antt` gives each machine its bytes, and `specs/Reading.antt` gives bytes their machine or
+//! their first fault. `encode` and `decode` do what these two say, and the one undoes the other.
+#![tactic(auto)]
+
+mod fault;
+mod header;
+mod number;
+mod weight_field;
+
+pub use fault::{BinaryFault, BinaryKind, WeightFieldFault};
+pub use header::arc_type;
+pub use weight_field::{read_weight_field};
