@@ -1,5 +1,5 @@
 -- Keys and the weights that have them.
-use Rattle.std.proofs.Common.{◌≡◌, ℕ, zero, suc, ℤ, pos, ◌+◌, ◌*◌, ◌≤◌, length, ◌≤ℤ◌, neg_ℤ, int_le, ltb, leb, Result, Ok, Err, Bool, true, false, ◌&&◌, List, [], ◌∷◌, Option, Some, None, ap, refl, arith}
+use Rattle.std.proofs.Common.{◌≡◌, ℕ, ℤ, pos, ◌+◌, ◌*◌, ◌≤◌, length, ◌≤ℤ◌, neg_ℤ, int_le, ltb, Ok, Bool, true, false, ◌&&◌, List, Option, Some, None, ap, refl, arith}
 use Rattle.std.specs.Prelude.{IfSome, IfNone}
 use Rattle.std.specs.Option.{option_map}
 use Rattle.std.specs.List.{list_all}

@@ -4,11 +4,14 @@
 //! their first fault. `encode` and `decode` do what these two say, and the one undoes the other.
 #![tactic(auto)]
 
+mod append;
+mod encoding;
 mod fault;
 mod header;
 mod number;
 mod weight_field;
 
+pub use encoding::encode;
 pub use fault::{BinaryFault, BinaryKind, WeightFieldFault};
 pub use header::arc_type;
-pub use weight_field::{read_weight_field};
+pub use weight_field::{push_weight_field, read_weight_field};

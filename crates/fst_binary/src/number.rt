@@ -35,7 +35,12 @@ pub(crate) fn read_long(bytes: &[u8], at: usize) -> Result<(u64, usize), BinaryF
 
 /// The offset behind a number of four bytes, which has to be this one.
 #[tactic(auto, unfolding(crate::specs::Reading::number_where))]
-pub(crate) fn expect_word(bytes: &[u8], at: usize, wanted: u32, kind: BinaryKind) -> Result<usize, BinaryFault>
+pub(crate) fn expect_word(
+    bytes: &[u8],
+    at: usize,
+    wanted: u32,
+    kind: BinaryKind,
+) -> Result<usize, BinaryFault>
     requires { at ≤ length bytes.now }
     ensures value { result_map_both (λ behind. (wanted, behind)) (λ e. e) result ≡ number_where (λ n. n == wanted) kind 4 bytes.now at }
     ensures behind { IfOk result (λ behind. behind ≤ length bytes.now) }
@@ -66,7 +71,11 @@ pub(crate) fn read_count(bytes: &[u8], at: usize, most: u64) -> Result<(u64, usi
 
 /// So many bytes at an offset, and the offset behind them.
 #[tactic(auto, unfolding(crate::specs::Reading::part_at))]
-pub(crate) fn read_bytes(bytes: &[u8], at: usize, count: usize) -> Result<(&[u8], usize), BinaryFault>
+pub(crate) fn read_bytes(
+    bytes: &[u8],
+    at: usize,
+    count: usize,
+) -> Result<(&[u8], usize), BinaryFault>
     requires { at ≤ length bytes.now }
     ensures value { result_map_both (λ x. (x.0.now, x.1)) (λ e. e) result ≡ part_at count bytes.now at }
     ensures behind { IfOk result (λ x. x.1 ≤ length bytes.now) }

@@ -1,6 +1,6 @@
 //! Weight fields: a tag and the numbers behind it.
 
-ghost use Rattle.std.specs.Prelude.{◌≡◌, ◌≤◌, ◌++◌, ◌+◌, ◌*◌, ◌&&◌, length, take, pos, Some, None, IfOk, OnOk, OnErr, if◌then◌else◌};
+ghost use Rattle.std.specs.Prelude.{◌≡◌, ◌≤◌, ◌++◌, ◌+◌, ◌*◌, ◌&&◌, length, take, pos, Some, None, vec_capacity, IfOk, OnOk, OnErr, if◌then◌else◌};
 ghost use Rattle.std.specs.Option.{option_map};
 ghost use Rattle.std.specs.List.{list_all};
 ghost use Rattle.std.specs.Result.{result_map_both};
@@ -9,6 +9,7 @@ ghost use Rattle.fst_semiring.specs.Keys.{key_of};
 ghost use Rattle.fst_binary.specs.Spelling.{HasField, weight_field};
 ghost use Rattle.fst_binary.specs.Reading.{cost_of_numbers, has_best, integer_at, integers_at, is_small, number_count, numbers_at, weight_at};
 
+use crate::append::{append, append_signed};
 use crate::fault::WeightFieldFault;
 use byteorder::{ByteOrder, LittleEndian};
 use fst_semiring::{ArcType, Key, Weight};
@@ -73,7 +74,10 @@ fn read_key(kind: ArcType, bytes: &[u8], at: usize) -> Key
     match kind {
         ArcType::Boolean => key_of_numbers(0, 0),
         ArcType::Tropical | ArcType::MinMax => key_of_numbers(read_integer(bytes, at), 0),
-        ArcType::Lexicographic => key_of_numbers(read_integer(bytes, at), read_integer(bytes, at + 8)),
+        ArcType::Lexicographic => key_of_numbers(
+            read_integer(bytes, at),
+            read_integer(bytes, at + 8),
+        ),
     }
 }
 
@@ -127,7 +131,10 @@ fn best_weight<W: Weight>() -> Option<W>
 
 /// The weight whose field begins at an offset, and the offset behind the field. Takes no memory.
 #[tactic(auto, unfolding(crate::specs::Reading::weight_at))]
-pub fn read_weight_field<W: Weight>(bytes: &[u8], offset: usize) -> Result<(W, usize), WeightFieldFault>
+pub fn read_weight_field<W: Weight>(
+    bytes: &[u8],
+    offset: usize,
+) -> Result<(W, usize), WeightFieldFault>
     requires { offset ≤ length bytes.now }
     ensures value { result_map_both (λ x. (W.value x.0, x.1)) (λ e. e) result ≡ weight_at W.KIND bytes.now offset }
     ensures behind { IfOk result (λ x. x.1 ≤ length bytes.now) }
@@ -145,4 +152,58 @@ pub fn read_weight_field<W: Weight>(bytes: &[u8], offset: usize) -> Result<(W, u
         },
         _ => Err(WeightFieldFault::BadWeight),
     }
+}
+
+/// How many bytes the field of a weight takes.
+pub(crate) fn weight_length<W: Weight>(weight: W) -> usize
+    ensures value { result ≡ length (weight_field W.KIND (W.value weight)) }
+    ensures bound { result ≤ LONGEST }
+{
+    let key = W::key(weight.widen());
+    if key.class == 1 {
+        1 + 8 * count_of_numbers(W::KIND)
+    } else {
+        1
+    }
+}
+
+/// Appends the field of a weight where there is room.
+pub(crate) fn append_weight<W: Weight>(out: &mut Vec<u8>, weight: W)
+    requires { length out.old.items + length (weight_field W.KIND (W.value weight)) ≤ vec_capacity out.old }
+    ensures items { out.new.items ≡ out.old.items ++ weight_field W.KIND (W.value weight) }
+    ensures room { vec_capacity out.old ≤ vec_capacity out.new }
+{
+    let key = W::key(weight.widen());
+    match key.class {
+        0 => append(out, &[2]),
+        1 => append_numbers(out, W::KIND, key.first as i64, key.second as i64),
+        _ => append(out, &[0]),
+    }
+}
+
+/// Appends the tag 1 and the numbers behind it where there is room.
+fn append_numbers(out: &mut Vec<u8>, kind: ArcType, first: i64, second: i64)
+    requires { length out.old.items + length (weight_field kind (finite first second)) ≤ vec_capacity out.old }
+    ensures items { out.new.items ≡ out.old.items ++ weight_field kind (finite first second) }
+    ensures room { vec_capacity out.old ≤ vec_capacity out.new }
+{
+    append(out, &[1]);
+    match kind {
+        ArcType::Boolean => {}
+        ArcType::Tropical | ArcType::MinMax => append_signed(out, first),
+        ArcType::Lexicographic => {
+            append_signed(out, first);
+            append_signed(out, second);
+        }
+    }
+}
+
+/// Appends the field of a weight. An `Err` changes nothing.
+pub fn push_weight_field<W: Weight>(out: &mut Vec<u8>, weight: W) -> Result<(), AllocError>
+    ensures ok { OnOk result (out.new.items ≡ out.old.items ++ weight_field W.KIND (W.value weight)) }
+    ensures err { OnErr result (out.new.items ≡ out.old.items) }
+{
+    out.reserve(weight_length(weight))?;
+    append_weight(out, weight);
+    Ok(())
 }

@@ -1,4 +1,4 @@
-use Rattle.std.proofs.Common.{◌≡◌, refl, arith}
+use Rattle.std.proofs.Common.{refl}
 use Rattle.fst_binary.specs.Reading.{header_at}
 use Rattle.fst_binary.proofs.header.read_header.Goals as goal
 

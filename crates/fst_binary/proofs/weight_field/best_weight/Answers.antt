@@ -1,5 +1,5 @@
-use Rattle.std.proofs.Common.{◌≡◌, true, Some, None, ap, sym, refl, ◌∙◌}
-use Rattle.fst_semiring.specs.Cost.{Cost, best}
+use Rattle.std.proofs.Common.{◌≡◌, true, ap, sym, ◌∙◌}
+use Rattle.fst_semiring.specs.Cost.{best}
 use Rattle.fst_binary.specs.Reading.{has_best}
 use Rattle.fst_binary.proofs.Weights.{found_by_key, best_has_field}
 use Rattle.fst_binary.proofs.weight_field.best_weight.Goals as goal

@@ -1,8 +1,6 @@
-use Rattle.std.proofs.Common.{◌≡◌, ◌&&◌, ◌+◌, ◌*◌, ◌≤◌, length, Ok, true, sym, ap, refl, ◌∙◌, arith}
-use Rattle.std.specs.List.{list_all}
-use Rattle.fst_semiring.specs.Cost.{Cost}
+use Rattle.std.proofs.Common.{sym, ◌∙◌, arith}
 use Rattle.fst_binary.specs.Spelling.{HasField}
-use Rattle.fst_binary.specs.Reading.{cost_of_numbers, integers_at, is_small, number_count, numbers_at}
+use Rattle.fst_binary.specs.Reading.{cost_of_numbers, integers_at, number_count}
 use Rattle.fst_binary.proofs.Weights.{key_apart, numbers_have_field, numbers_are_read}
 use Rattle.fst_binary.proofs.weight_field.read_numbers.Goals as goal
 
