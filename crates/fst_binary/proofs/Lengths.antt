@@ -1,5 +1,5 @@
 -- How long the fields are.
-use Rattle.std.proofs.Common.{◌≡◌, ℕ, ℤ, ◌+◌, ◌*◌, ◌≤◌, List, [], ◌++◌, length, ◌⊎◌, inl, inr, refl, ap, ◌∙◌, arith}
+use Rattle.std.proofs.Common.{◌≡◌, ℕ, ℤ, ◌+◌, ◌*◌, ◌≤◌, List, [], ◌∷◌, ◌++◌, length, ◌⊎◌, inl, inr, refl, ap, ◌∙◌, arith}
 use Rattle.std.specs.List.{flat_map}
 use Rattle.std.proofs.lemmas.List.{length-append}
 use Rattle.fst_semiring.specs.declared.arc_type.ArcType.{ArcType}
@@ -73,3 +73,7 @@ one_number kind (inr e) = ap number_count e
 -- a list that is longer by a number with a sign
 pub longer_by_signed : (xs ys : List ℕ) (n : ℤ) → xs ≡ ys ++ signed n → length xs ≡ length ys + 8
 longer_by_signed xs ys n e = let m = longer xs ys (signed n) e in omega (arith, m, length-signed n)
+
+-- a list with one more item
+pub length_push : {X : Type 0} (xs ys : List X) (x : X) → xs ≡ ys ++ x ∷ [] → length xs ≡ length ys + 1
+length_push xs ys x e = ap length e ∙ length-append ys (x ∷ [])

@@ -30,11 +30,11 @@ key_apart infinite best e = absurd (let n : 2 ≡ 0 = ap (λ (k : Key). k.class)
 key_apart infinite (finite a b) e = absurd (let n : 2 ≡ 1 = ap (λ (k : Key). k.class) e in omega (arith, n))
 key_apart infinite infinite e = refl
 
-and_left : (a b : Bool) → a && b ≡ true → a ≡ true
+pub and_left : (a b : Bool) → a && b ≡ true → a ≡ true
 and_left true b e = refl
 and_left false b e = absurd cc
 
-and_right : (a b : Bool) → a && b ≡ true → b ≡ true
+pub and_right : (a b : Bool) → a && b ≡ true → b ≡ true
 and_right true b e = e
 and_right false b e = absurd cc
 

@@ -60,17 +60,17 @@ abbrev pub start_number : Option ℕ → ℤ
 start_number None = neg_ℤ (pos 1)
 start_number (Some s) = pos s
 
--- the magic number, the names of the fst type and of the arc type, the version, and no flags
+-- the magic number, and the names of the fst type and of the arc type
 abbrev pub type_fields : ArcType → List ℕ
-type_fields kind = word 2125659606 ++ text (codes "vector") ++ text (name_of kind) ++ word 2 ++ word 0
+type_fields kind = word 2125659606 ++ text (codes "vector") ++ text (name_of kind)
 
 -- the start, and how many states and arcs there are
 abbrev pub count_fields : Machine Cost → List ℕ
 count_fields m = signed (start_number m.start) ++ long (length m.states) ++ long (arc_total m.states)
 
--- a machine with these eight bytes as its properties
+-- a machine with these eight bytes as its properties: its types, version 2, no flags, its counts, its states
 abbrev pub spelling_with : List ℕ → ArcType → Machine Cost → List ℕ
-spelling_with properties kind m = type_fields kind ++ properties ++ count_fields m ++ flat_map (state_fields kind) m.states
+spelling_with properties kind m = type_fields kind ++ word 2 ++ word 0 ++ properties ++ count_fields m ++ flat_map (state_fields kind) m.states
 
 -- a machine with the properties 3, as it is written
 abbrev pub spelling : ArcType → Machine Cost → List ℕ

@@ -3,7 +3,7 @@
 ghost use Rattle.std.specs.Prelude.{◌≡◌, ◌≤◌, ◌++◌, ◌∷◌, [], ◌+◌, ◌*◌, ◌<◌, length, map, take, drop, vec_capacity, IfOk, sum_by};
 ghost use Rattle.std.specs.List.{flat_map};
 ghost use Rattle.fst_machine.specs.Machine.{valued, valued_arc, valued_state};
-ghost use Rattle.fst_binary.specs.Spelling.{arc_fields, count_fields, name_of, spelling, start_number, state_fields, text, type_fields};
+ghost use Rattle.fst_binary.specs.Spelling.{arc_fields, count_fields, name_of, spelling, start_number, state_fields, text, type_fields, word};
 
 use crate::append::{append, append_long, append_signed, append_word};
 use crate::weight_field::{append_weight, weight_length};
@@ -114,7 +114,7 @@ fn append_text(out: &mut Vec<u8>, bytes: &[u8])
 /// Appends the fields up to the flags where there is room.
 fn append_types(out: &mut Vec<u8>, kind: ArcType)
     requires { length out.old.items + 26 + length (name_of kind) ≤ vec_capacity out.old }
-    ensures items { out.new.items ≡ out.old.items ++ type_fields kind }
+    ensures items { out.new.items ≡ out.old.items ++ (type_fields kind ++ word 2 ++ word 0) }
     ensures len { length out.new.items ≡ length out.old.items + 26 + length (name_of kind) }
     ensures room { vec_capacity out.old ≤ vec_capacity out.new }
 {

@@ -1,8 +1,9 @@
 //! The fields in front of the states.
 
-ghost use Rattle.std.specs.Prelude.{◌≡◌, ◌∷◌, [], ◌≤◌, length, IfOk, codes, ◌==◌, bytes_eq};
+ghost use Rattle.std.specs.Prelude.{◌≡◌, ◌∷◌, [], ◌≤◌, ◌<◌, length, IfOk, IfSome, true, codes, ◌==◌, bytes_eq};
 ghost use Rattle.std.specs.List.{find, list_any};
 ghost use Rattle.std.specs.Result.{result_map_both};
+ghost use Rattle.fst_machine.specs.Machine.{most_arcs, most_states};
 ghost use Rattle.fst_binary.specs.Spelling.{name_of};
 ghost use Rattle.fst_binary.specs.Reading.{arc_type_of_bytes, header_at, is_start, known, named_at, start_at, types_at};
 
@@ -114,7 +115,8 @@ fn read_start(bytes: &[u8], at: usize) -> Result<(Option<u32>, usize), BinaryFau
 
 /// Whether a start is none, or one of so many states.
 fn is_start_of(start: Option<u32>, states: u32) -> bool
-    ensures { result ≡ is_start start states }
+    ensures value { result ≡ is_start start states }
+    ensures below { result ≡ true → IfSome start (λ s. s < states) }
 {
     match start {
         None => true,
@@ -127,6 +129,9 @@ fn is_start_of(start: Option<u32>, states: u32) -> bool
 pub(crate) fn read_header(bytes: &[u8], at: usize) -> Result<Header, BinaryFault>
     requires { at ≤ length bytes.now }
     ensures value { result ≡ header_at bytes.now at }
+    ensures start { IfOk result (λ header. IfSome header.start (λ s. s < header.states)) }
+    ensures few_states { IfOk result (λ header. header.states ≤ most_states) }
+    ensures few_arcs { IfOk result (λ header. header.arcs ≤ most_arcs) }
     ensures behind { IfOk result (λ header. header.behind ≤ length bytes.now) }
 {
     let behind = expect_word(bytes, at, 2, BinaryKind::BadVersion)?;

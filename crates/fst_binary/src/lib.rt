@@ -5,12 +5,14 @@
 #![tactic(auto)]
 
 mod append;
+mod decoding;
 mod encoding;
 mod fault;
 mod header;
 mod number;
 mod weight_field;
 
+pub use decoding::decode;
 pub use encoding::encode;
 pub use fault::{BinaryFault, BinaryKind, WeightFieldFault};
 pub use header::arc_type;

@@ -50,7 +50,14 @@ impl<W: Weight> StateList<W> {
         Ok(())
     }
 
-    /// The machine with these states and this start.
+    /// The number of arcs of all states together. Takes no memory.
+    pub fn arc_count(&self) -> u32
+        ensures { result ≡ arc_total self.now }
+    {
+        self.total
+    }
+
+    /// The machine with these states and this start. Takes no memory.
     pub fn into_machine(self, start: Option<u32>) -> Fst<W>
         requires { IsMachine W.value (record { start = start; states = self }) }
         ensures { result ≡ record { start = start; states = self } }
