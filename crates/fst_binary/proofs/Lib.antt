@@ -5,4 +5,7 @@ pub mod Steps
 pub mod Numbers
 pub mod Names
 pub mod WeightFields
+pub mod States
+pub mod Headers
+pub mod Machines
 pub mod Weights

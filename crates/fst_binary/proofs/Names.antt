@@ -44,7 +44,7 @@ found_passes : {A : Type 0} (test : A → Bool) (xs : List A) (y : A) → find t
 found_passes test [] y e = absurd cc
 found_passes test (x ∷ xs) y e = found_or_later test x y (find test xs) (test x) refl (found_passes test xs y) e
 
-pub named_takes : {A : Type 0} (name : A → List ℕ) (known : List A) (kind : BinaryKind) (bytes : List ℕ) (at : ℕ) (x : A) (next : ℕ) → IsBytes bytes → named_at name known kind bytes at ≡ Ok (x, next) → Takes bytes at (text (name x)) next
+pub named_takes : {A : Type 0} (name : A → List ℕ) (known : List A) (kind : BinaryKind) (bytes : List ℕ) (at : ℕ) (x : A) (next : ℕ) → IsBytes bytes → named_at name known kind bytes at ≡ Ok (x, next) → Takes bytes at (text (name x)) next × ((test : A → Bool) × (find test known ≡ Some x))
 unfolding named_at
 named_takes {A} name known kind bytes at x next fits e =
     let wrong : BinaryFault = record { offset = at; kind = kind } in
@@ -54,10 +54,11 @@ named_takes {A} name known kind bytes at x next fits e =
     let d = bind_ok (ok_or (find (λ y. bytes_eq (name y) c.0.0) known) wrong) (λ found. Ok (found, c.0.1)) (x, next) c.2 in
     let number = (where_takes (λ n. list_any (λ y. eqb (length (name y)) n) known) kind 4 (2 ^ 32) word words bytes at b.0.0 b.0.1 fits b.1).0 in
     let part = part_takes b.0.0 bytes b.0.1 c.0.0 c.0.1 c.1 in
-    let is : name d.0 ≡ c.0.0 = (bytes_eq-Decides (name d.0) c.0.0).0 (found_passes (λ y. bytes_eq (name y) c.0.0) known d.0 (ok_or_is _ wrong d.0 d.1)) in
+    let found = ok_or_is _ wrong d.0 d.1 in
+    let is : name d.0 ≡ c.0.0 = (bytes_eq-Decides (name d.0) c.0.0).0 (found_passes (λ y. bytes_eq (name y) c.0.0) known d.0 found) in
     let both : Takes bytes at (word b.0.0 ++ c.0.0) c.0.1 = Takes-then bytes at (word b.0.0) b.0.1 c.0.0 c.0.1 number part.0 in
     let whole : Takes bytes at (text (name d.0)) c.0.1 = rw is (subst (λ (n : ℕ). Takes bytes at (word n ++ c.0.0) c.0.1) (sym part.1) both) in
-    subst (λ (p : A × ℕ). Takes bytes at (text (name p.0)) p.1) (ok_is {A = A × ℕ} {E = BinaryFault} (d.0, c.0.1) (x, next) d.2) whole
+    subst (λ (p : A × ℕ). Takes bytes at (text (name p.0)) p.1 × ((test : A → Bool) × (find test known ≡ Some p.0))) (ok_is {A = A × ℕ} {E = BinaryFault} (d.0, c.0.1) (x, next) d.2) (whole, (λ y. bytes_eq (name y) c.0.0, found))
 
 pub named_again : {A : Type 0} (name : A → List ℕ) (known : List A) (kind : BinaryKind) (bytes : List ℕ) (at : ℕ) (x : A) (rest : List ℕ) → at ≤ length bytes → length (name x) < 2 ^ 32 → list_any (λ y. eqb (length (name y)) (length (name x))) known ≡ true → find (λ y. bytes_eq (name y) (name x)) known ≡ Some x
     → drop at bytes ≡ text (name x) ++ rest → Reads bytes (named_at name known kind bytes at) x rest
@@ -67,3 +68,11 @@ named_again name known kind bytes at x rest within short has is e =
     let number = where_again (λ n. list_any (λ y. eqb (length (name y)) n) known) kind 4 (2 ^ 32) word words bytes at (length (name x)) (name x ++ rest) within short has apart in
     let part = part_again bytes number.next (name x) rest number.within number.left in
     record { next = part.next; gives = rw (number.gives, part.gives, is) refl; left = part.left; within = part.within }
+
+found_only : {A : Type 0} (b : Bool) (k x : A) → cond b (Some k) None ≡ Some x → k ≡ x
+found_only true k x e = cc
+found_only false k x e = absurd cc
+
+-- of one thing that one is found
+pub found_alone : {A : Type 0} (test : A → Bool) (k x : A) → find test (k ∷ []) ≡ Some x → k ≡ x
+found_alone test k x e = found_only (test k) k x e

@@ -20,7 +20,7 @@ use Rattle.fst_binary.proofs.Steps.{IsBytes, IsBytes-drop, IsBytes-take, Reads, 
 use Rattle.fst_binary.proofs.Lengths.{length-signed}
 use Rattle.fst_binary.proofs.Weights.{and_left, and_right, best_has_field, numbers_have_field}
 
-signed_is : (n : ℤ) → signed n ≡ long (of_z w64 n)
+pub signed_is : (n : ℤ) → signed n ≡ long (of_z w64 n)
 unfolding signed long
 signed_is n = refl
 
@@ -113,7 +113,7 @@ numbers_read Lexicographic bytes at a b rest within fits e =
 
 -- ---- the whole field
 
-chosen : {A : Type 0} (b : Bool) (x y z : A) → cond b x y ≡ z → ((b ≡ true) × (x ≡ z)) ⊎ ((b ≡ false) × (y ≡ z))
+pub chosen : {A : Type 0} (b : Bool) (x y z : A) → cond b x y ≡ z → ((b ≡ true) × (x ≡ z)) ⊎ ((b ≡ false) × (y ≡ z))
 chosen true x y z e = inl (refl, e)
 chosen false x y z e = inr (refl, e)
 
