@@ -7,5 +7,6 @@ pub mod Names
 pub mod WeightFields
 pub mod States
 pub mod Headers
+pub mod Decoded
 pub mod Machines
 pub mod Weights

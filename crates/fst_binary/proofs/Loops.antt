@@ -3,7 +3,7 @@ use Rattle.std.proofs.Common.{◌≡◌, ℕ, suc, ◌-◌, ◌+◌, ◌≤◌, 
 use Rattle.std.proofs.lemmas.List.{append-nil}
 use Rattle.fst_semiring.specs.declared.arc_type.ArcType.{ArcType}
 use Rattle.fst_semiring.specs.Cost.{Cost}
-use Rattle.fst_machine.specs.Machine.{Arc, State, arc_total}
+use Rattle.fst_machine.specs.Machine.{Arc, State}
 use Rattle.fst_binary.specs.declared.fault.BinaryFault.{BinaryFault}
 use Rattle.fst_binary.specs.Reading.{◌>>=◌, Fails, arc_at, arcs_at, state_at, states_at}
 

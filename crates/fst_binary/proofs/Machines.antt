@@ -1,24 +1,23 @@
 -- The laws: what is read is spelled so, what is spelled so is read, and no spelling goes on as another.
-use Rattle.std.proofs.Common.{◌≡◌, ℕ, ◌+◌, ◌-◌, ◌^◌, ◌<◌, ◌≤◌, Bool, true, false, cond, eqb, List, [], ◌∷◌, ◌++◌, length, drop, Option, Result, Ok, Err, All, refl, sym, ap, subst, ◌∙◌, append_assoc, arith}
-use Rattle.std.specs.Prelude.{IfSome}
-use Rattle.std.specs.List.{AllByRecursion, find, flat_map}
+use Rattle.std.proofs.Common.{◌≡◌, ℕ, ◌-◌, ◌<◌, ◌≤◌, Bool, true, false, cond, eqb, List, [], ◌∷◌, ◌++◌, length, drop, Option, Result, Ok, Err, All, refl, sym, ap, subst, ◌∙◌, append_assoc, arith}
+use Rattle.std.specs.Prelude.{IfOk, IfSome}
+use Rattle.std.specs.List.{AllByRecursion, flat_map}
 use Rattle.std.proofs.lemmas.Bool.{eq-eqb, eqb-true}
-use Rattle.std.proofs.lemmas.List.{append-nil, length-drop, drop_all, nil_from_length}
+use Rattle.std.proofs.lemmas.List.{append-nil, length-drop, drop_all}
 use Rattle.std.proofs.lemmas.List.Elements.{All-from_recursion, recursion_from_All}
 use Rattle.fst_semiring.specs.declared.arc_type.ArcType.{ArcType}
 use Rattle.fst_semiring.specs.declared.arc_type.ArcType.TheVariants.{Boolean, Tropical, MinMax, Lexicographic}
 use Rattle.fst_semiring.specs.Cost.{Cost}
-use Rattle.fst_machine.specs.Machine.{Arc, State, Machine, IsArc, IsMachine, arc_total, most_arcs, most_states}
+use Rattle.fst_machine.specs.Machine.{Arc, State, Machine, IsArc, IsMachine, arc_total}
 use Rattle.fst_binary.specs.declared.fault.BinaryFault.{BinaryFault}
 use Rattle.fst_binary.specs.declared.fault.BinaryKind.TheVariants.{BadCount, Extra}
 use Rattle.fst_binary.specs.declared.header.Header.{Header}
-use Rattle.fst_binary.specs.Spelling.{HasField, HasSpelling, Spells, arc_fields, count_fields, long, signed, spelling, spelling_with, start_number, state_fields, type_fields, word}
-use Rattle.fst_binary.specs.Reading.{◌>>=◌, fault, header_at, machine_at, machine_of_bytes, states_at, types_at}
-use Rattle.fst_binary.proofs.Headers.{HeaderTaken, counts, header_again, header_takes, named_alone, named_of_all, types_again, types_takes}
-use Rattle.fst_binary.proofs.Lengths.{length-long}
+use Rattle.fst_binary.specs.Spelling.{HasField, HasSpelling, Spells, count_fields, long, signed, spelling_with, start_number, state_fields, type_fields, word}
+use Rattle.fst_binary.specs.Reading.{◌>>=◌, Gives, fault, header_at, machine_at, machine_of_bytes, states_at, types_at}
+use Rattle.fst_binary.proofs.Headers.{counts, header_again, header_takes, named_alone, named_of_all, types_again, types_takes}
 use Rattle.fst_binary.proofs.Names.{found_alone}
 use Rattle.fst_binary.proofs.States.{GoodArc, GoodState, states_again, states_takes}
-use Rattle.fst_binary.proofs.Steps.{IsBytes, Reads, Takes, Takes-all, Takes-then, bind_ok, done, guard_passed, ok_is}
+use Rattle.fst_binary.proofs.Steps.{IsBytes, Takes, Takes-all, Takes-then, bind_ok, done, guard_passed, ok_is}
 
 -- ---- good states, and machines that have a spelling
 
@@ -184,3 +183,9 @@ prefix_free kind other properties m n rest has also eight e =
     let whole : machine_of_bytes kind bytes ≡ Ok n = ap (λ (k : ArcType). machine_of_bytes k bytes) same ∙ machine_again other properties n also eight in
     let end = nothing_follows m n r.next bytes rest (eqb r.next (length bytes)) refl r.left (sym r.gives ∙ whole) in
     (end.0, same, end.1)
+
+-- ---- the same of what a function returned
+
+pub is_found : {X : Type 0} (view : X → Machine Cost) (kind : ArcType) (bytes : List ℕ) (result : Result X BinaryFault) → IsBytes bytes → Gives view result (machine_of_bytes kind bytes) → IfOk result (λ m. Spells kind bytes (view m) × HasSpelling kind (view m))
+is_found view kind bytes (Ok m) fits given = found_spelled kind bytes (view m) fits given
+is_found view kind bytes (Err f) fits given = tt

@@ -1,5 +1,5 @@
 -- Names that are read are those that stand there.
-use Rattle.std.proofs.Common.{◌≡◌, ℕ, ◌+◌, ◌^◌, ◌<◌, ◌≤◌, Bool, true, false, cond, ltb, eqb, List, [], ◌∷◌, ◌++◌, length, take, drop, Option, Some, None, Result, Ok, Err, refl, sym, ap, subst, ◌∙◌, append_assoc, arith}
+use Rattle.std.proofs.Common.{◌≡◌, ℕ, ◌+◌, ◌^◌, ◌<◌, ◌≤◌, Bool, true, false, cond, ltb, eqb, List, [], ◌∷◌, ◌++◌, length, take, drop, Option, Some, None, Ok, refl, sym, ap, subst, ◌∙◌, append_assoc, arith}
 use Rattle.std.specs.Prelude.{bytes_eq}
 use Rattle.std.specs.Option.{ok_or}
 use Rattle.std.specs.List.{find, list_any}
@@ -10,7 +10,7 @@ use Rattle.fst_binary.specs.declared.fault.BinaryFault.{BinaryFault}
 use Rattle.fst_binary.specs.declared.fault.BinaryKind.{BinaryKind}
 use Rattle.fst_binary.specs.declared.fault.BinaryKind.TheVariants.{Short}
 use Rattle.fst_binary.specs.Spelling.{text, word}
-use Rattle.fst_binary.specs.Reading.{◌>>=◌, fault, named_at, number_where, part_at}
+use Rattle.fst_binary.specs.Reading.{◌>>=◌, named_at, number_where, part_at}
 use Rattle.fst_binary.proofs.Numbers.{where_again, where_takes, words}
 use Rattle.fst_binary.proofs.Steps.{IsBytes, Reads, Takes, Takes-front, Takes-then, bind_ok, done, ends_within, guard_ok, ok_is, past}
 

@@ -1,17 +1,16 @@
 -- Numbers that are read are those that stand there.
-use Rattle.std.proofs.Common.{◌≡◌, ℕ, ℤ, zero, suc, ◌+◌, ◌*◌, ◌^◌, ◌<◌, ◌≤◌, Bool, true, false, cond, ltb, List, [], ◌∷◌, ◌++◌, length, get_or, take, drop, Result, Ok, Err, refl, sym, ap, subst, ◌∙◌, arith}
-use Rattle.std.specs.Int.{w32, w64, to_le_bytes, from_le_bytes}
+use Rattle.std.proofs.Common.{◌≡◌, ℕ, ◌+◌, ◌^◌, ◌<◌, ◌≤◌, Bool, true, false, cond, ltb, List, ◌++◌, length, take, drop, Ok, refl, sym, ap, subst, ◌∙◌, arith}
 use Rattle.std.proofs.lemmas.Bool.{ltb-false, le-ltb}
 use Rattle.std.proofs.lemmas.List.{length-drop, length-take}
 use Rattle.std.proofs.lemmas.Nat.{le_bytes_4, le_bytes_8}
-use Rattle.byteorder.specs.Endian.{little_bytes, little_number}
+use Rattle.byteorder.specs.Endian.{little_number}
 use Rattle.byteorder.specs.Numbers.{little_from-take, little_from-lt, little_number-reads_back}
 use Rattle.fst_binary.specs.declared.fault.BinaryFault.{BinaryFault}
 use Rattle.fst_binary.specs.declared.fault.BinaryKind.{BinaryKind}
 use Rattle.fst_binary.specs.declared.fault.BinaryKind.TheVariants.{Short}
 use Rattle.fst_binary.specs.Spelling.{long, word}
-use Rattle.fst_binary.specs.Reading.{◌>>=◌, fault, number_at, number_where}
-use Rattle.fst_binary.proofs.Steps.{IsBytes, IsBytes-drop, IsBytes-take, Reads, Takes, Takes-front, bind_ok, done, ends_within, guard_ok, guard_passed, ok_is, past}
+use Rattle.fst_binary.specs.Reading.{fault, number_at, number_where}
+use Rattle.fst_binary.proofs.Steps.{IsBytes, IsBytes-drop, IsBytes-take, Reads, Takes, Takes-front, bind_ok, ends_within, guard_ok, guard_passed, ok_is, past}
 
 -- numbers of so many bytes, and how they are written
 pub record IsWide (width limit : ℕ) (make : ℕ → List ℕ) : Type 0 where

@@ -1,21 +1,19 @@
 -- Arcs and states that are read are those that stand there.
-use Rattle.std.proofs.Common.{◌≡◌, ℕ, zero, suc, ◌+◌, ◌^◌, ◌<◌, ◌≤◌, ◌≢◌, Bool, true, false, cond, ltb, leb, List, [], ◌∷◌, ◌++◌, length, drop, Result, Ok, Err, refl, sym, ap, subst, ◌∙◌, append_assoc, arith}
+use Rattle.std.proofs.Common.{◌≡◌, ℕ, zero, suc, ◌+◌, ◌^◌, ◌<◌, ◌≤◌, ◌≢◌, false, cond, ltb, leb, List, [], ◌∷◌, ◌++◌, length, drop, Result, Ok, Err, refl, sym, ap, subst, ◌∙◌, append_assoc, arith}
 use Rattle.std.specs.Result.{result_map_both}
 use Rattle.std.specs.List.{AllByRecursion, flat_map}
 use Rattle.std.proofs.lemmas.Bool.{le-leb, leb-true, lt-ltb, ltb-true}
-use Rattle.std.proofs.lemmas.List.{append-nil}
 use Rattle.std.proofs.lemmas.List.Sums.{sum_by-cons}
 use Rattle.fst_semiring.specs.declared.arc_type.ArcType.{ArcType}
 use Rattle.fst_semiring.specs.Cost.{Cost, best, finite, infinite}
-use Rattle.fst_machine.specs.Machine.{Arc, State, IsArc, arc_total, greatest_label, most_arcs}
+use Rattle.fst_machine.specs.Machine.{Arc, State, IsArc, arc_total, greatest_label}
 use Rattle.fst_binary.specs.declared.fault.BinaryFault.{BinaryFault}
 use Rattle.fst_binary.specs.declared.fault.BinaryKind.TheVariants.{BadCount, BadLabel, BadNext}
 use Rattle.fst_binary.specs.declared.fault.BinaryKind.TheVariants as kinds
-use Rattle.fst_binary.specs.declared.fault.WeightFieldFault.{WeightFieldFault}
 use Rattle.fst_binary.specs.Spelling.{HasField, arc_fields, long, state_fields, weight_field, word}
 use Rattle.fst_binary.specs.Reading.{◌>>=◌, arc_at, arc_weight_at, arcs_at, fault, field_fault, final_at, is_infinite, number_where, state_at, states_at, weight_at}
 use Rattle.fst_binary.proofs.Numbers.{longs, where_again, where_takes, words}
-use Rattle.fst_binary.proofs.Steps.{IsBytes, Reads, Takes, Takes-none, Takes-then, bind_ok, done, guard_ok, ok_is}
+use Rattle.fst_binary.proofs.Steps.{IsBytes, Reads, Takes, Takes-none, Takes-then, bind_ok, guard_ok, ok_is}
 use Rattle.fst_binary.proofs.WeightFields.{weight_again, weight_takes}
 
 -- ---- weights

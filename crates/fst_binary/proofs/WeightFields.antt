@@ -1,7 +1,7 @@
 -- Weight fields that are read are those that stand there.
-use Rattle.std.proofs.Common.{◌≡◌, ℕ, ℤ, pos, negsuc, T, zero, suc, ◌+◌, ◌*◌, ◌^◌, ◌<◌, ◌≤◌, ◌≤ℤ◌, neg_ℤ, int_le, Bool, true, false, ◌&&◌, cond, ltb, leb, eqb, List, [], ◌∷◌, ◌++◌, length, get_or, take, drop, slice_index, Result, Ok, Err, ◌⊎◌, inl, inr, refl, sym, ap, subst, ◌∙◌, append_assoc, w64, to_z, of_z, SFits, Fits, arith}
+use Rattle.std.proofs.Common.{◌≡◌, ℕ, ℤ, pos, negsuc, T, suc, ◌+◌, ◌*◌, ◌^◌, ◌<◌, ◌≤◌, ◌≤ℤ◌, int_le, Bool, true, false, ◌&&◌, cond, ltb, leb, eqb, List, [], ◌∷◌, ◌++◌, length, get_or, drop, slice_index, Ok, Err, ◌⊎◌, inl, inr, refl, sym, ap, subst, ◌∙◌, append_assoc, w64, to_z, of_z, SFits, arith}
 use Rattle.std.specs.List.{flat_map, list_all}
-use Rattle.std.proofs.Math.Facts.{Fits-of_z, of_z-to_z, sfits_to_z}
+use Rattle.std.proofs.Math.Facts.{Fits-of_z, of_z-to_z}
 use Rattle.std.proofs.lemmas.Int.{ints, to_z-of_z}
 use Rattle.std.proofs.lemmas.Bool.{eqb-true, leb-false, lt-leb, ltb-false, le-ltb}
 use Rattle.std.proofs.lemmas.List.{append-nil, get_or-drop, length-append}
@@ -10,13 +10,13 @@ use Rattle.byteorder.specs.Endian.{little_number}
 use Rattle.fst_semiring.specs.declared.arc_type.ArcType.{ArcType}
 use Rattle.fst_semiring.specs.declared.arc_type.ArcType.TheVariants.{Boolean, Tropical, MinMax, Lexicographic}
 use Rattle.fst_semiring.specs.Cost.{Cost, best, finite, infinite}
-use Rattle.fst_semiring.specs.Semiring.{IsCost, InRange, IsSmall}
+use Rattle.fst_semiring.specs.Semiring.{IsSmall}
 use Rattle.fst_binary.specs.declared.fault.WeightFieldFault.{WeightFieldFault}
 use Rattle.fst_binary.specs.declared.fault.WeightFieldFault.TheVariants as fields
 use Rattle.fst_binary.specs.Spelling.{HasField, long, numbers_of, signed, weight_field}
 use Rattle.fst_binary.specs.Reading.{cost_of_numbers, has_best, integer_at, integers_at, is_small, number_at, number_count, numbers_at, weight_at}
 use Rattle.fst_binary.proofs.Numbers.{longs, number_takes}
-use Rattle.fst_binary.proofs.Steps.{IsBytes, IsBytes-drop, IsBytes-take, Reads, Takes, Takes-front, Takes-none, Takes-then, done, ends_within, guard_ok, guard_passed, ok_is, past}
+use Rattle.fst_binary.proofs.Steps.{IsBytes, Reads, Takes, Takes-none, Takes-then, done, ends_within, guard_ok, guard_passed, ok_is, past}
 use Rattle.fst_binary.proofs.Lengths.{length-signed}
 use Rattle.fst_binary.proofs.Weights.{and_left, and_right, best_has_field, numbers_have_field}
 

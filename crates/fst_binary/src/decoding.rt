@@ -2,7 +2,9 @@
 
 ghost use Rattle.std.specs.Prelude.{◌≡◌, ◌≤◌, ◌<◌, ◌+◌, length, map, IfOk, IfSome, Ok, nat_le, nat_lt};
 ghost use Rattle.std.specs.Result.{result_map_both};
-ghost use Rattle.fst_machine.specs.Machine.{arc_total, greatest_label, most_arcs, most_states, valued, valued_arc, valued_state};
+ghost use Rattle.fst_semiring.specs.Cost.{Cost};
+ghost use Rattle.fst_machine.specs.Machine.{Machine, arc_total, greatest_label, most_arcs, most_states, valued, valued_arc, valued_state};
+ghost use Rattle.fst_binary.specs.Spelling.{HasSpelling, Spells};
 ghost use Rattle.fst_binary.specs.Reading.{Gives, arc_at, arc_type_of_bytes, arc_weight_at, arcs_at, final_at, is_infinite, machine_at, machine_of_bytes, number_where, state_at, states_at};
 
 use crate::fault::{BinaryFault, BinaryKind, WeightFieldFault, fault_at, short};
@@ -81,7 +83,11 @@ fn read_arc_weight<W: Weight>(bytes: &[u8], at: usize) -> Result<(W, usize), Bin
 
 /// An arc of a machine with so many states, and the offset behind it.
 #[tactic(auto, unfolding(crate::specs::Reading::arc_at))]
-fn read_arc<W: Weight>(bytes: &[u8], at: usize, states: u32) -> Result<(FstArc<W>, usize), BinaryFault>
+fn read_arc<W: Weight>(
+    bytes: &[u8],
+    at: usize,
+    states: u32,
+) -> Result<(FstArc<W>, usize), BinaryFault>
     requires { at ≤ length bytes.now }
     ensures value { result_map_both (λ x. (valued_arc W.value x.0, x.1)) (λ e. e) result ≡ arc_at W.KIND states bytes.now at }
     ensures behind { IfOk result (λ x. x.1 ≤ length bytes.now) }
@@ -134,7 +140,12 @@ struct StateRead<W> {
 /// The number of arcs of a state, which with those of the states before are at most so many, and the offset
 /// behind it.
 #[tactic(auto, unfolding(crate::specs::Reading::number_where))]
-fn read_arc_count(bytes: &[u8], at: usize, arcs: u32, before: u32) -> Result<(u64, usize), BinaryFault>
+fn read_arc_count(
+    bytes: &[u8],
+    at: usize,
+    arcs: u32,
+    before: u32,
+) -> Result<(u64, usize), BinaryFault>
     requires behind { at ≤ length bytes.now }
     requires before { before ≤ arcs }
     ensures value { result ≡ number_where (λ n. nat_le (before + n) arcs) BinaryKind.BadCount 8 bytes.now at }
@@ -213,13 +224,26 @@ fn read_machine<W: Weight>(
     Ok(states.into_machine(header.start))
 }
 
-/// The machine whose bytes these are, or their first fault. Space is reserved for no more than the bytes can
-/// hold, whatever a count says.
-pub fn decode<W: Weight>(alloc: Global, bytes: &[u8]) -> Result<Fst<W>, BinaryFault>
+/// The machine of bytes whose arc type is that of the weight.
+fn read_whole<W: Weight>(alloc: Global, bytes: &[u8]) -> Result<Fst<W>, BinaryFault>
     requires { arc_type_of_bytes bytes.now ≡ Ok W.KIND }
-    ensures exact { Gives (λ m. valued W.value m) result (machine_of_bytes W.KIND bytes.now) }
+    ensures { Gives (λ m. valued W.value m) result (machine_of_bytes W.KIND bytes.now) }
 {
     let (_, behind) = read_types(bytes)?;
     let header = read_header(bytes, behind)?;
     read_machine(alloc, bytes, header)
+}
+
+/// The machine whose bytes these are, or their first fault. `arc_type` of the bytes has to be the arc type of
+/// the weight. Space is reserved for no more than the bytes can hold, whatever a count says.
+pub fn decode<W: Weight>(alloc: Global, bytes: &[u8]) -> Result<Fst<W>, BinaryFault>
+    requires { arc_type_of_bytes bytes.now ≡ Ok W.KIND }
+    // What is read is spelled so.
+    ensures found { IfOk result (λ m. Spells W.KIND bytes.now (valued W.value m) × HasSpelling W.KIND (valued W.value m)) }
+    // What is spelled so is read, unless memory runs out.
+    ensures only { (m : Machine Cost) → HasSpelling W.KIND m → Spells W.KIND bytes.now m → Gives (λ m. valued W.value m) result (Ok m) }
+    // Which fault it is.
+    ensures exact { Gives (λ m. valued W.value m) result (machine_of_bytes W.KIND bytes.now) }
+{
+    read_whole(alloc, bytes)
 }

@@ -1,6 +1,6 @@
-use Rattle.std.proofs.Common.{◌≡◌, ◌++◌, ◌∷◌, [], map, length, inr, sym, arith}
+use Rattle.std.proofs.Common.{◌≡◌, ◌++◌, ◌∷◌, [], map, inr, sym, arith}
 use Rattle.std.proofs.lemmas.Result.{err_from_is_err_and}
-use Rattle.std.proofs.lemmas.List.{map_push, length-append}
+use Rattle.std.proofs.lemmas.List.{map_push}
 use Rattle.fst_machine.specs.Machine.{valued_arc}
 use Rattle.fst_binary.specs.Reading.{arcs_at}
 use Rattle.fst_binary.proofs.Lengths.{length_push}

@@ -1,11 +1,10 @@
-use Rattle.std.proofs.Common.{◌≡◌, ◌+◌, ◌++◌, ◌∷◌, [], map, length, sym, ap, ◌∙◌, subst, ℕ, arith}
+use Rattle.std.proofs.Common.{◌≡◌, ◌+◌, ◌++◌, ◌∷◌, [], map, length, ap, ◌∙◌, arith}
 use Rattle.std.proofs.lemmas.Result.{err_from_is_err_and}
 use Rattle.std.proofs.lemmas.List.{map_push, length-map}
 use Rattle.std.proofs.lemmas.List.Sums.{sum_by_push}
-use Rattle.fst_semiring.specs.Cost.{Cost}
 use Rattle.fst_machine.specs.Machine.{State, arc_total, valued_arc, valued_state}
 use Rattle.fst_binary.specs.Reading.{states_at}
-use Rattle.fst_binary.proofs.Loops.{states_fail, states_go_on, states_are_read, with_front}
+use Rattle.fst_binary.proofs.Loops.{states_fail, states_go_on, states_are_read}
 use Rattle.fst_binary.proofs.decoding.read_states.Goals as goal
 
 pub returns-in_err-state-clause-value : goal.returns-in_err-state-clause-value
