@@ -9,4 +9,6 @@ pub mod States
 pub mod Headers
 pub mod Decoded
 pub mod Machines
+pub mod Encoded
+pub mod Values
 pub mod Weights

@@ -1,9 +1,10 @@
 -- Going over a list and writing each item: what is left, and how long it is.
-use Rattle.std.proofs.Common.{◌≡◌, ℕ, zero, suc, ◌+◌, ◌<◌, ◌≤◌, List, [], ◌∷◌, ◌++◌, map, length, get_or, drop, Some, refl, sym, ap, subst, ◌∙◌, append_assoc, arith}
+use Rattle.std.proofs.Common.{◌≡◌, ℕ, zero, suc, ◌+◌, ◌<◌, ◌≤◌, List, [], ◌∷◌, ◌++◌, map, length, get_or, drop, take, All, Some, refl, sym, ap, subst, ◌∙◌, append_assoc, arith}
 use Rattle.std.specs.Prelude.{slice_get}
 use Rattle.std.specs.Option.{option_map}
 use Rattle.std.specs.List.{flat_map}
 use Rattle.std.proofs.lemmas.List.{length-append, length-map}
+use Rattle.std.proofs.lemmas.List.Elements.{All-more}
 use Rattle.std.proofs.lemmas.List.Sums.{sum_by-cons}
 use Rattle.fst_semiring.specs.Cost.{Cost}
 use Rattle.fst_machine.specs.Machine.{Arc, State, arc_total, valued_arc, valued_state}
@@ -65,3 +66,20 @@ arc_total-valued value (s ∷ states) =
     let rest = arc_total-valued value states in
     let same = length-map s.arcs (valued_arc value) in
     omega (arith, all, own, rest, same)
+
+-- a state that is known by its two parts stands in its place
+state_stands : {V : Type 0} (states : List (State V)) (i : ℕ) (last : V) (arcs : List (Arc V ℕ)) → option_map (λ s. s.final) (slice_get states i) ≡ Some last → option_map (λ s. s.arcs) (slice_get states i) ≡ Some arcs → (d : State V) → (i < length states) × (get_or states i d ≡ record { final = last; arcs = arcs })
+state_stands [] i last arcs f a d = absurd cc
+state_stands (s ∷ states) zero last arcs f a d = (omega arith, rw (← some_is _ _ f, ← some_is _ _ a) refl)
+state_stands (s ∷ states) (suc i) last arcs f a d = let rest = state_stands states i last arcs f a d in (omega (arith, rest.0), rest.1)
+
+-- what holds of the states so far, and of one more
+pub state_more : {V : Type 0} (P : State V → Type 0) (states : List (State V)) (i : ℕ) (last : V) (arcs : List (Arc V ℕ)) → option_map (λ s. s.final) (slice_get states i) ≡ Some last → option_map (λ s. s.arcs) (slice_get states i) ≡ Some arcs → All P (take i states) → P (record { final = last; arcs = arcs }) → All P (take (i + 1) states)
+state_more {V} P states i last arcs f a so_far own =
+    let s : State V = record { final = last; arcs = arcs } in
+    let stands = state_stands states i last arcs f a s in
+    All-more P states i s stands.0 so_far (subst P (sym stands.1) own)
+
+-- the same of an item
+pub item_more : {X : Type 0} (P : X → Type 0) (xs : List X) (i : ℕ) (x : X) → i < length xs → x ≡ get_or xs i x → All P (take i xs) → P x → All P (take (i + 1) xs)
+item_more P xs i x within e so_far own = All-more P xs i x within so_far (subst P e own)

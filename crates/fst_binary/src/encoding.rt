@@ -1,9 +1,10 @@
 //! Writing the binary form.
 
-ghost use Rattle.std.specs.Prelude.{◌≡◌, ◌≤◌, ◌++◌, ◌∷◌, [], ◌+◌, ◌*◌, ◌<◌, length, map, take, drop, vec_capacity, IfOk, sum_by};
+ghost use Rattle.std.specs.Prelude.{◌≡◌, ◌≤◌, ◌++◌, ◌∷◌, [], ◌+◌, ◌*◌, ◌<◌, length, map, take, drop, vec_capacity, All, Contains, IfOk, Ok, sum_by};
 ghost use Rattle.std.specs.List.{flat_map};
 ghost use Rattle.fst_machine.specs.Machine.{valued, valued_arc, valued_state};
-ghost use Rattle.fst_binary.specs.Spelling.{arc_fields, count_fields, name_of, spelling, start_number, state_fields, text, type_fields, word};
+ghost use Rattle.fst_binary.specs.Reading.{arc_type_of_bytes, known, machine_of_bytes};
+ghost use Rattle.fst_binary.specs.Spelling.{HasField, HasSpelling, arc_fields, count_fields, name_of, spelling, start_number, state_fields, text, type_fields, word};
 
 use crate::append::{append, append_long, append_signed, append_word};
 use crate::weight_field::{append_weight, weight_length};
@@ -16,6 +17,7 @@ fn arcs_length<W: Weight>(arcs: &[FstArc<W>]) -> usize
     requires { length arcs.now ≤ 33554432 }
     ensures value { result ≡ length (flat_map (arc_fields W.KIND) (map (valued_arc W.value) arcs.now)) }
     ensures bound { result ≤ 29 * length arcs.now }
+    ensures fits { All (λ a. HasField W.KIND (W.value a.weight)) arcs.now }
 {
     let mut len = 0;
     for arc in arcs {
@@ -28,6 +30,7 @@ fn arcs_length<W: Weight>(arcs: &[FstArc<W>]) -> usize
 fn states_length<W: Weight>(fst: &Fst<W>) -> usize
     ensures value { result ≡ length (flat_map (state_fields W.KIND) (map (valued_state W.value) fst.now.states)) }
     ensures bound { result ≤ 1077936128 }
+    ensures fits { HasSpelling W.KIND (valued W.value fst.now) }
 {
     let mut len = 0;
     for state in 0..fst.states() {
@@ -147,14 +150,30 @@ fn append_counts<W: Weight>(out: &mut Vec<u8>, fst: &Fst<W>)
     append_long(out, u64::from(fst.arc_count()));
 }
 
-/// The bytes of a machine. Their exact number is reserved at first, and nothing fails after that.
-pub fn encode<W: Weight>(alloc: Global, fst: &Fst<W>) -> Result<Vec<u8>, AllocError>
-    ensures { IfOk result (λ bytes. bytes.items ≡ spelling W.KIND (valued W.value fst.now)) }
+/// The bytes of a machine, which has a spelling.
+fn write_whole<W: Weight>(alloc: Global, fst: &Fst<W>) -> Result<Vec<u8>, AllocError>
+    ensures spelled { IfOk result (λ bytes. bytes.items ≡ spelling W.KIND (valued W.value fst.now)) }
+    ensures fits { HasSpelling W.KIND (valued W.value fst.now) }
 {
-    let mut out = Vec::with_capacity(alloc, header_length(W::KIND) + states_length(fst))?;
+    let states = states_length(fst);
+    let mut out = Vec::with_capacity(alloc, header_length(W::KIND) + states)?;
     append_types(&mut out, W::KIND);
     append_long(&mut out, 3);
     append_counts(&mut out, fst);
     append_states(&mut out, fst);
     Ok(out)
+}
+
+/// The bytes of a machine. Their exact number is reserved at first, and nothing fails after that.
+pub fn encode<W: Weight>(alloc: Global, fst: &Fst<W>) -> Result<Vec<u8>, AllocError>
+    // They are the spelling of the machine,
+    ensures spelled { IfOk result (λ bytes. bytes.items ≡ spelling W.KIND (valued W.value fst.now)) }
+    // they are read as the machine again,
+    ensures again { IfOk result (λ bytes. machine_of_bytes W.KIND bytes.items ≡ Ok (valued W.value fst.now)) }
+    // and their arc type is that of the weight.
+    ensures named { IfOk result (λ bytes. Contains known W.KIND → arc_type_of_bytes bytes.items ≡ Ok W.KIND) }
+    // Each machine has a spelling.
+    ensures fits { HasSpelling W.KIND (valued W.value fst.now) }
+{
+    write_whole(alloc, fst)
 }

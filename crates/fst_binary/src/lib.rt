@@ -9,6 +9,7 @@ mod decoding;
 mod encoding;
 mod fault;
 mod header;
+mod laws;
 mod number;
 mod weight_field;
 
@@ -16,4 +17,5 @@ pub use decoding::decode;
 pub use encoding::encode;
 pub use fault::{BinaryFault, BinaryKind, WeightFieldFault};
 pub use header::arc_type;
+pub use laws::{no_spelling_goes_on, spelling_is_read, values_tell_machines};
 pub use weight_field::{push_weight_field, read_weight_field};

@@ -158,6 +158,7 @@ pub fn read_weight_field<W: Weight>(
 pub(crate) fn weight_length<W: Weight>(weight: W) -> usize
     ensures value { result ≡ length (weight_field W.KIND (W.value weight)) }
     ensures bound { result ≤ LONGEST }
+    ensures fits { HasField W.KIND (W.value weight) }
 {
     let key = W::key(weight.widen());
     if key.class == 1 {
