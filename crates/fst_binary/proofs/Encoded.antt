@@ -1,5 +1,5 @@
 -- What is encoded has a spelling.
-use Rattle.std.proofs.Common.{◌≡◌, ℕ, ◌≤◌, ◌<◌, List, [], ◌∷◌, ◌++◌, length, map, Option, Ok, Err, Some, All, Bool, true, false, cond, eqb, Result, refl, sym, ap, subst, ◌∙◌, ◌||◌, zero, suc, get_or, append_assoc, arith}
+use Rattle.std.proofs.Common.{◌≡◌, ℕ, ◌<◌, List, [], ◌∷◌, ◌++◌, length, map, Option, Ok, Err, Some, All, Bool, true, false, cond, eqb, Result, refl, sym, ap, subst, ◌∙◌, ◌||◌, zero, suc, get_or, append_assoc, arith}
 use Rattle.std.specs.Prelude.{Contains, IfOk, IfSome, bytes_eq}
 use Rattle.std.specs.List.{AllByRecursion, find, flat_map, list_any}
 use Rattle.std.proofs.lemmas.Bool.{eq-eqb}
@@ -9,9 +9,9 @@ use Rattle.std.proofs.lemmas.List.Elements.{All-from_recursion, recursion_from_A
 use Rattle.fst_semiring.specs.declared.arc_type.ArcType.{ArcType}
 use Rattle.fst_semiring.specs.declared.arc_type.ArcType.TheVariants.{Boolean, Tropical, MinMax, Lexicographic}
 use Rattle.fst_semiring.specs.Cost.{Cost}
-use Rattle.fst_machine.specs.Machine.{Arc, State, Machine, IsArc, IsMachine, arc_total, valued, valued_arc, valued_state}
+use Rattle.fst_machine.specs.Machine.{Arc, State, Machine, IsArc, IsMachine, valued, valued_arc, valued_state}
 use Rattle.fst_binary.specs.Spelling.{HasField, HasSpelling, count_fields, long, name_of, spelling, state_fields, type_fields, word}
-use Rattle.fst_binary.specs.Reading.{◌>>=◌, arc_type_of_bytes, known, machine_of_bytes, types_at}
+use Rattle.fst_binary.specs.Reading.{arc_type_of_bytes, known, machine_of_bytes}
 use Rattle.fst_binary.proofs.Headers.{IsNamed, types_again}
 use Rattle.fst_binary.proofs.Lengths.{length-long}
 use Rattle.fst_binary.proofs.Lists.{arc_total-valued}

@@ -1,5 +1,7 @@
 -- Weight fields that are read are those that stand there.
-use Rattle.std.proofs.Common.{◌≡◌, ℕ, ℤ, pos, negsuc, T, suc, ◌+◌, ◌*◌, ◌^◌, ◌<◌, ◌≤◌, ◌≤ℤ◌, int_le, Bool, true, false, ◌&&◌, cond, ltb, leb, eqb, List, [], ◌∷◌, ◌++◌, length, get_or, drop, slice_index, Ok, Err, ◌⊎◌, inl, inr, refl, sym, ap, subst, ◌∙◌, append_assoc, w64, to_z, of_z, SFits, arith}
+use Rattle.std.proofs.Common.{Result, ◌≡◌, ℕ, ℤ, pos, negsuc, T, suc, ◌+◌, ◌*◌, ◌^◌, ◌<◌, ◌≤◌, ◌≤ℤ◌, int_le, Bool, true, false, ◌&&◌, cond, ltb, leb, eqb, List, [], ◌∷◌, ◌++◌, length, get_or, drop, slice_index, Ok, Err, ◌⊎◌, inl, inr, refl, sym, ap, subst, ◌∙◌, append_assoc, w64, to_z, of_z, SFits, arith}
+use Rattle.std.specs.Prelude.{IfOk, IsOkAnd}
+use Rattle.std.specs.Result.{result_map_both}
 use Rattle.std.specs.List.{flat_map, list_all}
 use Rattle.std.proofs.Math.Facts.{Fits-of_z, of_z-to_z}
 use Rattle.std.proofs.lemmas.Int.{ints, to_z-of_z}
@@ -176,3 +178,23 @@ weight_again kind bytes at (finite a b) rest within fits e =
     let ends = ends_within bytes (at + 1) numbers rest begins behind in
     let whole : ltb (length bytes) (at + 1 + 8 * number_count kind) ≡ false = le-ltb _ _ (omega (arith, ends, n.2)) in
     record { next = at + 1 + 8 * number_count kind; gives = rw (t.0, t.1, whole, n.1, n.0) refl; left = past bytes (at + 1) numbers rest (8 * number_count kind) n.2 behind; within = omega (arith, ends, n.2) }
+
+-- ---- the same of what a function returned
+
+pub is_found : {W : Type 0} (value : W → Cost) (kind : ArcType) (bytes : List ℕ) (at : ℕ) (result : Result (W × ℕ) WeightFieldFault) → IsBytes bytes → result_map_both (λ (x : W × ℕ). (value x.0, x.1)) (λ e. e) result ≡ weight_at kind bytes at
+    → IfOk result (λ x. drop at bytes ≡ weight_field kind (value x.0) ++ drop x.1 bytes)
+is_found value kind bytes at (Ok x) fits e = (weight_takes kind bytes at (value x.0) x.1 fits (sym e)).0.parts
+is_found value kind bytes at (Err f) fits e = tt
+
+err_not_ok : {A E : Type 0} (d : E) (y : A) → Err d ≡ done {A = A} {E = E} y → ⊥
+err_not_ok d y e = absurd cc
+
+pub is_only : {W : Type 0} (value : W → Cost) (kind : ArcType) (bytes : List ℕ) (at : ℕ) (result : Result (W × ℕ) WeightFieldFault) → at ≤ length bytes → result_map_both (λ (x : W × ℕ). (value x.0, x.1)) (λ e. e) result ≡ weight_at kind bytes at
+    → (v : Cost) (rest : List ℕ) → HasField kind v → drop at bytes ≡ weight_field kind v ++ rest → IsOkAnd result (λ x. (value x.0 ≡ v) × (drop x.1 bytes ≡ rest))
+is_only value kind bytes at (Ok x) within given v rest fits e =
+    let r = weight_again kind bytes at v rest within fits e in
+    let same = ok_is {A = Cost × ℕ} {E = WeightFieldFault} (value x.0, x.1) (v, r.next) (given ∙ r.gives) in
+    (ap (λ (p : Cost × ℕ). p.0) same, ap (λ (p : Cost × ℕ). drop p.1 bytes) same ∙ r.left)
+is_only value kind bytes at (Err f) within given v rest fits e =
+    let r = weight_again kind bytes at v rest within fits e in
+    absurd (err_not_ok f (v, r.next) (given ∙ r.gives))

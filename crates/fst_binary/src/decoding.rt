@@ -10,7 +10,7 @@ ghost use Rattle.fst_binary.specs.Reading.{Gives, arc_at, arc_type_of_bytes, arc
 use crate::fault::{BinaryFault, BinaryKind, WeightFieldFault, fault_at, short};
 use crate::header::{Header, read_header, read_types};
 use crate::number::{read_count, read_word};
-use crate::weight_field::read_weight_field;
+use crate::weight_field::read_field;
 use fst_machine::{Fst, FstArc, MOST_LABEL, StateList};
 use fst_semiring::Weight;
 use std::alloc::Global;
@@ -53,7 +53,7 @@ fn read_final<W: Weight>(bytes: &[u8], at: usize) -> Result<(W, usize), BinaryFa
     ensures value { result_map_both (λ x. (W.value x.0, x.1)) (λ e. e) result ≡ final_at W.KIND bytes.now at }
     ensures behind { IfOk result (λ x. x.1 ≤ length bytes.now) }
 {
-    match read_weight_field(bytes, at) {
+    match read_field(bytes, at) {
         Ok(read) => Ok(read),
         Err(WeightFieldFault::Short) => Err(short(bytes)),
         Err(WeightFieldFault::BadWeight) => Err(fault_at(at, BinaryKind::BadWeight)),

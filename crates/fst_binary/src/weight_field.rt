@@ -1,10 +1,10 @@
 //! Weight fields: a tag and the numbers behind it.
 
-ghost use Rattle.std.specs.Prelude.{◌≡◌, ◌≤◌, ◌++◌, ◌+◌, ◌*◌, ◌&&◌, length, take, pos, Some, None, vec_capacity, IfOk, OnOk, OnErr, if◌then◌else◌};
+ghost use Rattle.std.specs.Prelude.{◌≡◌, ◌≤◌, ◌++◌, ◌+◌, ◌*◌, ◌&&◌, length, drop, ℕ, List, IsOkAnd, Some, None, vec_capacity, IfOk, OnOk, OnErr, if◌then◌else◌};
 ghost use Rattle.std.specs.Option.{option_map};
 ghost use Rattle.std.specs.List.{list_all};
 ghost use Rattle.std.specs.Result.{result_map_both};
-ghost use Rattle.fst_semiring.specs.Cost.{best, finite, class_of, first_of, second_of};
+ghost use Rattle.fst_semiring.specs.Cost.{Cost, best, finite, class_of, first_of, second_of};
 ghost use Rattle.fst_semiring.specs.Keys.{key_of};
 ghost use Rattle.fst_binary.specs.Spelling.{HasField, weight_field};
 ghost use Rattle.fst_binary.specs.Reading.{cost_of_numbers, has_best, integer_at, integers_at, is_small, number_count, numbers_at, weight_at};
@@ -129,9 +129,9 @@ fn best_weight<W: Weight>() -> Option<W>
     W::from_key(key)
 }
 
-/// The weight whose field begins at an offset, and the offset behind the field. Takes no memory.
+/// The weight of the field at an offset, and the offset behind it.
 #[tactic(auto, unfolding(crate::specs::Reading::weight_at))]
-pub fn read_weight_field<W: Weight>(
+pub(crate) fn read_field<W: Weight>(
     bytes: &[u8],
     offset: usize,
 ) -> Result<(W, usize), WeightFieldFault>
@@ -152,6 +152,23 @@ pub fn read_weight_field<W: Weight>(
         },
         _ => Err(WeightFieldFault::BadWeight),
     }
+}
+
+/// The weight whose field begins at an offset, and the offset behind the field. Takes no memory.
+pub fn read_weight_field<W: Weight>(
+    bytes: &[u8],
+    offset: usize,
+) -> Result<(W, usize), WeightFieldFault>
+    requires { offset ≤ length bytes.now }
+    // What is read stands there.
+    ensures found { IfOk result (λ x. drop offset bytes.now ≡ weight_field W.KIND (W.value x.0) ++ drop x.1 bytes.now) }
+    // What stands there is read.
+    ensures only { (v : Cost) (rest : List ℕ) → HasField W.KIND v → drop offset bytes.now ≡ weight_field W.KIND v ++ rest → IsOkAnd result (λ x. (W.value x.0 ≡ v) × (drop x.1 bytes.now ≡ rest)) }
+    // Which fault it is.
+    ensures exact { result_map_both (λ x. (W.value x.0, x.1)) (λ e. e) result ≡ weight_at W.KIND bytes.now offset }
+    ensures behind { IfOk result (λ x. x.1 ≤ length bytes.now) }
+{
+    read_field(bytes, offset)
 }
 
 /// How many bytes the field of a weight takes.
