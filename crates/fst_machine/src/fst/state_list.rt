@@ -65,11 +65,10 @@ impl<W: Weight> StateList<W> {
     }
 
     /// The number of arcs of all states together. Takes no memory.
-    pub fn arc_count(&self) -> u32
-        requires { arc_total self.now ≤ most_arcs }
+    pub fn arc_count(&self) -> usize
         ensures { result ≡ arc_total self.now }
     {
-        self.store.len() as u32
+        self.store.len()
     }
 
     /// The machine with these states and this start. Takes no memory.

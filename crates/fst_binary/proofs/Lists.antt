@@ -1,0 +1,85 @@
+-- Going over a list and writing each item: what is left, and how long it is.
+use Rattle.std.proofs.Common.{◌≡◌, ℕ, zero, suc, ◌+◌, ◌<◌, ◌≤◌, List, [], ◌∷◌, ◌++◌, map, length, get_or, drop, take, All, Some, refl, sym, ap, subst, ◌∙◌, append_assoc, arith}
+use Rattle.std.specs.Prelude.{slice_get}
+use Rattle.std.specs.Option.{option_map}
+use Rattle.std.specs.List.{flat_map}
+use Rattle.std.proofs.lemmas.List.{length-append, length-map}
+use Rattle.std.proofs.lemmas.List.Elements.{All-more}
+use Rattle.std.proofs.lemmas.List.Sums.{sum_by-cons}
+use Rattle.fst_semiring.specs.Cost.{Cost}
+use Rattle.fst_machine.specs.Machine.{Arc, State, arc_total, valued_arc, valued_state}
+
+some_is : {X : Type 0} (x y : X) → Some x ≡ Some y → x ≡ y
+some_is x y e = cc
+
+-- what is left of a list from a place on is the item there and the rest
+item_and_rest : {X Y : Type 0} (f : X → Y) (xs : List X) (i : ℕ) (x : X) → i < length xs → x ≡ get_or xs i x → drop i (map f xs) ≡ f x ∷ drop (suc i) (map f xs)
+item_and_rest f [] i x within e = absurd (omega arith)
+item_and_rest f (x ∷ xs) zero y within e = ap (λ z. f z ∷ map f xs) (sym e)
+item_and_rest f (x ∷ xs) (suc i) y within e = item_and_rest f xs i y (omega arith) e
+
+pub item_left : {X Y : Type 0} (f : X → Y) (xs : List X) (i : ℕ) (x : X) → i < length xs → x ≡ get_or xs i x → drop i (map f xs) ≡ f x ∷ drop (i + 1) (map f xs)
+item_left f xs i x within e =
+    let next : suc i ≡ i + 1 = omega arith in
+    subst (λ (j : ℕ). drop i (map f xs) ≡ f x ∷ drop j (map f xs)) next (item_and_rest f xs i x within e)
+
+-- the same of a state that is known by its two parts
+state_and_rest : {V : Type 0} (value : V → Cost) (states : List (State V)) (i : ℕ) (last : V) (arcs : List (Arc V ℕ)) → option_map (λ s. s.final) (slice_get states i) ≡ Some last → option_map (λ s. s.arcs) (slice_get states i) ≡ Some arcs
+    → drop i (map (valued_state value) states) ≡ record { final = value last; arcs = map (valued_arc value) arcs } ∷ drop (suc i) (map (valued_state value) states)
+state_and_rest value [] i last arcs f a = absurd cc
+state_and_rest value (s ∷ states) zero last arcs f a = rw (← some_is _ _ f, ← some_is _ _ a) refl
+state_and_rest value (s ∷ states) (suc i) last arcs f a = state_and_rest value states i last arcs f a
+
+pub state_left : {V : Type 0} (value : V → Cost) (states : List (State V)) (i : ℕ) (last : V) (arcs : List (Arc V ℕ)) → option_map (λ s. s.final) (slice_get states i) ≡ Some last → option_map (λ s. s.arcs) (slice_get states i) ≡ Some arcs
+    → drop i (map (valued_state value) states) ≡ record { final = value last; arcs = map (valued_arc value) arcs } ∷ drop (i + 1) (map (valued_state value) states)
+state_left value states i last arcs f a =
+    let next : suc i ≡ i + 1 = omega arith in
+    subst (λ (j : ℕ). drop i (map (valued_state value) states) ≡ record { final = value last; arcs = map (valued_arc value) arcs } ∷ drop j (map (valued_state value) states)) next (state_and_rest value states i last arcs f a)
+
+-- an item is written, and what is left of the list stays to be written
+pub item_written : {Y : Type 0} (f : Y → List ℕ) (out : List ℕ) (y : Y) (ys rest : List Y) (whole : List ℕ) → rest ≡ y ∷ ys → out ++ flat_map f rest ≡ whole → (out ++ f y) ++ flat_map f ys ≡ whole
+item_written f out y ys rest whole e h = append_assoc out (f y) (flat_map f ys) ∙ ap (λ zs. out ++ flat_map f zs) (sym e) ∙ h
+
+-- there is room for an item where there is room for all
+pub item_fits : {Y : Type 0} (f : Y → List ℕ) (out : List ℕ) (y : Y) (ys rest : List Y) (whole : List ℕ) (room : ℕ) → rest ≡ y ∷ ys → out ++ flat_map f rest ≡ whole → length whole ≤ room → length out + length (f y) ≤ room
+item_fits f out y ys rest whole room e h fits =
+    let n : length whole ≡ length (out ++ f y) + length (flat_map f ys) = ap length (sym (item_written f out y ys rest whole e h)) ∙ length-append (out ++ f y) (flat_map f ys) in
+    let m = length-append out (f y) in
+    omega (arith, n, m, fits)
+
+-- an item is counted, and what is left of the list stays to be counted
+pub item_counted : {Y : Type 0} (f : Y → List ℕ) (n : ℕ) (y : Y) (ys rest : List Y) (total : ℕ) → rest ≡ y ∷ ys → n + length (flat_map f rest) ≡ total → (n + length (f y)) + length (flat_map f ys) ≡ total
+item_counted f n y ys rest total e h =
+    let all : length (flat_map f rest) ≡ length (f y) + length (flat_map f ys) = ap (λ zs. length (flat_map f zs)) e ∙ length-append (f y) (flat_map f ys) in
+    omega (arith, all, h)
+
+-- the arcs of a state and of the rest
+pub arcs_left : (s : State Cost) (rest states : List (State Cost)) → states ≡ s ∷ rest → arc_total states ≡ length s.arcs + arc_total rest
+arcs_left s rest states e = ap arc_total e ∙ sum_by-cons (λ (t : State Cost). length t.arcs) s rest
+
+-- the values of weights are as many as the weights
+pub arc_total-valued : {V : Type 0} (value : V → Cost) (states : List (State V)) → arc_total (map (valued_state value) states) ≡ arc_total states
+arc_total-valued value [] = refl
+arc_total-valued value (s ∷ states) =
+    let all = sum_by-cons (λ (t : State Cost). length t.arcs) (valued_state value s) (map (valued_state value) states) in
+    let own = sum_by-cons (λ t. length t.arcs) s states in
+    let rest = arc_total-valued value states in
+    let same = length-map s.arcs (valued_arc value) in
+    omega (arith, all, own, rest, same)
+
+-- a state that is known by its two parts stands in its place
+state_stands : {V : Type 0} (states : List (State V)) (i : ℕ) (last : V) (arcs : List (Arc V ℕ)) → option_map (λ s. s.final) (slice_get states i) ≡ Some last → option_map (λ s. s.arcs) (slice_get states i) ≡ Some arcs → (d : State V) → (i < length states) × (get_or states i d ≡ record { final = last; arcs = arcs })
+state_stands [] i last arcs f a d = absurd cc
+state_stands (s ∷ states) zero last arcs f a d = (omega arith, rw (← some_is _ _ f, ← some_is _ _ a) refl)
+state_stands (s ∷ states) (suc i) last arcs f a d = let rest = state_stands states i last arcs f a d in (omega (arith, rest.0), rest.1)
+
+-- what holds of the states so far, and of one more
+pub state_more : {V : Type 0} (P : State V → Type 0) (states : List (State V)) (i : ℕ) (last : V) (arcs : List (Arc V ℕ)) → option_map (λ s. s.final) (slice_get states i) ≡ Some last → option_map (λ s. s.arcs) (slice_get states i) ≡ Some arcs → All P (take i states) → P (record { final = last; arcs = arcs }) → All P (take (i + 1) states)
+state_more {V} P states i last arcs f a so_far own =
+    let s : State V = record { final = last; arcs = arcs } in
+    let stands = state_stands states i last arcs f a s in
+    All-more P states i s stands.0 so_far (subst P (sym stands.1) own)
+
+-- the same of an item
+pub item_more : {X : Type 0} (P : X → Type 0) (xs : List X) (i : ℕ) (x : X) → i < length xs → x ≡ get_or xs i x → All P (take i xs) → P x → All P (take (i + 1) xs)
+item_more P xs i x within e so_far own = All-more P xs i x within so_far (subst P e own)

@@ -1,0 +1,78 @@
+-- Names that are read are those that stand there.
+use Rattle.std.proofs.Common.{◌≡◌, ℕ, ◌+◌, ◌^◌, ◌<◌, ◌≤◌, Bool, true, false, cond, ltb, eqb, List, [], ◌∷◌, ◌++◌, length, take, drop, Option, Some, None, Ok, refl, sym, ap, subst, ◌∙◌, append_assoc, arith}
+use Rattle.std.specs.Prelude.{bytes_eq}
+use Rattle.std.specs.Option.{ok_or}
+use Rattle.std.specs.List.{find, list_any}
+use Rattle.std.proofs.lemmas.Bool.{ltb-false, le-ltb}
+use Rattle.std.proofs.lemmas.List.{length-drop, length-take, take_at}
+use Rattle.std.proofs.lemmas.Slice.Eq.{bytes_eq-Decides}
+use Rattle.fst_binary.specs.declared.fault.BinaryFault.{BinaryFault}
+use Rattle.fst_binary.specs.declared.fault.BinaryKind.{BinaryKind}
+use Rattle.fst_binary.specs.declared.fault.BinaryKind.TheVariants.{Short}
+use Rattle.fst_binary.specs.Spelling.{text, word}
+use Rattle.fst_binary.specs.Reading.{◌>>=◌, named_at, number_where, part_at}
+use Rattle.fst_binary.proofs.Numbers.{where_again, where_takes, words}
+use Rattle.fst_binary.proofs.Steps.{IsBytes, Reads, Takes, Takes-front, Takes-then, bind_ok, done, ends_within, guard_ok, ok_is, past}
+
+part_takes : (count : ℕ) (bytes : List ℕ) (at : ℕ) (part : List ℕ) (next : ℕ) → part_at count bytes at ≡ Ok (part, next) → Takes bytes at part next × (length part ≡ count)
+unfolding part_at
+part_takes count bytes at part next e =
+    let g = guard_ok (ltb (length bytes) (at + count)) (Ok (take count (drop at bytes), at + count)) (record { offset = length bytes; kind = Short }) (part, next) e in
+    let whole : at + count ≤ length bytes = ltb-false _ _ g.0 in
+    let read : (take count (drop at bytes), at + count) ≡ (part, next) = ok_is {A = List ℕ × ℕ} {E = BinaryFault} _ _ g.1 in
+    let len : length (take count (drop at bytes)) ≡ count = omega (arith, length-take count (drop at bytes), length-drop at bytes, whole) in
+    subst (λ (p : List ℕ × ℕ). Takes bytes at p.0 p.1 × (length p.0 ≡ count)) read (Takes-front bytes at count whole, len)
+
+part_again : (bytes : List ℕ) (at : ℕ) (part rest : List ℕ) → at ≤ length bytes → drop at bytes ≡ part ++ rest → Reads bytes (part_at (length part) bytes at) part rest
+unfolding part_at
+part_again bytes at part rest within e =
+    let ends = ends_within bytes at part rest within e in
+    let whole : ltb (length bytes) (at + length part) ≡ false = le-ltb _ _ ends in
+    let value : take (length part) (drop at bytes) ≡ part = ap (take (length part)) e ∙ take_at part rest (length part) refl in
+    record { next = at + length part; gives = rw (whole, value) refl; left = past bytes at part rest (length part) refl e; within = ends }
+
+ok_or_is : {A E : Type 0} (o : Option A) (d : E) (y : A) → ok_or o d ≡ Ok y → o ≡ Some y
+ok_or_is None d y e = absurd cc
+ok_or_is (Some x) d y e = cc
+
+found_or_later : {A : Type 0} (test : A → Bool) (x y : A) (later : Option A) (b : Bool) → test x ≡ b → (later ≡ Some y → test y ≡ true) → cond b (Some x) later ≡ Some y → test y ≡ true
+found_or_later {A} test x y later true passes next e = let same : x ≡ y = cc in subst (λ (z : A). test z ≡ true) same passes
+found_or_later test x y later false fails next e = next e
+
+-- what is found passes the test
+found_passes : {A : Type 0} (test : A → Bool) (xs : List A) (y : A) → find test xs ≡ Some y → test y ≡ true
+found_passes test [] y e = absurd cc
+found_passes test (x ∷ xs) y e = found_or_later test x y (find test xs) (test x) refl (found_passes test xs y) e
+
+pub named_takes : {A : Type 0} (name : A → List ℕ) (known : List A) (kind : BinaryKind) (bytes : List ℕ) (at : ℕ) (x : A) (next : ℕ) → IsBytes bytes → named_at name known kind bytes at ≡ Ok (x, next) → Takes bytes at (text (name x)) next × ((test : A → Bool) × (find test known ≡ Some x))
+unfolding named_at
+named_takes {A} name known kind bytes at x next fits e =
+    let wrong : BinaryFault = record { offset = at; kind = kind } in
+    let named = λ (part : List ℕ × ℕ). ok_or (find (λ y. bytes_eq (name y) part.0) known) wrong >>= λ found. done {A = A × ℕ} {E = BinaryFault} (found, part.1) in
+    let b = bind_ok (number_where (λ n. list_any (λ y. eqb (length (name y)) n) known) kind 4 bytes at) (λ n. part_at n.0 bytes n.1 >>= named) (x, next) e in
+    let c = bind_ok (part_at b.0.0 bytes b.0.1) named (x, next) b.2 in
+    let d = bind_ok (ok_or (find (λ y. bytes_eq (name y) c.0.0) known) wrong) (λ found. Ok (found, c.0.1)) (x, next) c.2 in
+    let number = (where_takes (λ n. list_any (λ y. eqb (length (name y)) n) known) kind 4 (2 ^ 32) word words bytes at b.0.0 b.0.1 fits b.1).0 in
+    let part = part_takes b.0.0 bytes b.0.1 c.0.0 c.0.1 c.1 in
+    let found = ok_or_is _ wrong d.0 d.1 in
+    let is : name d.0 ≡ c.0.0 = (bytes_eq-Decides (name d.0) c.0.0).0 (found_passes (λ y. bytes_eq (name y) c.0.0) known d.0 found) in
+    let both : Takes bytes at (word b.0.0 ++ c.0.0) c.0.1 = Takes-then bytes at (word b.0.0) b.0.1 c.0.0 c.0.1 number part.0 in
+    let whole : Takes bytes at (text (name d.0)) c.0.1 = rw is (subst (λ (n : ℕ). Takes bytes at (word n ++ c.0.0) c.0.1) (sym part.1) both) in
+    subst (λ (p : A × ℕ). Takes bytes at (text (name p.0)) p.1 × ((test : A → Bool) × (find test known ≡ Some p.0))) (ok_is {A = A × ℕ} {E = BinaryFault} (d.0, c.0.1) (x, next) d.2) (whole, (λ y. bytes_eq (name y) c.0.0, found))
+
+pub named_again : {A : Type 0} (name : A → List ℕ) (known : List A) (kind : BinaryKind) (bytes : List ℕ) (at : ℕ) (x : A) (rest : List ℕ) → at ≤ length bytes → length (name x) < 2 ^ 32 → list_any (λ y. eqb (length (name y)) (length (name x))) known ≡ true → find (λ y. bytes_eq (name y) (name x)) known ≡ Some x
+    → drop at bytes ≡ text (name x) ++ rest → Reads bytes (named_at name known kind bytes at) x rest
+unfolding named_at
+named_again name known kind bytes at x rest within short has is e =
+    let apart : drop at bytes ≡ word (length (name x)) ++ (name x ++ rest) = e ∙ append_assoc (word (length (name x))) (name x) rest in
+    let number = where_again (λ n. list_any (λ y. eqb (length (name y)) n) known) kind 4 (2 ^ 32) word words bytes at (length (name x)) (name x ++ rest) within short has apart in
+    let part = part_again bytes number.next (name x) rest number.within number.left in
+    record { next = part.next; gives = rw (number.gives, part.gives, is) refl; left = part.left; within = part.within }
+
+found_only : {A : Type 0} (b : Bool) (k x : A) → cond b (Some k) None ≡ Some x → k ≡ x
+found_only true k x e = cc
+found_only false k x e = absurd cc
+
+-- of one thing that one is found
+pub found_alone : {A : Type 0} (test : A → Bool) (k x : A) → find test (k ∷ []) ≡ Some x → k ≡ x
+found_alone test k x e = found_only (test k) k x e

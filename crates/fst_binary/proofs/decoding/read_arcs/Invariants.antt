@@ -1,0 +1,13 @@
+use Rattle.std.proofs.Common.{◌≡◌, ◌≤◌, ◌-◌, length, map}
+use Rattle.fst_machine.specs.Machine.{valued_arc}
+use Rattle.fst_binary.specs.Reading.{arcs_at}
+use Rattle.fst_binary.proofs.Loops.{with_front}
+use Rattle.fst_binary.proofs.decoding.read_arcs.Given as goal
+
+abbrev pub invariant-loop : goal.invariant-loop
+invariant-loop g l =
+    record {
+      so_far : with_front (map (valued_arc g.W.Weight.value) l.arcs.items) (arcs_at g.W.Weight.KIND l.states (l.count - l.counter) l.bytes l.behind) ≡ arcs_at g.W.Weight.KIND l.states l.count l.bytes l.at;
+      count : length l.arcs.items ≡ l.counter;
+      behind : l.behind ≤ length l.bytes;
+    }

@@ -1,0 +1,253 @@
+//! Reading the binary form.
+
+ghost use Rattle.std.specs.Prelude.{◌≡◌, ◌≤◌, ◌<◌, ◌+◌, length, map, IfOk, IfSome, Ok, nat_le, nat_lt};
+ghost use Rattle.std.specs.Result.{result_map_both};
+ghost use Rattle.fst_semiring.specs.Cost.{Cost};
+ghost use Rattle.fst_machine.specs.Machine.{Machine, arc_total, greatest_label, most_arcs, most_states, valued, valued_arc, valued_state};
+ghost use Rattle.fst_binary.specs.Spelling.{HasSpelling, Spells};
+ghost use Rattle.fst_binary.specs.Reading.{Gives, arc_at, arc_type_of_bytes, arc_weight_at, arcs_at, final_at, is_infinite, machine_at, machine_of_bytes, number_where, state_at, states_at};
+
+use crate::fault::{BinaryFault, BinaryKind, WeightFieldFault, fault_at, short};
+use crate::header::{Header, read_header, read_types};
+use crate::number::{read_count, read_word};
+use crate::weight_field::read_field;
+use fst_machine::{Fst, FstArc, MOST_LABEL, StateList};
+use fst_semiring::Weight;
+use std::alloc::Global;
+use std::cmp::min;
+
+/// A label, and the offset behind it.
+#[tactic(auto, unfolding(crate::specs::Reading::number_where))]
+fn read_label(bytes: &[u8], at: usize) -> Result<(u32, usize), BinaryFault>
+    requires { at ≤ length bytes.now }
+    ensures value { result ≡ number_where (λ n. nat_le n greatest_label) BinaryKind.BadLabel 4 bytes.now at }
+    ensures behind { IfOk result (λ x. x.1 ≤ length bytes.now) }
+{
+    let (label, behind) = read_word(bytes, at)?;
+    if label <= MOST_LABEL {
+        Ok((label, behind))
+    } else {
+        Err(fault_at(at, BinaryKind::BadLabel))
+    }
+}
+
+/// One of so many states, and the offset behind its number.
+#[tactic(auto, unfolding(crate::specs::Reading::number_where))]
+fn read_next(bytes: &[u8], at: usize, states: u32) -> Result<(u32, usize), BinaryFault>
+    requires { at ≤ length bytes.now }
+    ensures value { result ≡ number_where (λ n. nat_lt n states) BinaryKind.BadNext 4 bytes.now at }
+    ensures behind { IfOk result (λ x. x.1 ≤ length bytes.now) }
+{
+    let (next, behind) = read_word(bytes, at)?;
+    if next < states {
+        Ok((next, behind))
+    } else {
+        Err(fault_at(at, BinaryKind::BadNext))
+    }
+}
+
+/// A final weight, and the offset behind it.
+#[tactic(auto, unfolding(crate::specs::Reading::final_at))]
+fn read_final<W: Weight>(bytes: &[u8], at: usize) -> Result<(W, usize), BinaryFault>
+    requires { at ≤ length bytes.now }
+    ensures value { result_map_both (λ x. (W.value x.0, x.1)) (λ e. e) result ≡ final_at W.KIND bytes.now at }
+    ensures behind { IfOk result (λ x. x.1 ≤ length bytes.now) }
+{
+    match read_field(bytes, at) {
+        Ok(read) => Ok(read),
+        Err(WeightFieldFault::Short) => Err(short(bytes)),
+        Err(WeightFieldFault::BadWeight) => Err(fault_at(at, BinaryKind::BadWeight)),
+    }
+}
+
+/// Whether a weight is Zero.
+fn is_zero<W: Weight>(weight: W) -> bool
+    ensures { result ≡ is_infinite (W.value weight) }
+{
+    W::key(weight.widen()).class == 2
+}
+
+/// The weight of an arc, and the offset behind it.
+#[tactic(auto, unfolding(crate::specs::Reading::arc_weight_at))]
+fn read_arc_weight<W: Weight>(bytes: &[u8], at: usize) -> Result<(W, usize), BinaryFault>
+    requires { at ≤ length bytes.now }
+    ensures value { result_map_both (λ x. (W.value x.0, x.1)) (λ e. e) result ≡ arc_weight_at W.KIND bytes.now at }
+    ensures behind { IfOk result (λ x. x.1 ≤ length bytes.now) }
+{
+    let (weight, behind) = read_final(bytes, at)?;
+    if is_zero(weight) {
+        return Err(fault_at(at, BinaryKind::BadWeight));
+    }
+    Ok((weight, behind))
+}
+
+/// An arc of a machine with so many states, and the offset behind it.
+#[tactic(auto, unfolding(crate::specs::Reading::arc_at))]
+fn read_arc<W: Weight>(
+    bytes: &[u8],
+    at: usize,
+    states: u32,
+) -> Result<(FstArc<W>, usize), BinaryFault>
+    requires { at ≤ length bytes.now }
+    ensures value { result_map_both (λ x. (valued_arc W.value x.0, x.1)) (λ e. e) result ≡ arc_at W.KIND states bytes.now at }
+    ensures behind { IfOk result (λ x. x.1 ≤ length bytes.now) }
+{
+    let (ilabel, behind) = read_label(bytes, at)?;
+    let (olabel, behind) = read_label(bytes, behind)?;
+    let (weight, behind) = read_arc_weight(bytes, behind)?;
+    let (next, behind) = read_next(bytes, behind, states)?;
+    let arc = FstArc {
+        ilabel,
+        olabel,
+        weight,
+        next,
+    };
+    Ok((arc, behind))
+}
+
+/// So many arcs of a machine with so many states, and the offset behind them. Space is reserved for no more
+/// than the bytes can hold.
+fn read_arcs<W: Weight>(
+    alloc: Global,
+    bytes: &[u8],
+    at: usize,
+    states: u32,
+    count: usize,
+) -> Result<(Vec<FstArc<W>>, usize), BinaryFault>
+    requires { at ≤ length bytes.now }
+    ensures value { Gives (λ x. (map (valued_arc W.value) x.0.items, x.1)) result (arcs_at W.KIND states count bytes.now at) }
+    ensures count { IfOk result (λ x. length x.0.items ≡ count) }
+    ensures behind { IfOk result (λ x. x.1 ≤ length bytes.now) }
+{
+    let mut arcs = Vec::with_capacity(alloc, min(count, (bytes.len() - at) / 13))?;
+    let mut behind = at;
+    for _ in 0..count {
+        let (arc, after) = read_arc(bytes, behind, states)?;
+        arcs.push(arc)?;
+        behind = after;
+    }
+    Ok((arcs, behind))
+}
+
+/// What is read of a state: its final weight, its arcs, and the offset behind them.
+#[derive(Drop)]
+struct StateRead<W> {
+    last: W,
+    arcs: Vec<FstArc<W>>,
+    behind: usize,
+}
+
+/// The number of arcs of a state, which with those of the states before are at most so many, and the offset
+/// behind it.
+#[tactic(auto, unfolding(crate::specs::Reading::number_where))]
+fn read_arc_count(
+    bytes: &[u8],
+    at: usize,
+    arcs: u32,
+    before: u32,
+) -> Result<(u64, usize), BinaryFault>
+    requires behind { at ≤ length bytes.now }
+    requires before { before ≤ arcs }
+    ensures value { result ≡ number_where (λ n. nat_le (before + n) arcs) BinaryKind.BadCount 8 bytes.now at }
+    ensures most { IfOk result (λ x. before + x.0 ≤ arcs) }
+    ensures behind { IfOk result (λ x. x.1 ≤ length bytes.now) }
+{
+    read_count(bytes, at, u64::from(arcs - before))
+}
+
+/// A state of a machine with so many states and arcs, of which the states before have some.
+#[tactic(auto, unfolding(crate::specs::Reading::state_at))]
+fn read_state<W: Weight>(
+    alloc: Global,
+    bytes: &[u8],
+    at: usize,
+    header: Header,
+    before: u32,
+) -> Result<StateRead<W>, BinaryFault>
+    requires behind { at ≤ length bytes.now }
+    requires before { before ≤ header.arcs }
+    ensures value { Gives (λ x. (record { final = W.value x.last; arcs = map (valued_arc W.value) x.arcs.items }, x.behind)) result (state_at W.KIND header.states header.arcs before bytes.now at) }
+    ensures most { IfOk result (λ x. before + length x.arcs.items ≤ header.arcs) }
+    ensures behind { IfOk result (λ x. x.behind ≤ length bytes.now) }
+{
+    let (last, behind) = read_final(bytes, at)?;
+    let (count, behind) = read_arc_count(bytes, behind, header.arcs, before)?;
+    let (arcs, behind) = read_arcs(alloc, bytes, behind, header.states, count as usize)?;
+    Ok(StateRead { last, arcs, behind })
+}
+
+/// The states of a header, and the offset behind them. Space is reserved for no more than the bytes can
+/// hold.
+fn read_states<W: Weight>(
+    alloc: Global,
+    bytes: &[u8],
+    header: Header,
+) -> Result<(StateList<W>, usize), BinaryFault>
+    requires behind { header.behind ≤ length bytes.now }
+    requires few_arcs { header.arcs ≤ most_arcs }
+    ensures value { Gives (λ x. (map (valued_state W.value) x.0, x.1)) result (states_at W.KIND header.states header.arcs 0 header.states bytes.now header.behind) }
+    ensures behind { IfOk result (λ x. x.1 ≤ length bytes.now) }
+{
+    let left = bytes.len() - header.behind;
+    let mut states = StateList::with_capacity(
+        alloc,
+        min(header.states as usize, left / 9),
+        min(header.arcs as usize, left / 13),
+    )?;
+    let mut before = 0;
+    let mut behind = header.behind;
+    for _ in 0..header.states {
+        let state = read_state(alloc, bytes, behind, header, before)?;
+        before += state.arcs.len() as u32;
+        states.push(state.last, state.arcs.as_slice())?;
+        behind = state.behind;
+    }
+    Ok((states, behind))
+}
+
+/// The machine of a header and of what stands behind it, to the end of the bytes.
+#[tactic(auto, unfolding(crate::specs::Reading::machine_at))]
+fn read_machine<W: Weight>(
+    alloc: Global,
+    bytes: &[u8],
+    header: Header,
+) -> Result<Fst<W>, BinaryFault>
+    requires behind { header.behind ≤ length bytes.now }
+    requires start { IfSome header.start (λ s. s < header.states) }
+    requires few_states { header.states ≤ most_states }
+    requires few_arcs { header.arcs ≤ most_arcs }
+    ensures { Gives (λ m. valued W.value m) result (machine_at W.KIND header bytes.now) }
+{
+    let (states, behind) = read_states(alloc, bytes, header)?;
+    if states.arc_count() != header.arcs as usize {
+        return Err(fault_at(header.counted, BinaryKind::BadCount));
+    }
+    if behind != bytes.len() {
+        return Err(fault_at(behind, BinaryKind::Extra));
+    }
+    Ok(states.into_machine(header.start))
+}
+
+/// The machine of bytes whose arc type is that of the weight.
+fn read_whole<W: Weight>(alloc: Global, bytes: &[u8]) -> Result<Fst<W>, BinaryFault>
+    requires { arc_type_of_bytes bytes.now ≡ Ok W.KIND }
+    ensures { Gives (λ m. valued W.value m) result (machine_of_bytes W.KIND bytes.now) }
+{
+    let (_, behind) = read_types(bytes)?;
+    let header = read_header(bytes, behind)?;
+    read_machine(alloc, bytes, header)
+}
+
+/// The machine whose bytes these are, or their first fault. `arc_type` of the bytes has to be the arc type of
+/// the weight. Space is reserved for no more than the bytes can hold, whatever a count says.
+pub fn decode<W: Weight>(alloc: Global, bytes: &[u8]) -> Result<Fst<W>, BinaryFault>
+    requires { arc_type_of_bytes bytes.now ≡ Ok W.KIND }
+    // What is read is spelled so.
+    ensures found { IfOk result (λ m. Spells W.KIND bytes.now (valued W.value m) × HasSpelling W.KIND (valued W.value m)) }
+    // What is spelled so is read, unless memory runs out.
+    ensures only { (m : Machine Cost) → HasSpelling W.KIND m → Spells W.KIND bytes.now m → Gives (λ m. valued W.value m) result (Ok m) }
+    // Which fault it is.
+    ensures exact { Gives (λ m. valued W.value m) result (machine_of_bytes W.KIND bytes.now) }
+{
+    read_whole(alloc, bytes)
+}

@@ -1,0 +1,179 @@
+//! Writing the binary form.
+
+ghost use Rattle.std.specs.Prelude.{◌≡◌, ◌≤◌, ◌++◌, ◌∷◌, [], ◌+◌, ◌*◌, ◌<◌, length, map, take, drop, vec_capacity, All, Contains, IfOk, Ok, sum_by};
+ghost use Rattle.std.specs.List.{flat_map};
+ghost use Rattle.fst_machine.specs.Machine.{valued, valued_arc, valued_state};
+ghost use Rattle.fst_binary.specs.Reading.{arc_type_of_bytes, known, machine_of_bytes};
+ghost use Rattle.fst_binary.specs.Spelling.{HasField, HasSpelling, arc_fields, count_fields, name_of, spelling, start_number, state_fields, text, type_fields, word};
+
+use crate::append::{append, append_long, append_signed, append_word};
+use crate::weight_field::{append_weight, weight_length};
+use fst_machine::{Fst, FstArc};
+use fst_semiring::{ArcType, Weight};
+use std::alloc::{AllocError, Global};
+
+/// How many bytes the arcs take.
+fn arcs_length<W: Weight>(arcs: &[FstArc<W>]) -> usize
+    requires { length arcs.now ≤ 33554432 }
+    ensures value { result ≡ length (flat_map (arc_fields W.KIND) (map (valued_arc W.value) arcs.now)) }
+    ensures bound { result ≤ 29 * length arcs.now }
+    ensures fits { All (λ a. HasField W.KIND (W.value a.weight)) arcs.now }
+{
+    let mut len = 0;
+    for arc in arcs {
+        len += 12 + weight_length(arc.weight);
+    }
+    len
+}
+
+/// How many bytes the states take.
+fn states_length<W: Weight>(fst: &Fst<W>) -> usize
+    ensures value { result ≡ length (flat_map (state_fields W.KIND) (map (valued_state W.value) fst.now.states)) }
+    ensures bound { result ≤ 1077936128 }
+    ensures fits { HasSpelling W.KIND (valued W.value fst.now) }
+{
+    let mut len = 0;
+    for state in 0..fst.states() {
+        len += 8 + weight_length(fst.final_weight(state)) + arcs_length(fst.arcs(state));
+    }
+    len
+}
+
+/// Appends an arc where there is room.
+fn append_arc<W: Weight>(out: &mut Vec<u8>, arc: FstArc<W>)
+    requires { length out.old.items + length (arc_fields W.KIND (valued_arc W.value arc)) ≤ vec_capacity out.old }
+    ensures items { out.new.items ≡ out.old.items ++ arc_fields W.KIND (valued_arc W.value arc) }
+    ensures room { vec_capacity out.old ≤ vec_capacity out.new }
+{
+    append_word(out, arc.ilabel);
+    append_word(out, arc.olabel);
+    append_weight(out, arc.weight);
+    append_word(out, arc.next);
+}
+
+/// Appends arcs where there is room.
+fn append_arcs<W: Weight>(out: &mut Vec<u8>, arcs: &[FstArc<W>])
+    requires { length out.old.items + length (flat_map (arc_fields W.KIND) (map (valued_arc W.value) arcs.now)) ≤ vec_capacity out.old }
+    ensures items { out.new.items ≡ out.old.items ++ flat_map (arc_fields W.KIND) (map (valued_arc W.value) arcs.now) }
+    ensures room { vec_capacity out.old ≤ vec_capacity out.new }
+{
+    for arc in arcs {
+        append_arc(out, *arc);
+    }
+}
+
+/// Appends a state where there is room.
+fn append_state<W: Weight>(out: &mut Vec<u8>, last: W, arcs: &[FstArc<W>])
+    requires { length out.old.items + length (state_fields W.KIND (record { final = W.value last; arcs = map (valued_arc W.value) arcs.now })) ≤ vec_capacity out.old }
+    ensures items { out.new.items ≡ out.old.items ++ state_fields W.KIND (record { final = W.value last; arcs = map (valued_arc W.value) arcs.now }) }
+    ensures room { vec_capacity out.old ≤ vec_capacity out.new }
+{
+    append_weight(out, last);
+    append_long(out, arcs.len() as u64);
+    append_arcs(out, arcs);
+}
+
+/// Appends the states of a machine where there is room.
+fn append_states<W: Weight>(out: &mut Vec<u8>, fst: &Fst<W>)
+    requires { length out.old.items + length (flat_map (state_fields W.KIND) (map (valued_state W.value) fst.now.states)) ≤ vec_capacity out.old }
+    ensures { out.new.items ≡ out.old.items ++ flat_map (state_fields W.KIND) (map (valued_state W.value) fst.now.states) }
+{
+    for state in 0..fst.states() {
+        append_state(out, fst.final_weight(state), fst.arcs(state));
+    }
+}
+
+/// The name of an arc type.
+fn name_of_type(kind: ArcType) -> &'static [u8]
+    ensures { result.now ≡ name_of kind }
+{
+    match kind {
+        ArcType::Boolean => b"boolean",
+        ArcType::Tropical => b"tropical",
+        ArcType::MinMax => b"minmax",
+        ArcType::Lexicographic => b"lexicographic",
+    }
+}
+
+/// How many bytes stand in front of the states.
+fn header_length(kind: ArcType) -> usize
+    ensures { result ≡ 58 + length (name_of kind) }
+{
+    58 + name_of_type(kind).len()
+}
+
+/// Appends a text behind its length where there is room.
+fn append_text(out: &mut Vec<u8>, bytes: &[u8])
+    requires room { length out.old.items + 4 + length bytes.now ≤ vec_capacity out.old }
+    requires short { length bytes.now < 4294967296 }
+    ensures items { out.new.items ≡ out.old.items ++ text bytes.now }
+    ensures len { length out.new.items ≡ length out.old.items + 4 + length bytes.now }
+    ensures room { vec_capacity out.old ≤ vec_capacity out.new }
+{
+    append_word(out, bytes.len() as u32);
+    append(out, bytes);
+}
+
+/// Appends the fields up to the flags where there is room.
+fn append_types(out: &mut Vec<u8>, kind: ArcType)
+    requires { length out.old.items + 26 + length (name_of kind) ≤ vec_capacity out.old }
+    ensures items { out.new.items ≡ out.old.items ++ (type_fields kind ++ word 2 ++ word 0) }
+    ensures len { length out.new.items ≡ length out.old.items + 26 + length (name_of kind) }
+    ensures room { vec_capacity out.old ≤ vec_capacity out.new }
+{
+    append_word(out, 2_125_659_606);
+    append_text(out, b"vector");
+    append_text(out, name_of_type(kind));
+    append_word(out, 2);
+    append_word(out, 0);
+}
+
+/// The start as a number, -1 for none.
+fn start_field(start: Option<u32>) -> i64
+    ensures { result ≡ start_number start }
+{
+    match start {
+        None => -1,
+        Some(start) => i64::from(start),
+    }
+}
+
+/// Appends the start and the numbers of states and arcs where there is room.
+fn append_counts<W: Weight>(out: &mut Vec<u8>, fst: &Fst<W>)
+    requires { length out.old.items + 24 ≤ vec_capacity out.old }
+    ensures items { out.new.items ≡ out.old.items ++ count_fields (valued W.value fst.now) }
+    ensures len { length out.new.items ≡ length out.old.items + 24 }
+    ensures room { vec_capacity out.old ≤ vec_capacity out.new }
+{
+    append_signed(out, start_field(fst.start()));
+    append_long(out, u64::from(fst.states()));
+    append_long(out, u64::from(fst.arc_count()));
+}
+
+/// The bytes of a machine, which has a spelling.
+fn write_whole<W: Weight>(alloc: Global, fst: &Fst<W>) -> Result<Vec<u8>, AllocError>
+    ensures spelled { IfOk result (λ bytes. bytes.items ≡ spelling W.KIND (valued W.value fst.now)) }
+    ensures fits { HasSpelling W.KIND (valued W.value fst.now) }
+{
+    let states = states_length(fst);
+    let mut out = Vec::with_capacity(alloc, header_length(W::KIND) + states)?;
+    append_types(&mut out, W::KIND);
+    append_long(&mut out, 3);
+    append_counts(&mut out, fst);
+    append_states(&mut out, fst);
+    Ok(out)
+}
+
+/// The bytes of a machine. Their exact number is reserved at first, and nothing fails after that.
+pub fn encode<W: Weight>(alloc: Global, fst: &Fst<W>) -> Result<Vec<u8>, AllocError>
+    // They are the spelling of the machine,
+    ensures spelled { IfOk result (λ bytes. bytes.items ≡ spelling W.KIND (valued W.value fst.now)) }
+    // they are read as the machine again,
+    ensures again { IfOk result (λ bytes. machine_of_bytes W.KIND bytes.items ≡ Ok (valued W.value fst.now)) }
+    // and their arc type is that of the weight.
+    ensures named { IfOk result (λ bytes. Contains known W.KIND → arc_type_of_bytes bytes.items ≡ Ok W.KIND) }
+    // Each machine has a spelling.
+    ensures fits { HasSpelling W.KIND (valued W.value fst.now) }
+{
+    write_whole(alloc, fst)
+}
