@@ -17,6 +17,8 @@ import tempfile
 
 import machines
 
+START = 42
+
 
 def measured(argv, stdout):
     """Processor seconds and peak resident KiB of one run."""
@@ -59,6 +61,22 @@ def cases(fst, size, scratch):
     ]
 
 
+def read_alone(fst, size, rounds, scratch):
+    """Megabytes and megabytes a second of reading a binary file whose machine prints as nothing."""
+    with open(os.path.join(scratch, f"{size}.ours"), "rb") as file:
+        content = bytearray(file.read())
+    # The machine's start, behind the magic number, the two type names, the version, the flags and the
+    # properties; with none nothing is printed.
+    content[START : START + 8] = b"\xff" * 8
+    silent = os.path.join(scratch, "silent")
+    with open(silent, "wb") as file:
+        file.write(content)
+    times = [measured([fst, "print", silent, "-"], os.path.join(scratch, "silent.stdout"))[0] for _ in range(rounds)]
+    if os.path.getsize(os.path.join(scratch, "silent.stdout")) != 0:
+        sys.exit("a machine without a start is printed")
+    return len(content) / 1e6, len(content) / 1e6 / statistics.median(times)
+
+
 def main():
     words = argparse.ArgumentParser()
     words.add_argument("--fst", default="out/fst")
@@ -72,12 +90,16 @@ def main():
     print("| Arcs | Command | fst: s, MiB | OpenFst: s, MiB | time | memory |")
     print("|---|---|---|---|---|---|")
     with tempfile.TemporaryDirectory(dir="/dev/shm") as scratch:
-        for size in map(int, words.sizes.split(",")):
+        sizes = list(map(int, words.sizes.split(",")))
+        for size in sizes:
             for name, ours, theirs, most_time, most_memory in cases(words.fst, size, scratch):
                 found = compared(ours, theirs, words.rounds, scratch)
                 (s, k), (t, m) = found["ours"], found["theirs"]
                 print(f"| {size} | {name} | {s:.3f}, {k / 1024:.0f} | {t:.3f}, {m / 1024:.0f} | {s / t:.2f} | {k / m:.2f} |", flush=True)
                 over = over or (size >= 1_000_000 and (s > most_time * t or k > most_memory * m))
+        megabytes, rate = read_alone(words.fst, sizes[-1], words.rounds, scratch)
+        print(f"\nReading a binary file of {megabytes:.1f} MB: {rate:.0f} MB/s")
+        over = over or rate < 300
     sys.exit(1 if over and words.gate else 0)
 
 

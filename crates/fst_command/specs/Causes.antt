@@ -1,0 +1,111 @@
+-- Why a command is refused, the status that a run ends with, and the line that it shows.
+use Rattle.std.specs.Prelude.{ℕ, List, [], ◌∷◌, ◌++◌, Option, Some, None, codes}
+use Rattle.std.specs.Fmt.{decimal}
+use Rattle.std.specs.List.{concat}
+use Rattle.fst_text.specs.declared.fault.TextFault.{TextFault}
+use Rattle.fst_text.specs.declared.fault.TextFault.TheVariants as text
+use Rattle.fst_text.specs.declared.fault.PrintFault.{PrintFault}
+use Rattle.fst_text.specs.declared.fault.PrintFault.TheVariants as printing
+use Rattle.fst_binary.specs.declared.fault.BinaryFault.{BinaryFault}
+use Rattle.fst_binary.specs.declared.fault.BinaryKind.{BinaryKind}
+use Rattle.fst_binary.specs.declared.fault.BinaryKind.TheVariants as binary
+
+-- the causes of a refusal that words and contents decide, with the name of the input where it is its own
+pub data Cause : Type 0 where
+  -- the content is longer than what is read
+  too_long : List ℕ → Cause
+  -- the content is no text form of a machine
+  bad_text : List ℕ → TextFault → Cause
+  -- the content is no binary form of a machine
+  bad_binary : List ℕ → BinaryFault → Cause
+  -- the machine has no text form with these options
+  unprintable : PrintFault → Cause
+
+-- how a run ends
+pub data Answer : Type 0 where
+  -- the outputs stand
+  done : Answer
+  -- the words are not of the stated form
+  usage : Answer
+  -- the first cause that holds
+  refused : Cause → Answer
+  -- there was no memory
+  no_memory : Answer
+  -- the content under the name could not be read
+  unread : List ℕ → Answer
+  -- the output under the name could not be written
+  unwritten : List ℕ → Answer
+
+-- the status of a run
+abbrev pub status_of : Answer → ℕ
+status_of done = 0
+status_of usage = 1
+status_of (refused cause) = 1
+status_of no_memory = 3
+status_of (unread name) = 4
+status_of (unwritten name) = 5
+
+-- the line of a fault of a text form
+abbrev pub line_at : TextFault → ℕ
+line_at (text.BadColumns line) = line
+line_at (text.BadState line) = line
+line_at (text.BadLabel line) = line
+line_at (text.BadWeight line) = line
+line_at (text.TooManyStates line) = line
+line_at (text.TooManyArcs line) = line
+line_at text.Memory = 0
+
+-- what is wrong with a line of a text form
+abbrev pub text_reason : TextFault → List ℕ
+text_reason (text.BadColumns line) = codes "wrong number of columns"
+text_reason (text.BadState line) = codes "bad state"
+text_reason (text.BadLabel line) = codes "bad label"
+text_reason (text.BadWeight line) = codes "bad weight"
+text_reason (text.TooManyStates line) = codes "too many states"
+text_reason (text.TooManyArcs line) = codes "too many arcs"
+text_reason text.Memory = codes "out of memory"
+
+-- what is wrong with a field of a binary form
+abbrev pub binary_reason : BinaryKind → List ℕ
+binary_reason binary.Short = codes "too short"
+binary_reason binary.BadMagic = codes "bad magic number"
+binary_reason binary.UnknownFstType = codes "unknown machine type"
+binary_reason binary.UnknownArcType = codes "unknown arc type"
+binary_reason binary.BadVersion = codes "bad version"
+binary_reason binary.BadFlags = codes "bad flags"
+binary_reason binary.BadStart = codes "bad start"
+binary_reason binary.BadCount = codes "bad count"
+binary_reason binary.BadLabel = codes "bad label"
+binary_reason binary.BadWeight = codes "bad weight"
+binary_reason binary.BadNext = codes "bad next state"
+binary_reason binary.Extra = codes "extra bytes"
+binary_reason binary.Memory = codes "out of memory"
+
+-- the line of a fault at a place of an input
+abbrev pub placed_line : List ℕ → List ℕ → ℕ → List ℕ → List ℕ
+placed_line name unit place reason = concat (codes "fst: " ∷ name ∷ codes ": " ∷ unit ∷ codes " " ∷ decimal place ∷ codes ": " ∷ reason ∷ codes "\n" ∷ [])
+
+-- the line of an arc with two different labels
+abbrev pub two_labels_line : ℕ → ℕ → List ℕ
+two_labels_line state place = concat (codes "fst: not an acceptor at state " ∷ decimal state ∷ codes " arc " ∷ decimal place ∷ codes "\n" ∷ [])
+
+-- the line of a machine that has no text form
+abbrev pub print_line : PrintFault → List ℕ
+print_line (printing.NotAcceptor state place) = two_labels_line state place
+print_line printing.Memory = codes "fst: out of memory\n"
+
+-- the line of a cause
+abbrev pub cause_line : Cause → List ℕ
+cause_line (too_long name) = codes "fst: " ++ name ++ codes " is longer than 1342177280 bytes\n"
+cause_line (bad_text name fault) = placed_line name (codes "line") (line_at fault) (text_reason fault)
+cause_line (bad_binary name fault) = placed_line name (codes "byte") fault.offset (binary_reason fault.kind)
+cause_line (unprintable fault) = print_line fault
+
+-- the line that a run shows, if it shows one
+abbrev pub line_of : Answer → Option (List ℕ)
+line_of done = None
+line_of usage = Some (codes "fst: bad command line\n")
+line_of (refused cause) = Some (cause_line cause)
+line_of no_memory = Some (codes "fst: out of memory\n")
+line_of (unread name) = Some (codes "fst: cannot read " ++ name ++ codes "\n")
+line_of (unwritten name) = Some (codes "fst: cannot write " ++ name ++ codes "\n")

@@ -1,0 +1,10 @@
+-- In reading order: the words, the causes of a refusal, what is asked of a command in which order, what it
+-- is to write, and the outcome of a run.
+pub mod Plans
+pub mod Causes
+pub mod Checks
+pub mod Outputs
+pub mod Outcome
+pub mod Told
+pub mod Wanted
+pub mod Steps

@@ -1,0 +1,17 @@
+//! The commands: what the words ask for, what each command reads, makes and writes, and the one line of a
+//! refusal.
+//!
+//! [`run`] is the top call: it does all that the program does. Its clause, `Runs` of `specs/Outcome.antt`,
+//! names no command: each command adds its case to the definitions that it cites.
+#![tactic(auto)]
+
+mod files;
+mod forms;
+mod refusal;
+mod top;
+mod words;
+
+pub use top::run;
+
+#[cfg(test)]
+mod tests;

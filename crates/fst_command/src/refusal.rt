@@ -1,0 +1,192 @@
+//! Why a command ended without its outputs: the status and the line that follow.
+
+ghost use Rattle.std.specs.Prelude.{◌≡◌, ◌↔◌, IsTrue, IfOk, string_bytes};
+ghost use Rattle.fst_command.specs.Causes.{refused, too_long, bad_text, bad_binary, unprintable, unread, unwritten, line_at, placed_line, two_labels_line, text_reason, binary_reason};
+ghost use Rattle.fst_command.specs.Told.{IsMade, MakesLine, told_line, told_status};
+
+use fst_binary::{BinaryFault, BinaryKind};
+use fst_text::{PrintFault, TextFault};
+use std::alloc::{AllocError, Global};
+
+/// Why a command ended without its outputs.
+#[derive(Drop)]
+pub enum Refusal {
+    /// The words are not of the stated form.
+    Usage,
+    /// There was no memory.
+    Memory,
+    /// Any other answer, by its status and its line.
+    Told { status: u8, line: String },
+}
+
+impl Refusal {
+    /// Whether it is want of memory.
+    pub fn is_memory(&self) -> bool
+        ensures { IsTrue result ↔ (self.now ≡ Refusal.Memory) }
+    {
+        matches!(self, Refusal::Memory)
+    }
+
+    /// The status that the run ends with.
+    pub fn status(&self) -> u8
+        ensures { result ≡ told_status self.now }
+    {
+        match self {
+            Refusal::Usage => 1,
+            Refusal::Memory => 3,
+            Refusal::Told { status, line: _ } => *status,
+        }
+    }
+
+    /// The line that the run shows.
+    pub fn line(&self) -> &[u8]
+        ensures { result.now ≡ told_line self.now }
+    {
+        match self {
+            Refusal::Usage => b"fst: bad command line\n",
+            Refusal::Memory => b"fst: out of memory\n",
+            Refusal::Told { status: _, line } => line.as_bytes(),
+        }
+    }
+}
+
+/// The refusal with a line, or want of memory where there was none for the line.
+fn made(status: u8, line: Result<String, AllocError>) -> Refusal
+    ensures { MakesLine status line result }
+{
+    match line {
+        Ok(line) => Refusal::Told { status, line },
+        Err(_) => Refusal::Memory,
+    }
+}
+
+/// The content under the name is longer than what is read.
+pub fn longer(alloc: Global, name: &str) -> Refusal
+    ensures { IsMade (refused (too_long name.now)) result }
+{
+    made(
+        1,
+        format!(in alloc; "fst: {name} is longer than 1342177280 bytes\n"),
+    )
+}
+
+/// The content under the name could not be read.
+pub fn not_read(alloc: Global, name: &str) -> Refusal
+    ensures { IsMade (unread name.now) result }
+{
+    made(4, format!(in alloc; "fst: cannot read {name}\n"))
+}
+
+/// The output under the name could not be written.
+pub fn not_written(alloc: Global, name: &str) -> Refusal
+    ensures { IsMade (unwritten name.now) result }
+{
+    made(5, format!(in alloc; "fst: cannot write {name}\n"))
+}
+
+/// The line of a fault at a place of an input: `unit` is what places are counted in.
+fn fault_line(
+    alloc: Global,
+    name: &str,
+    unit: &str,
+    place: u64,
+    reason: &str,
+) -> Result<String, AllocError>
+    ensures { IfOk result (λ line. string_bytes line ≡ placed_line name.now unit.now place reason.now) }
+{
+    format!(in alloc; "fst: {name}: {unit} {place}: {reason}\n")
+}
+
+/// What is wrong with a line of a text form.
+fn reason_of_text(fault: TextFault) -> &'static str
+    ensures { result.now ≡ text_reason fault }
+{
+    match fault {
+        TextFault::BadColumns { line: _ } => "wrong number of columns",
+        TextFault::BadState { line: _ } => "bad state",
+        TextFault::BadLabel { line: _ } => "bad label",
+        TextFault::BadWeight { line: _ } => "bad weight",
+        TextFault::TooManyStates { line: _ } => "too many states",
+        TextFault::TooManyArcs { line: _ } => "too many arcs",
+        TextFault::Memory => "out of memory",
+    }
+}
+
+/// The line of a fault of a text form.
+fn line_of_text(fault: TextFault) -> u64
+    ensures { result ≡ line_at fault }
+{
+    match fault {
+        TextFault::BadColumns { line }
+        | TextFault::BadState { line }
+        | TextFault::BadLabel { line }
+        | TextFault::BadWeight { line }
+        | TextFault::TooManyStates { line }
+        | TextFault::TooManyArcs { line } => line,
+        TextFault::Memory => 0,
+    }
+}
+
+/// The content under the name is no text form of a machine.
+pub fn not_text(alloc: Global, name: &str, fault: TextFault) -> Refusal
+    ensures made { IsMade (refused (bad_text name.now fault)) result }
+    ensures memory { fault ≡ TextFault.Memory → result ≡ Refusal.Memory }
+{
+    if matches!(fault, TextFault::Memory) {
+        return Refusal::Memory;
+    }
+    let place = line_of_text(fault);
+    let reason = reason_of_text(fault);
+    made(1, fault_line(alloc, name, "line", place, reason))
+}
+
+/// What is wrong with a field of a binary form.
+fn reason_of_binary(kind: BinaryKind) -> &'static str
+    ensures { result.now ≡ binary_reason kind }
+{
+    match kind {
+        BinaryKind::Short => "too short",
+        BinaryKind::BadMagic => "bad magic number",
+        BinaryKind::UnknownFstType => "unknown machine type",
+        BinaryKind::UnknownArcType => "unknown arc type",
+        BinaryKind::BadVersion => "bad version",
+        BinaryKind::BadFlags => "bad flags",
+        BinaryKind::BadStart => "bad start",
+        BinaryKind::BadCount => "bad count",
+        BinaryKind::BadLabel => "bad label",
+        BinaryKind::BadWeight => "bad weight",
+        BinaryKind::BadNext => "bad next state",
+        BinaryKind::Extra => "extra bytes",
+        BinaryKind::Memory => "out of memory",
+    }
+}
+
+/// The content under the name is no binary form of a machine.
+pub fn not_binary(alloc: Global, name: &str, fault: BinaryFault) -> Refusal
+    ensures made { IsMade (refused (bad_binary name.now fault)) result }
+    ensures memory { fault.kind ≡ BinaryKind.Memory → result ≡ Refusal.Memory }
+{
+    if matches!(fault.kind, BinaryKind::Memory) {
+        return Refusal::Memory;
+    }
+    let reason = reason_of_binary(fault.kind);
+    made(1, fault_line(alloc, name, "byte", fault.offset, reason))
+}
+
+/// The line of an arc with two different labels.
+fn arc_line(alloc: Global, state: u32, place: u32) -> Result<String, AllocError>
+    ensures { IfOk result (λ line. string_bytes line ≡ two_labels_line state place) }
+{
+    format!(in alloc; "fst: not an acceptor at state {state} arc {place}\n")
+}
+
+/// The machine has no text form with these options.
+pub fn not_printable(alloc: Global, fault: PrintFault) -> Refusal
+    ensures made { IsMade (refused (unprintable fault)) result }
+    ensures memory { fault ≡ PrintFault.Memory → result ≡ Refusal.Memory }
+{
+    match fault {
+        PrintFault::NotAcceptor { state, place } => made(1, arc_line(alloc, state, place)),
+        PrintFault::Memory => Refusal::Memory,
+    }
+}
