@@ -64,6 +64,7 @@ module _ {N : Type 0} where
     where
       longer : length (a ++ x ∷ []) ≡ length a + 1
       longer = length-append a (x ∷ [])
+
       by_place : (length a < n) ⊎ (n ≤ length a) → (length (a ++ x ∷ []) ≤ n → (k : ℕ) × FirstAt xs z k) → (k : ℕ) × FirstAt (x ∷ xs) z k
       by_place (inl further) more =
           let front = Grows-front xs (a ++ x ∷ []) out new.1 in
@@ -93,10 +94,13 @@ module _ {N : Type 0} where
     where
       front : (more : List N) × (out ≡ (a ++ x ∷ []) ++ more)
       front = Grows-front xs (a ++ x ∷ []) out new.1
+
       whole : Apart ((a ++ x ∷ []) ++ front.0)
       whole = subst Apart front.1 (Grows-Apart xs (a ++ x ∷ []) out (Apart-push a x apart new.0) new.1)
+
       apart_from : (p : ℕ) (u : N) → length a < p → slice_get out p ≡ Some u → x ≡ u → ⊥
       apart_from p u further there = front_only (a ++ x ∷ []) front.0 p x u whole (Has-append_right a (x ∷ []) x (inl refl)) (omega (arith, length-append a (x ∷ []))) (ap (λ ys. slice_get ys p) (sym front.1) ∙ there)
+
       by_place : (length a < n) ⊎ (n ≤ length a) → (length (a ++ x ∷ []) ≤ n → (j i : ℕ) → FirstAt xs y j → FirstAt xs z i → j < i) → k < l
       by_place (inl further) more =
           let j = first_ahead x xs y k (apart_from n y further e) one in
@@ -153,6 +157,7 @@ module _ {N : Type 0} where
     where
       longer : out ≡ (a ++ x ∷ []) ++ more
       longer = front ∙ sym (append_assoc a (x ∷ []) more)
+
       other : (n : ℕ) (z : N) → length (a ++ x ∷ []) ≤ n → slice_get out n ≡ Some z → x ≡ z → ⊥
       other n z far e = front_only (a ++ x ∷ []) more n x z (subst Apart longer o.apart) (Has-append_right a (x ∷ []) x (inl refl)) far (ap (λ ys. slice_get ys n) (sym longer) ∙ e)
 
@@ -167,6 +172,7 @@ module _ {N : Type 0} where
           let same : Some y ≡ Some x = sym (ap (slice_get (a ++ (y ∷ rest))) (sym at_end) ∙ at_append_right a (y ∷ rest) 0 y refl) ∙ (ap (λ ys. slice_get ys place) (sym front) ∙ there) in
           let equal : y ≡ x = cc in
           (rest, front ∙ ap (λ z. a ++ (z ∷ rest)) equal)
+
       behind : length a < place → ⊥
       behind far =
           let y = get_or out (length a) x in
@@ -175,11 +181,13 @@ module _ {N : Type 0} where
           let zero_first : FirstAt (x ∷ xs) x 0 = record { there = refl; first = λ j e low. absurd (omega arith) } in
           let wrong = o.ordered (length a) place y x f.0 0 (omega arith) far e there f.1 zero_first in
           omega arith
+
       by_end : (length a < place) ⊎ (place ≤ length a) → length a ≤ place → Has a x ⊎ ((Has a x → ⊥) × (more : List N) × (out ≡ a ++ (x ∷ more)))
       by_end (inl far) low = absurd (behind far)
       by_end (inr near) low =
           let rest = split o.more o.front (omega arith) in
           inr ((λ h. front_only a o.more place x x (subst Apart o.front o.apart) h low (ap (λ ys. slice_get ys place) (sym o.front) ∙ there) refl), rest.0, rest.1)
+
       by_place : (place < length a) ⊎ (length a ≤ place) → Has a x ⊎ ((Has a x → ⊥) × (more : List N) × (out ≡ a ++ (x ∷ more)))
       by_place (inl early) = inl (at_Has a place x (at_append_front a o.more place x early (ap (λ ys. slice_get ys place) (sym o.front) ∙ there)))
       by_place (inr late) = by_end (cases_lt (length a) place) late

@@ -26,6 +26,7 @@ module _ {N : Type 0} (kind : ArcType) (g : Graph N) (target : N → Cost) where
     where
       counts : (w : Cost) → target p ≡ w → (w ≡ infinite → ⊥) → IsLeast (Stops p) w
       counts w e some = least_one (Stops p) w ((λ none. some (sym e ∙ none)), sym e) (λ v h. h.1 ∙ e)
+
       by_target : (w : Cost) → target p ≡ w → IsLeast (Stops p) w
       by_target best e = counts best e (λ none. absurd (cc))
       by_target (finite a b) e = counts (finite a b) e (λ none. absurd (cc))
@@ -58,9 +59,11 @@ module _ {N : Type 0} (kind : ArcType) (g : Graph N) (target : N → Cost) where
       there : (w : Cost) → ((v : Cost) × ArrivesWithin kind g target k a.next v × (w ≡ times kind a.weight v)) ⊎ SomeWay k arcs w → SomeWay k (a ∷ arcs) w
       there w (inl h) = (0, a, refl, h.0, h.1, h.2)
       there w (inr h) = (suc h.0, h.1, h.2, h.3, h.4, h.5)
+
       by_place : (w : Cost) (place : ℕ) (b : Arc Cost N) → slice_get (a ∷ arcs) place ≡ Some b → (v : Cost) → ArrivesWithin kind g target k b.next v → w ≡ times kind b.weight v → ((v : Cost) × ArrivesWithin kind g target k a.next v × (w ≡ times kind a.weight v)) ⊎ SomeWay k arcs w
       by_place w zero b e v h f = inl (subst (λ (c : Arc Cost N). (v : Cost) × ArrivesWithin kind g target k c.next v × (w ≡ times kind c.weight v)) (let same : b ≡ a = cc in same) (v, h, f))
       by_place w (suc place) b e v h f = inr (place, b, e, v, h, f)
+
       back : (w : Cost) → SomeWay k (a ∷ arcs) w → ((v : Cost) × ArrivesWithin kind g target k a.next v × (w ≡ times kind a.weight v)) ⊎ SomeWay k arcs w
       back w h = by_place w h.0 h.1 h.2 h.3 h.4 h.5
 
@@ -71,6 +74,7 @@ module _ {N : Type 0} (kind : ArcType) (g : Graph N) (target : N → Cost) where
       by_path : (w : Cost) (path : List (Transition N)) (last : N) → IsPath g p path last → (target last ≡ infinite → ⊥) → length path ≤ 0 → w ≡ times kind (product kind (letters path)) (target last) → Stops p w
       by_path w [] last here counts short weight = (subst (λ z. target z ≡ infinite → ⊥) (sym here) counts, weight ∙ (one_times kind (target last) ∙ ap target (sym here)))
       by_path w (t ∷ path) last leads counts short weight = absurd (omega (arith, short))
+
       only : (w : Cost) → ArrivesWithin kind g target zero p w → Stops p w
       only w h = by_path w h.path h.last h.leads h.counts h.short h.weight
   target_least (suc k) p = least_same (λ w. Stops p w ⊎ SomeWay k (g.arcs p) w) (ArrivesWithin kind g target (suc k) p) _ there (λ w h. arrives_cases k p w h.path h.last h.leads h.counts h.short h.weight) (least_either (Stops p) (SomeWay k (g.arcs p)) _ _ (stops_least p) (ways_least k (g.arcs p) (target_least k)))
@@ -85,9 +89,11 @@ reaches_least kind g k p q = least_same (ArrivesWithin kind g (only_at kind q) k
   where
     at_q : only_at kind q q ≡ one_of kind
     at_q = ap (λ b. cond b (one_of kind) infinite) (eq-eqb q q refl)
+
     is_q : (n : ℕ) (b : Bool) → eqb n q ≡ b → (cond b (one_of kind) infinite ≡ infinite → ⊥) → n ≡ q
     is_q n true e counts = eqb-true n q e
     is_q n false e counts = absurd (counts refl)
+
     there : (w : Cost) → ArrivesWithin kind g (only_at kind q) k p w → ReachesWithin kind g k p q w
     there w h =
         let here : h.last ≡ q = is_q h.last (eqb h.last q) refl h.counts in
@@ -97,12 +103,13 @@ reaches_least kind g k p q = least_same (ArrivesWithin kind g (only_at kind q) k
           short = h.short;
           weight = h.weight ∙ (ap (times kind (product kind (letters h.path))) (ap (only_at kind q) here ∙ at_q) ∙ times_one kind _);
         }
+
     back : (w : Cost) → ReachesWithin kind g k p q w → ArrivesWithin kind g (only_at kind q) k p w
     back w h = record {
-        last = q;
-        path = h.path;
-        leads = h.leads;
-        counts = λ none. one_not_zero kind (sym at_q ∙ none);
-        short = h.short;
-        weight = h.weight ∙ (sym (times_one kind _) ∙ ap (times kind (product kind (letters h.path))) (sym at_q));
-      }
+      last = q;
+      path = h.path;
+      leads = h.leads;
+      counts = λ none. one_not_zero kind (sym at_q ∙ none);
+      short = h.short;
+      weight = h.weight ∙ (sym (times_one kind _) ∙ ap (times kind (product kind (letters h.path))) (sym at_q));
+    }

@@ -34,15 +34,16 @@ module _ {N : Type 0} (g : Graph N) (start : N) (names : List N) where
   -- the list of a walk is the breadth-first list
   pub breadth_first_of_walked : IsWalked g start names → IsBreadthFirst g start names
   breadth_first_of_walked w = record {
-      begins = let front = walked_begins g start names w in ap (λ ns. slice_get ns 0) front.1;
-      apart = walked_apart g start names w;
-      closed = λ i k z h. subst (λ y. Has names y) h.leads (walked_closed g start names w h.name k h.arc (at_Has names i h.name h.there) h.has);
-      found = found;
-      ordered = λ n m y z i k j l later less e f one two. lt_pair g names y z i k j l one.leads two.leads (grown_order (arrivals g names) (start ∷ []) names n m y z (offset g names i + k) (offset g names j + l) ((λ none. none), tt) grown (omega arith) less e f (first_of_least g names y i k one) (first_of_least g names z j l two));
-    }
+    begins = let front = walked_begins g start names w in ap (λ ns. slice_get ns 0) front.1;
+    apart = walked_apart g start names w;
+    closed = λ i k z h. subst (λ y. Has names y) h.leads (walked_closed g start names w h.name k h.arc (at_Has names i h.name h.there) h.has);
+    found = found;
+    ordered = λ n m y z i k j l later less e f one two. lt_pair g names y z i k j l one.leads two.leads (grown_order (arrivals g names) (start ∷ []) names n m y z (offset g names i + k) (offset g names j + l) ((λ none. none), tt) grown (omega arith) less e f (first_of_least g names y i k one) (first_of_least g names z j l two));
+  }
     where
       grown : Grows (start ∷ []) (arrivals g names) names
       grown = subst (λ ns. Grows (start ∷ []) (arrivals g ns) names) whole w.all
+
       early : (n : ℕ) (z : N) → (start ≡ z) ⊎ Has (arrivals g (take n names)) z → slice_get names n ≡ Some z → 0 < n → (i : ℕ) × (k : ℕ) × LeadsTo g names z i k × (i < n)
       early n z (inl e) at later =
           let front = walked_begins g start names w in
@@ -53,6 +54,7 @@ module _ {N : Type 0} (g : Graph N) (start : N) (names : List N) where
           let pair = pair_at g (take n names) z place.0 place.1 in
           let there = take_at names n pair.0 pair.2.name pair.2.there in
           (pair.0, pair.1, record { name = pair.2.name; arc = pair.2.arc; there = there.0; has = pair.2.has; leads = pair.2.leads }, there.1)
+
       found : (n : ℕ) (z : N) → slice_get names n ≡ Some z → 0 < n → (i : ℕ) × (k : ℕ) × IsLeastPair g names z i k × (i < n)
       found n z at later =
           let place = grown_first (arrivals g names) (start ∷ []) names n z ((λ none. none), tt) grown (omega arith) at in
@@ -71,11 +73,13 @@ module _ {N : Type 0} (g : Graph N) (start : N) (names : List N) where
       rest : (ns : List N) → slice_get ns 0 ≡ Some start → (more : List N) × (ns ≡ (start ∷ []) ++ more)
       rest [] e = absurd (cc)
       rest (n ∷ ns) e = (ns, (let same : n ≡ start = cc in ap (λ z. z ∷ ns) same))
+
       within : (z : N) → Has (arrivals g names) z → Has names z
       within z h =
           let place = Has_at (arrivals g names) z h in
           let pair = pair_at g names z place.0 place.1 in
           b.closed pair.0 pair.1 z pair.2
+
       grown : Grows (start ∷ []) (arrivals g names) names
       grown =
           let front = rest names b.begins in
@@ -87,6 +91,7 @@ module _ {N : Type 0} (g : Graph N) (start : N) (names : List N) where
             first = λ n z far e. let pair = b.found n z e (omega arith) in (offset g names pair.0 + pair.1, first_of_least g names z pair.0 pair.1 pair.2);
             ordered = λ n m y z k l far less e f one two. let i = least_of_first g names y k one in let j = least_of_first g names z l two in let earlier = pair_lt g names y z i.0 i.1 j.0 j.1 i.2.leads j.2.leads (b.ordered n m y z i.0 i.1 j.0 j.1 (omega arith) less e f i.2 j.2) in omega (arith, i.3, j.3);
           })
+
       before : (i : ℕ) → i < length names → (found : List N) × (rest : List N) × After g start names i found × (names ≡ found ++ rest) × (i < length found)
       before i low =
           let parts : arrivals g (take i names) ++ arrivals g (drop i names) ≡ arrivals g names = sym (flat_map-append (λ n. nexts (g.arcs n)) (take i names) (drop i names)) ∙ ap (arrivals g) (take-append-drop i names) in
@@ -121,6 +126,7 @@ same_front {N} g start xs ys one two (suc i) few = by_length (same_front g start
   where
     found : (found : List N) × (rest : List N) × After g start xs i found × (xs ≡ found ++ rest) × (i < length found)
     found = one.before i (omega arith)
+
     by_length : (take i xs ≡ take i ys) × (i ≤ length ys) → (i < length ys) ⊎ (length ys ≤ i) → (take (suc i) xs ≡ take (suc i) ys) × (suc i ≤ length ys)
     by_length same (inr short) =
         let all : take i ys ≡ ys = take_all i ys short in

@@ -17,11 +17,11 @@ use Rattle.fst_machine.proofs.Serving.{served-Rel}
 -- an arc further leads from an accessible name to one
 pub accessible_next : {N : Type 0} (g : Graph N) (p : N) (k : ℕ) (a : Arc Cost N) → IsAccessible g p → slice_get (g.arcs p) k ≡ Some a → IsAccessible g a.next
 accessible_next g p k a h has = record {
-    first = h.first;
-    path = h.path ++ record { state = p; place = k; arc = a } ∷ [];
-    starts = h.starts;
-    leads = IsPath-append g h.path _ h.first p a.next h.leads ((refl, has), refl);
-  }
+  first = h.first;
+  path = h.path ++ record { state = p; place = k; arc = a } ∷ [];
+  starts = h.starts;
+  leads = IsPath-append g h.path _ h.first p a.next h.leads ((refl, has), refl);
+}
 
 -- a kept arc has a new one
 Kept_has : (kept : List ℕ) (arcs new : List (Arc Cost ℕ)) (k : ℕ) (a : Arc Cost ℕ) → Kept kept arcs new → slice_get arcs k ≡ Some a → Has kept a.next → (j : ℕ) × (b : Arc Cost ℕ) × (slice_get new j ≡ Some b) × (letter_of b ≡ letter_of a) × (slice_get kept b.next ≡ Some a.next)
@@ -46,20 +46,20 @@ module _ (m c : Machine Cost) (h : IsConnected m c) where
   -- the arcs of the connected machine serve for those of the machine
   pub connected_serves : Serves (λ (p i : ℕ). slice_get h.kept i ≡ Some p) (graph_of m) (graph_of c)
   connected_serves = record {
-      start = λ p starts reaches. let place = Has_at h.kept p ((h.useful p).1 (record { first = p; path = []; starts = starts; leads = refl }, reaches)) in (place.0, (h.start place.0).1 (p, starts, place.1), place.1);
-      arcs = λ p i k a tied has reaches.
+    start = λ p starts reaches. let place = Has_at h.kept p ((h.useful p).1 (record { first = p; path = []; starts = starts; leads = refl }, reaches)) in (place.0, (h.start place.0).1 (p, starts, place.1), place.1);
+    arcs = λ p i k a tied has reaches.
         let further = accessible_next (graph_of m) p k a ((h.useful p).0 (at_Has h.kept i p tied)).0 has in
         Kept_has h.kept ((graph_of m).arcs p) ((graph_of c).arcs i) k a (h.arcs i p tied) has ((h.useful a.next).1 (further, reaches));
-      final = λ p i tied. h.final i p tied;
-    }
+    final = λ p i tied. h.final i p tied;
+  }
 
   -- and the other way round
   pub machine_serves : Serves (λ (i p : ℕ). slice_get h.kept i ≡ Some p) (graph_of c) (graph_of m)
   machine_serves = record {
-      start = λ i starts reaches. (h.start i).0 starts;
-      arcs = λ i p j b tied has reaches. Kept_from h.kept ((graph_of m).arcs p) ((graph_of c).arcs i) j b (h.arcs i p tied) has;
-      final = λ i p tied. sym (h.final i p tied);
-    }
+    start = λ i starts reaches. (h.start i).0 starts;
+    arcs = λ i p j b tied has reaches. Kept_from h.kept ((graph_of m).arcs p) ((graph_of c).arcs i) j b (h.arcs i p tied) has;
+    final = λ i p tied. sym (h.final i p tied);
+  }
 
   -- so both relate the same
   pub connected-Rel : (kind : ArcType) (x y : List ℕ) (w : Cost) → Rel kind (graph_of m) x y w ↔ Rel kind (graph_of c) x y w

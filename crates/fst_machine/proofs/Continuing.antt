@@ -59,6 +59,7 @@ module _ {N M : Type 0} (f : N → M) (g : Graph N) (h : Graph M) (D : N → Typ
     where
       step : Arc Cost N → Transition N
       step a = record { state = p; place = t.place; arc = a }
+
       by_rest : (a : Arc Cost N) → slice_get (g.arcs p) t.place ≡ Some a → renamed f a ≡ t.arc → Stays f g D a.next path last ⊎ GoesOn f g h D c a.next path last → Stays f g D p (t ∷ path) last ⊎ GoesOn f g h D c p (t ∷ path) last
       by_rest a has e (inl r) =
           let same : ◌≡◌ {A = Transition M} (record { state = f p; place = t.place; arc = renamed f a }) t = λ i. record { state = sym leads.0.0 i; place = t.place; arc = e i } in
@@ -66,6 +67,7 @@ module _ {N M : Type 0} (f : N → M) (g : Graph N) (h : Graph M) (D : N → Typ
       by_rest a has e (inr r) =
           let same : ◌≡◌ {A = Transition M} t (record { state = f p; place = t.place; arc = renamed f a }) = λ i. record { state = leads.0.0 i; place = t.place; arc = sym e i } in
           inr (record { old = step a ∷ r.old; end = r.end; leads = ((refl, has), r.leads); within = r.within; final = r.final; place = r.place; rest = r.rest; same = ap₂ (◌∷◌) same r.same; goes = r.goes; shorter = omega (arith, r.shorter) })
+
       by_arc : (slice_get (map (renamed f) (g.arcs p)) t.place ≡ Some t.arc) ⊎ ((j : ℕ) × (slice_get (leaving (g.final p) c) j ≡ Some t.arc) × (t.place ≡ length (map (renamed f) (g.arcs p)) + j)) → ((n : N) → D n → f n ≡ t.arc.next → Stays f g D n path last ⊎ GoesOn f g h D c n path last) → Stays f g D p (t ∷ path) last ⊎ GoesOn f g h D c p (t ∷ path) last
       by_arc (inl e) further =
           let from = mapped_at (renamed f) (g.arcs p) t.place t.arc e in

@@ -46,6 +46,7 @@ least_either A B d e (inr one) (inr two) = inr (reached (plus_picks d e), least)
     reached : (plus d e ≡ d) ⊎ (plus d e ≡ e) → A (plus d e) ⊎ B (plus d e)
     reached (inl same) = inl (subst A (sym same) one.0)
     reached (inr same) = inr (subst B (sym same) two.0)
+
     least : (w : Cost) → A w ⊎ B w → plus (plus d e) w ≡ plus d e
     least w (inl h) = ap (λ z. plus z w) (plus_comm d e) ∙ (plus_assoc e d w ∙ (ap (plus e) (one.1 w h) ∙ plus_comm e d))
     least w (inr h) = plus_assoc d e w ∙ ap (plus d) (two.1 w h)

@@ -13,10 +13,10 @@ use Rattle.fst_machine.proofs.Renaming.{renamed-RelFrom}
 -- the numbers, read as names, are a renaming
 pub IsNumbered-Renames : {N : Type 0} (g : Graph N) (names : List N) (m : Machine Cost) (d : N) → IsNumbered g names m → Renames (λ j. get_or names j d) (graph_of m) g (λ j. j < length names)
 IsNumbered-Renames g names m d h = record {
-    arcs = λ i low. h.arcs i (get_or names i d) d (slice_get-get_or names i d low);
-    final = λ i low. h.final i (get_or names i d) (slice_get-get_or names i d low);
-    within = λ i k a low has. h.within i k a low has;
-  }
+  arcs = λ i low. h.arcs i (get_or names i d) d (slice_get-get_or names i d low);
+  final = λ i low. h.final i (get_or names i d) (slice_get-get_or names i d low);
+  within = λ i k a low has. h.within i k a low has;
+}
 
 -- the relation of the machine is that of the graph
 pub numbered-Rel : {N : Type 0} (kind : ArcType) (g : Graph N) (names : List N) (m : Machine Cost) → IsNumbered g names m → (x y : List ℕ) (w : Cost) → Rel kind (graph_of m) x y w ↔ Rel kind g x y w
@@ -28,11 +28,13 @@ numbered-Rel {N} kind g names m h x y w = by_names names h
       where
         renames : Renames (λ j. get_or (n ∷ names) j n) (graph_of m) g (λ j. j < length (n ∷ names))
         renames = IsNumbered-Renames g (n ∷ names) m n h
+
         there : Rel kind (graph_of m) x y w → Rel kind g x y w
         there r =
             let first : 0 ≡ r.first = let e : Some 0 ≡ Some r.first = sym h.start ∙ r.starts in cc in
             let says : RelFrom kind (graph_of m) 0 x y w = subst (λ (i : ℕ). RelFrom kind (graph_of m) i x y w) (sym first) r.says in
             record { first = n; starts = h.first; says = (renamed-RelFrom (λ j. get_or (n ∷ names) j n) kind (graph_of m) g (λ j. j < length (n ∷ names)) renames 0 (omega arith) x y w).0 says }
+
         back : Rel kind g x y w → Rel kind (graph_of m) x y w
         back r =
             let first : n ≡ r.first = let e : Some n ≡ Some r.first = sym h.first ∙ r.starts in cc in

@@ -95,6 +95,6 @@ module _ {N : Type 0} (g : Graph N) where
 
   pub first_of_least : (names : List N) (z : N) (i k : ℕ) → IsLeastPair g names z i k → FirstAt (arrivals names) z (offset names i + k)
   first_of_least names z i k h = record {
-      there = at_pair names z i k h.leads;
-      first = λ place e less. let pair = pair_at names z place e in h.least pair.0 pair.1 pair.2 (lt_pair names z z pair.0 pair.1 i k pair.2 h.leads (let same = pair.3 in omega arith));
-    }
+    there = at_pair names z i k h.leads;
+    first = λ place e less. let pair = pair_at names z place e in h.least pair.0 pair.1 pair.2 (lt_pair names z z pair.0 pair.1 i k pair.2 h.leads (let same = pair.3 in omega arith));
+  }

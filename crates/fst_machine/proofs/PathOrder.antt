@@ -73,12 +73,14 @@ same_ascending {N} (a ∷ ones) (b ∷ bs) one two there back = by_heads (there 
             by_place : Has (b ∷ bs) x → Has bs x
             by_place (inl f) = absurd (not_before_itself a (subst (λ (z : WeightedPath N). path_cmp a z ≡ Less) (sym (e ∙ f)) (one.0 x h)))
             by_place (inr k) = k
+
         backward : (x : WeightedPath N) → Has bs x → Has ones x
         backward x h = by_place (back x (inr h))
           where
             by_place : Has (a ∷ ones) x → Has ones x
             by_place (inl f) = absurd (not_before_itself b (subst (λ (z : WeightedPath N). path_cmp b z ≡ Less) (sym (sym e ∙ f)) (two.0 x h)))
             by_place (inr k) = k
+
     by_heads : Has (b ∷ bs) a → Has (a ∷ ones) b → AlikeThenSame ones bs → (a ∷ ones) ≡ (b ∷ bs)
     by_heads (inl e) other tails = rest (sym e) tails
     by_heads (inr h) (inl e) tails = rest e tails
@@ -94,6 +96,7 @@ first_within {N} kind g n xs ys one two a here = by_case (two.others a (one.succ
       where
         missing : Has ys a → ⊥
         missing h = not_before_itself a (full.1 a h)
+
         within : (b : WeightedPath N) → Has (a ∷ ys) b → Has xs b
         within b (inl e) = subst (λ (z : WeightedPath N). Has xs z) e here
         within b (inr h) = by_other (one.others b (two.successful b h))
@@ -101,6 +104,7 @@ first_within {N} kind g n xs ys one two a here = by_case (two.others a (one.succ
             by_other : Has xs b ⊎ ((length xs ≡ n) × ((c : WeightedPath N) → Has xs c → path_cmp c b ≡ Less)) → Has xs b
             by_other (inl k) = k
             by_other (inr after) = absurd (not_before_each_other a b (after.1 a here) (full.1 b h))
+
         too_many : length (a ∷ ys) ≤ length xs
         too_many = Apart_within (a ∷ ys) xs (missing, Ascends-Apart ys two.ascends) within
 

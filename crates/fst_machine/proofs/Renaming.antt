@@ -68,6 +68,7 @@ module _ {N M : Type 0} (f : N → M) where
           moved_end : (path : List (Transition N)) (n : N) → D n → IsPath g n path s.last → D s.last
           moved_end [] n here leads = subst D leads here
           moved_end (t ∷ path) n here leads = moved_end path t.arc.next (r.within n t.place t.arc here leads.0.1) leads.1
+
       back : RelFrom kind h (f p) x y w → RelFrom kind g p x y w
       back s =
           let old = moved_back g h D r p s.last s.path within s.leads in

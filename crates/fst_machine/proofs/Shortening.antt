@@ -132,13 +132,14 @@ says_within : (kind : ArcType) (m : Machine Cost) (p : ℕ) (x y : List ℕ) (w 
 says_within kind m p x y w fair accessible r =
     let final = (graph_of m).final r.last in
     let short = shorten kind m p r.last (length r.path) r.path (omega arith) fair accessible r.final r.leads in
-    let lengths : both_lengths r.path ≡ length x + length y = ap₂ (◌+◌) (ap length (sym r.reads)) (ap length (sym r.writes)) in
-    (times kind (product kind (letters short.other)) final,
-     record {
-       says = record { path = short.other; last = r.last; leads = short.leads; final = r.final; reads = r.reads ∙ sym short.reads; writes = r.writes ∙ sym short.writes; weight = refl };
-       short = let few = subst (λ (b : ℕ). length short.other < suc (enough m b)) lengths short.few in omega arith;
-     },
-     ap (plus (times kind (product kind (letters short.other)) final)) r.weight ∙ keeps_times kind final _ _ short.better)
+    let lengths : both_lengths r.path ≡ length x + length y = ap₂ (◌+◌) (ap length (sym r.reads)) (ap length (sym r.writes)) in (
+      times kind (product kind (letters short.other)) final,
+      record {
+        says = record { path = short.other; last = r.last; leads = short.leads; final = r.final; reads = r.reads ∙ sym short.reads; writes = r.writes ∙ sym short.writes; weight = refl };
+        short = let few = subst (λ (b : ℕ). length short.other < suc (enough m b)) lengths short.few in omega arith;
+      },
+      ap (plus (times kind (product kind (letters short.other)) final)) r.weight ∙ keeps_times kind final _ _ short.better,
+    )
 
 -- each related pair has a weight
 pub weight_exists : (kind : ArcType) (m : Machine Cost) → HasNoImprovingCycle (graph_of m) kind → (x y : List ℕ) (w : Cost) → Rel kind (graph_of m) x y w → (v : Cost) × IsWeight kind (graph_of m) x y v
@@ -146,6 +147,7 @@ weight_exists kind m fair x y w r = by_least (within_least kind (graph_of m) (en
   where
     accessible : IsAccessible (graph_of m) r.first
     accessible = record { first = r.first; path = []; starts = r.starts; leads = refl }
+
     by_least : IsLeast (RelWithin kind (graph_of m) (enough m (length x + length y)) r.first x y) (weight_within kind (graph_of m) (enough m (length x + length y)) r.first x y) → (v : Cost) × IsWeight kind (graph_of m) x y v
     by_least (inl none) = absurd (let short = says_within kind m r.first x y w fair accessible r.says in none.0 short.0 short.1)
     by_least (inr some) = (_, record { reached = record { first = r.first; starts = r.starts; says = some.0.says }; least = least })

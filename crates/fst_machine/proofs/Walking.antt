@@ -54,22 +54,26 @@ module _ {N : Type 0} (g : Graph N) (start : N) where
   -- it follows the arcs of one more
   pub walking_goes_on : (names new : List N) (taken : ℕ) (n : N) → IsWalking g start names taken → slice_get names taken ≡ Some n → Grows names (nexts (g.arcs n)) new → IsWalking g start new (taken + 1)
   walking_goes_on names new taken n w at grows = record {
-      within = omega (arith, below, ap length front.1, length-append names front.0);
-      grown = subst (λ zs. Grows (start ∷ []) zs new) (sym followed) (Grows-then (arrivals g (take taken names)) (nexts (g.arcs n)) (start ∷ []) names new w.grown grows);
-      earlier = λ i low. by_order i (cases_lt i taken) low;
-    }
+    within = omega (arith, below, ap length front.1, length-append names front.0);
+    grown = subst (λ zs. Grows (start ∷ []) zs new) (sym followed) (Grows-then (arrivals g (take taken names)) (nexts (g.arcs n)) (start ∷ []) names new w.grown grows);
+    earlier = λ i low. by_order i (cases_lt i taken) low;
+  }
     where
       front : (more : List N) × (new ≡ names ++ more)
       front = Grows-front (nexts (g.arcs n)) names new grows
+
       below : taken < length names
       below = slice_get_within names taken n at
+
       kept : (i : ℕ) → i ≤ length names → take i new ≡ take i names
       kept i low = ap (take i) front.1 ∙ take-append-le i names front.0 low
+
       followed : arrivals g (take (taken + 1) new) ≡ arrivals g (take taken names) ++ nexts (g.arcs n)
       followed =
           let low : taken + 1 ≤ length names = omega (arith, below) in
           let last : get_or names taken n ≡ n = get_or_from_slice_get names taken n n at in
           ap (arrivals g) (kept (taken + 1) low ∙ (take_more names taken n below ∙ ap (λ z. take taken names ++ z ∷ []) last)) ∙ (flat_map-append (λ z. nexts (g.arcs z)) (take taken names) (n ∷ []) ∙ ap (λ zs. arrivals g (take taken names) ++ zs) (append-nil (nexts (g.arcs n))))
+
       by_order : (i : ℕ) → (i < taken) ⊎ (taken ≤ i) → i < taken + 1 → (found : List N) × (rest : List N) × After g start new i found × (new ≡ found ++ rest) × (i < length found)
       by_order i (inl sooner) low =
           let old = w.earlier i sooner in

@@ -127,12 +127,14 @@ module _ {N : Type 0} (g : Graph N) where
       where
         onward : (y : N) (path : List (Transition N)) (k : ℕ) (a : Arc Cost N) (x : N) → IsPath g start path y → slice_get (g.arcs y) k ≡ Some a → a.next ≡ x → (path : List (Transition N)) × IsPath g start path x
         onward y path k a x leads has e = (path ++ record { state = y; place = k; arc = a } ∷ [], IsPath-append g path _ start y x leads ((refl, has), e))
+
         by_source : (x : N) → (start ≡ x) ⊎ Has (flat_map (λ n. nexts (g.arcs n)) (take i names)) x → ((y : N) → Has (take i names) y → (path : List (Transition N)) × IsPath g start path y) → (path : List (Transition N)) × IsPath g start path x
         by_source x (inl e) early = ([], e)
         by_source x (inr h) early =
             let source = followed (take i names) x h in
             let path = early source.0 source.3 in
             onward source.0 path.0 source.1 source.2 x path.1 source.4 source.5
+
         by_place : Has (take i names) z ⊎ Has (get_or names i start ∷ []) z → ((y : N) → Has (take i names) y → (path : List (Transition N)) × IsPath g start path y) → (path : List (Transition N)) × IsPath g start path z
         by_place (inl early) all = all z early
         by_place (inr (inl e)) all = by_source z (walked_earlier i z (slice_get-get_or names i start (omega arith) ∙ ap Some e)) all

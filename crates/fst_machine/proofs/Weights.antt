@@ -13,9 +13,10 @@ one_weight kind g x y v w one two = plus_antisym v w (one.least w two.reached) (
 
 -- graphs that relate the same have the same weights
 pub same_weight : {N M : Type 0} (kind : ArcType) (g : Graph N) (h : Graph M) → ((x y : List ℕ) (w : Cost) → Rel kind g x y w ↔ Rel kind h x y w) → (x y : List ℕ) (w : Cost) → IsWeight kind g x y w ↔ IsWeight kind h x y w
-same_weight kind g h same x y w =
-    ((λ a. record { reached = (same x y w).0 a.reached; least = λ v r. a.least v ((same x y v).1 r) }),
-     (λ a. record { reached = (same x y w).1 a.reached; least = λ v r. a.least v ((same x y v).0 r) }))
+same_weight kind g h same x y w = (
+  (λ a. record { reached = (same x y w).0 a.reached; least = λ v r. a.least v ((same x y v).1 r) }),
+  (λ a. record { reached = (same x y w).1 a.reached; least = λ v r. a.least v ((same x y v).0 r) }),
+)
 
 -- there is at most one least value, and so one distance
 pub one_least : (Reached : Cost → Type 0) (d e : Cost) → IsLeast Reached d → IsLeast Reached e → d ≡ e

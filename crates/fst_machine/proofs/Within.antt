@@ -34,6 +34,7 @@ end_least kind g p [] [] = by_final (g.final p) refl
   where
     ends : (w : Cost) → g.final p ≡ w → (w ≡ infinite → ⊥) → IsLeast (SaysEnd kind g p [] []) w
     ends w e final = least_one (SaysEnd kind g p [] []) w (record { final = λ none. final (sym e ∙ none); reads = refl; writes = refl; weight = sym e }) (λ v h. h.weight ∙ e)
+
     by_final : (w : Cost) → g.final p ≡ w → IsLeast (SaysEnd kind g p [] []) w
     by_final best e = ends best e (λ none. absurd (cc))
     by_final (finite a b) e = ends (finite a b) e (λ none. absurd (cc))
@@ -67,15 +68,20 @@ module _ {N : Type 0} (kind : ArcType) (g : Graph N) where
         writes = writes;
         weight = weight ∙ (one_times kind (g.final h.says.last) ∙ ap g.final (sym here));
       })
-      by_path (t ∷ path) leads reads writes weight short = inr (t.place, t.arc, leads.0.1, record {
-        input_rest = input (letters path);
-        output_rest = output (letters path);
-        weight_rest = times kind (product kind (letters path)) (g.final h.says.last);
-        says = record { says = record { path = path; last = h.says.last; leads = leads.1; final = h.says.final; reads = refl; writes = refl; weight = refl }; short = omega (arith, short) };
-        reads = reads;
-        writes = writes;
-        weight = weight ∙ times_assoc kind t.arc.weight _ _;
-      })
+      by_path (t ∷ path) leads reads writes weight short = inr (
+        t.place,
+        t.arc,
+        leads.0.1,
+        record {
+          input_rest = input (letters path);
+          output_rest = output (letters path);
+          weight_rest = times kind (product kind (letters path)) (g.final h.says.last);
+          says = record { says = record { path = path; last = h.says.last; leads = leads.1; final = h.says.final; reads = refl; writes = refl; weight = refl }; short = omega (arith, short) };
+          reads = reads;
+          writes = writes;
+          weight = weight ∙ times_assoc kind t.arc.weight _ _;
+        },
+      )
 
   within_end : (k : ℕ) (p : N) (x y : List ℕ) (w : Cost) → SaysEnd kind g p x y w → RelWithin kind g k p x y w
   within_end k p x y w h = record { says = RelFrom-end kind g p x y w h; short = omega (arith, RelFrom-end-length kind g p x y w h) }
@@ -90,15 +96,17 @@ module _ {N : Type 0} (kind : ArcType) (g : Graph N) where
     where
       stands : (l : ℕ) (xs ys zs : List ℕ) → behind l xs ≡ Some ys → xs ≡ before l zs → ys ≡ zs
       stands l xs ys zs e f = let same : Some ys ≡ Some zs = sym e ∙ (ap (behind l) f ∙ behind-before l zs) in cc
+
       misses : (l : ℕ) (xs zs : List ℕ) → behind l xs ≡ None → xs ≡ before l zs → ⊥
       misses l xs zs e f = let wrong : None ≡ Some zs = sym e ∙ (ap (behind l) f ∙ behind-before l zs) in cc
+
       by_labels : (ox : Option (List ℕ)) → behind a.ilabel x ≡ ox → (oy : Option (List ℕ)) → behind a.olabel y ≡ oy → IsLeast (ArcWithin k x y a) (arc_weight kind (weight_within kind g k) a ox oy)
       by_labels None e oy f = least_none (ArcWithin k x y a) (λ w h. misses a.ilabel x h.input_rest e h.reads)
       by_labels (Some xs) e None f = least_none (ArcWithin k x y a) (λ w h. misses a.olabel y h.output_rest f h.writes)
       by_labels (Some xs) e (Some ys) f = least_same (λ w. (v : Cost) × RelWithin kind g k a.next xs ys v × (w ≡ times kind a.weight v)) (ArcWithin k x y a) _
-        (λ w h. record { input_rest = xs; output_rest = ys; weight_rest = h.0; says = h.1; reads = behind_is a.ilabel x xs e; writes = behind_is a.olabel y ys f; weight = h.2 })
-        (λ w h. (h.weight_rest, subst₂ (λ us vs. RelWithin kind g k a.next us vs h.weight_rest) (sym (stands a.ilabel x xs h.input_rest e h.reads)) (sym (stands a.olabel y ys h.output_rest f h.writes)) h.says, h.weight))
-        (least_times kind a.weight (RelWithin kind g k a.next xs ys) (weight_within kind g k a.next xs ys) (rest a.next xs ys))
+          (λ w h. record { input_rest = xs; output_rest = ys; weight_rest = h.0; says = h.1; reads = behind_is a.ilabel x xs e; writes = behind_is a.olabel y ys f; weight = h.2 })
+          (λ w h. (h.weight_rest, subst₂ (λ us vs. RelWithin kind g k a.next us vs h.weight_rest) (sym (stands a.ilabel x xs h.input_rest e h.reads)) (sym (stands a.olabel y ys h.output_rest f h.writes)) h.says, h.weight))
+          (least_times kind a.weight (RelWithin kind g k a.next xs ys) (weight_within kind g k a.next xs ys) (rest a.next xs ys))
 
   arcs_least : (k : ℕ) (x y : List ℕ) (arcs : List (Arc Cost N)) → ((p : N) (x y : List ℕ) → IsLeast (RelWithin kind g k p x y) (weight_within kind g k p x y)) → IsLeast (SomeArc k x y arcs) (arcs_weight kind (weight_within kind g k) x y arcs)
   arcs_least k x y [] rest = least_none (SomeArc k x y []) (λ w h. absurd (let e = h.2 in cc))
@@ -107,9 +115,11 @@ module _ {N : Type 0} (kind : ArcType) (g : Graph N) where
       there : (w : Cost) → ArcWithin k x y a w ⊎ SomeArc k x y arcs w → SomeArc k x y (a ∷ arcs) w
       there w (inl h) = (0, a, refl, h)
       there w (inr h) = (suc h.0, h.1, h.2, h.3)
+
       by_place : (w : Cost) (place : ℕ) (b : Arc Cost N) → slice_get (a ∷ arcs) place ≡ Some b → ArcWithin k x y b w → ArcWithin k x y a w ⊎ SomeArc k x y arcs w
       by_place w zero b e h = inl (subst (λ (c : Arc Cost N). ArcWithin k x y c w) (let same : b ≡ a = cc in same) h)
       by_place w (suc place) b e h = inr (place, b, e, h)
+
       back : (w : Cost) → SomeArc k x y (a ∷ arcs) w → ArcWithin k x y a w ⊎ SomeArc k x y arcs w
       back w h = by_place w h.0 h.1 h.2 h.3
 
@@ -125,6 +135,7 @@ module _ {N : Type 0} (kind : ArcType) (g : Graph N) where
         weight = weight ∙ (one_times kind (g.final last) ∙ ap g.final (sym here));
       }
       by_path w (t ∷ path) last short leads final reads writes weight = absurd (omega (arith, short))
+
       only : (w : Cost) → RelWithin kind g zero p x y w → SaysEnd kind g p x y w
       only w h = by_path w h.says.path h.says.last h.short h.says.leads h.says.final h.says.reads h.says.writes h.says.weight
   within_least (suc k) p x y = least_same (λ w. SaysEnd kind g p x y w ⊎ SomeArc k x y (g.arcs p) w) (RelWithin kind g (suc k) p x y) _ there (within_cases k p x y) (least_either (SaysEnd kind g p x y) (SomeArc k x y (g.arcs p)) _ _ (end_least kind g p x y) (arcs_least k x y (g.arcs p) (within_least k)))

@@ -28,7 +28,11 @@ fn find(names: &mut Vec<u32>, seen: &mut Vec<bool>, next: u32) -> Result<(), All
 }
 
 /// Adds each state to which these arcs lead, if it is not among those that were found.
-fn find_all<W: Weight>(names: &mut Vec<u32>, seen: &mut Vec<bool>, arcs: &[FstArc<W>]) -> Result<(), AllocError>
+fn find_all<W: Weight>(
+    names: &mut Vec<u32>,
+    seen: &mut Vec<bool>,
+    arcs: &[FstArc<W>],
+) -> Result<(), AllocError>
     requires marks { Marks seen.old.items names.old.items }
     requires within { All (λ a. a.next < length seen.old.items) arcs.now }
     ensures grows { OnOk result (Grows names.old.items (map (λ a. a.next) arcs.now) names.new.items) }

@@ -28,15 +28,13 @@ pub trait Names<M> {
 pub fn value_laws()
     ensures plus { (a b c : Cost) → PlusLaws a b c }
     ensures times { (kind : ArcType) (a b c d : Cost) → TimesLaws kind a b c d }
-{
-}
+{}
 
 /// The laws of letters and of paths in any graph.
 pub fn path_laws<N>()
     ensures letters { (kind : ArcType) → LetterLaws kind }
     ensures paths { (kind : ArcType) (g : Graph N) → PathLaws kind g }
-{
-}
+{}
 
 /// The laws of graphs that stand to each other as operations on machines make them.
 pub fn graph_laws<M, N: Names<M>>()
@@ -45,20 +43,17 @@ pub fn graph_laws<M, N: Names<M>>()
     ensures continuing { (kind : ArcType) (g : Graph N) (h : Graph M) (f : N → M) (c : M) → ContinuingLaws kind g h f N.domain c }
     ensures turning { (kind : ArcType) (g : Graph N) (h : Graph M) → TurningLaw kind g h N.tied N.domain }
     ensures machines { (kind : ArcType) (g : Graph N) → MachineLaws kind g }
-{
-}
+{}
 
 /// The laws of cycles, weights and distances.
 pub fn weight_laws<M, N>()
     ensures cycles { (kind : ArcType) (g : Graph N) (p q : N) (path : List (Transition N)) (c : HasCycle g p path q) → CycleLaws kind g p q path c }
     ensures machines { (kind : ArcType) (m : Machine Cost) → MachineWeightLaws kind m }
     ensures weights { (kind : ArcType) (g : Graph N) (h : Graph M) → WeightLaws kind g h }
-{
-}
+{}
 
 /// The laws of breadth-first lists and of the order of successful paths.
 pub fn list_laws<N>()
     ensures breadth_first { (g : Graph N) (start : N) (names : List N) → BreadthFirstLaws g start names }
     ensures order { (kind : ArcType) (g : Graph N) → PathOrderLaws kind g }
-{
-}
+{}

@@ -21,4 +21,6 @@ pub use fst::{Fst, GrowFault, MOST_ARCS, MOST_LABEL, MOST_STATES, StateList};
 pub use path::{Path, Paths, Step};
 
 #[cfg(test)]
+mod path_tests;
+#[cfg(test)]
 mod tests;

@@ -1,2 +1,3 @@
 pub mod Plain
 pub mod Tables
+pub mod PlainPaths

@@ -6,10 +6,13 @@
 
 mod cost;
 mod distance;
+mod listing;
 mod pair;
+mod path;
 mod scan;
 
 pub use cost::PlainCost;
 pub use distance::{distances_to, distances_to_final};
 pub use pair::pair_weight;
+pub use path::{PlainPath, PlainTransition};
 pub use scan::breadth_first;

@@ -5,22 +5,22 @@ use Rattle.fst_machine.proofs.laws.path_laws.Goals as goal
 
 pub returns-clause-letters : goal.returns-clause-letters
 returns-clause-letters g c = λ kind. record {
-    input_joined = input-append;
-    output_joined = output-append;
-    word_joined = label_word-append;
-    product_joined = product-append kind;
-    input_turned = input-turned;
-    output_turned = output-turned;
-    product_turned = product-turned kind;
-  }
+  input_joined = input-append;
+  output_joined = output-append;
+  word_joined = label_word-append;
+  product_joined = product-append kind;
+  input_turned = input-turned;
+  output_turned = output-turned;
+  product_turned = product-turned kind;
+}
 
 pub returns-clause-paths : goal.returns-clause-paths
 returns-clause-paths g c = λ kind graph. record {
-    joins = IsPath-append graph;
-    splits = IsPath-split graph;
-    written = walk_of_path graph;
-    read = path_of_walk graph;
-    fixed = same_path graph;
-    says = RelFrom_is kind graph;
-    silent = RelFrom-epsilon kind graph;
-  }
+  joins = IsPath-append graph;
+  splits = IsPath-split graph;
+  written = walk_of_path graph;
+  read = path_of_walk graph;
+  fixed = same_path graph;
+  says = RelFrom_is kind graph;
+  silent = RelFrom-epsilon kind graph;
+}
