@@ -1,10 +1,13 @@
 """Seeded random machines as text, for measuring.
 
 Every weight is a whole number below 1,000, so that a 32-bit float holds it exactly. The states are
-numbered in the order of first appearance, so that every program reads the same machine; `shuffled`
+numbered in the order of first appearance, so that every program reads the same machine; `--spread`
 gives the same machine with its state numbers permuted and spread out with gaps.
+
+    machines.py PATH ARCS [--spread]
 """
 import random
+import sys
 
 
 def arcs_by_state(arcs, seed):
@@ -45,3 +48,7 @@ def write_text(path, arcs, seed=1, spread=False):
             if state % 6 == 0:
                 lines.append(f"{source}\t{state % 1000}\n")
             out.write("".join(lines))
+
+
+if __name__ == "__main__":
+    write_text(sys.argv[1], int(sys.argv[2]), spread="--spread" in sys.argv)
