@@ -13,6 +13,10 @@ use fst_semiring::Weight;
 use itoa::Buffer;
 use std::alloc::{AllocError, Global};
 
+/// The bytes that are reserved for the line of an arc, and for the final line of a state.
+const ARC_ROOM: usize = 32;
+const STATE_ROOM: usize = 16;
+
 /// Whether a weight is One.
 fn is_one<W: Weight>(weight: W) -> bool
     ensures { result ≡ is_one W.KIND (W.value weight) }
@@ -196,6 +200,11 @@ fn split_state<W: Weight>(fst: &Fst<W>) -> Option<PrintFault>
     None
 }
 
+/// The bytes that are reserved for a text: most machines fit, and room that stays empty costs no memory.
+fn room<W: Weight>(fst: &Fst<W>) -> usize {
+    fst.arc_count() as usize * ARC_ROOM + fst.states() as usize * STATE_ROOM
+}
+
 /// The text of a machine with a start.
 fn print_from<W: Weight>(
     alloc: Global,
@@ -206,7 +215,7 @@ fn print_from<W: Weight>(
     requires { start < length fst.now.states }
     ensures { IfOk result (λ text. text.items ≡ text_of_entries W.KIND options.now (entries_at start (map (valued_state W.value) fst.now.states) ++ other_entries start 0 (map (valued_state W.value) fst.now.states))) }
 {
-    let mut out = Vec::new(alloc);
+    let mut out = Vec::with_capacity(alloc, room::<W>(fst))?;
     push_state::<W>(&mut out, options, fst, start)?;
     push_others::<W>(&mut out, options, fst, start)?;
     Ok(out)
