@@ -1,12 +1,12 @@
 -- Paths collected in their order: what stands in the list, and that it ascends.
-use Rattle.std.proofs.Common.{◌≡◌, ◌⊎◌, inl, inr, ℕ, ◌+◌, ◌<◌, ◌≤◌, zero, suc, Bool, true, false, cond, List, [], ◌∷◌, ◌++◌, Some, None, length, take, drop, sym, refl, ap, ◌∙◌, subst, arith, Ordering, Less, Equal, Greater}
+use Rattle.std.proofs.Common.{◌≡◌, ◌⊎◌, inl, inr, ℕ, ◌+◌, ◌<◌, ◌≤◌, suc, Bool, true, false, cond, List, [], ◌∷◌, ◌++◌, Some, None, length, take, drop, sym, refl, ap, ◌∙◌, subst, arith, Ordering, Less, Equal, Greater}
 use Rattle.std.specs.Ordering.{ordering_reverse}
 use Rattle.fst_semiring.specs.Cost.{Cost, best, finite, infinite}
 use Rattle.fst_semiring.specs.declared.arc_type.ArcType.{ArcType}
 use Rattle.fst_semiring.specs.Semiring.{times}
 use Rattle.fst_machine.specs.Graph.{Graph}
 use Rattle.fst_machine.specs.Letters.{product}
-use Rattle.fst_machine.specs.Paths.{Transition, IsPath, letters}
+use Rattle.fst_machine.specs.Paths.{IsPath, letters}
 use Rattle.fst_machine.specs.Relation.{IsSuccessful}
 use Rattle.fst_machine.specs.BreadthFirst.{Has}
 use Rattle.fst_machine.specs.PathOrder.{WeightedPath, path_cmp, Ascends}

@@ -5,4 +5,3 @@ pub mod Reached
 pub mod Collecting
 pub mod PlainOrder
 pub mod Parts
-pub mod Keys

@@ -1,8 +1,8 @@
 -- Paths with one arc more, and all paths with less than k arcs.
-use Rattle.std.proofs.Common.{◌≡◌, ◌⊎◌, inl, inr, ℕ, ◌+◌, ◌<◌, ◌≤◌, zero, suc, List, [], ◌∷◌, ◌++◌, Some, length, take, map, get_or, slice_get, sym, refl, ap, ◌∙◌, subst, append-nil, arith}
+use Rattle.std.proofs.Common.{◌≡◌, ◌⊎◌, inl, inr, ℕ, ◌+◌, ◌<◌, zero, suc, List, [], ◌∷◌, ◌++◌, Some, length, take, map, get_or, slice_get, sym, refl, ap, ◌∙◌, subst, append-nil, arith}
 use Rattle.std.specs.List.{flat_map}
 use Rattle.std.proofs.lemmas.Grind.{flat_map-append}
-use Rattle.std.proofs.lemmas.List.{map_more, map_push, map-append, length-map, length-take-le, length-append}
+use Rattle.std.proofs.lemmas.List.{map_more, map_push, length-map, length-take-le, length-append}
 use Rattle.fst_semiring.specs.Cost.{Cost}
 use Rattle.fst_semiring.specs.declared.arc_type.ArcType.{ArcType}
 use Rattle.fst_semiring.specs.Semiring.{one_of, times}
@@ -10,7 +10,7 @@ use Rattle.fst_semiring.proofs.Laws.{times_one}
 use Rattle.fst_machine.specs.Machine.{Arc}
 use Rattle.fst_machine.specs.Graph.{Graph}
 use Rattle.fst_machine.specs.Letters.{product}
-use Rattle.fst_machine.specs.Paths.{Transition, Leaves, IsPath, letters}
+use Rattle.fst_machine.specs.Paths.{Transition, IsPath, letters}
 use Rattle.fst_machine.specs.BreadthFirst.{Has}
 use Rattle.fst_machine.proofs.Letters.{letters-append, product-append}
 use Rattle.fst_machine.proofs.PathParts.{IsPath-append, IsPath-split}

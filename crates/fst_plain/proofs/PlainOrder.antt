@@ -1,10 +1,9 @@
 -- The order of paths over what is held of them.
-use Rattle.std.proofs.Common.{◌≡◌, ℕ, List, [], ◌∷◌, length, map, sym, refl, ap, ◌∙◌, Ordering, Equal}
+use Rattle.std.proofs.Common.{◌≡◌, List, [], ◌∷◌, length, map, sym, refl, ap, ◌∙◌, Equal}
 use Rattle.std.specs.Ordering.{nat_cmp, ordering_then}
 use Rattle.std.specs.Cmp.Lexicographic.{slice_cmp}
 use Rattle.std.proofs.lemmas.List.{length-map}
 use Rattle.fst_semiring.specs.Cost.{cost_cmp}
-use Rattle.fst_machine.specs.Paths.{Transition}
 use Rattle.fst_machine.specs.PathOrder.{arc_places, path_cmp}
 use Rattle.fst_plain.specs.declared.path.PlainTransition.{PlainTransition}
 use Rattle.fst_plain.specs.declared.path.PlainPath.{PlainPath}

@@ -1,5 +1,4 @@
 use Rattle.std.proofs.Common.{◌+◌, sym, subst, arith}
-use Rattle.fst_semiring.specs.Semiring.{times}
 use Rattle.fst_plain.specs.Plain.{cost_of, Fits}
 use Rattle.fst_plain.proofs.Bounds.{Fits-sum, times-Fits}
 use Rattle.fst_plain.proofs.listing.add_arc.Goals as goal

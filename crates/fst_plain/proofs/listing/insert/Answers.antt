@@ -1,9 +1,8 @@
-use Rattle.std.proofs.Common.{◌≡◌, ◌++◌, ◌∷◌, ℕ, List, Bool, true, false, cond, map, take, drop, sym, ap, ◌∙◌, subst}
+use Rattle.std.proofs.Common.{◌≡◌, ◌++◌, ◌∷◌, ℕ, List, Bool, true, false, cond, map, take, drop, sym, ap, ◌∙◌}
 use Rattle.std.proofs.lemmas.List.{map-append, take-map, drop-map}
-use Rattle.fst_machine.specs.PathOrder.{WeightedPath}
 use Rattle.fst_plain.specs.declared.path.PlainPath.{PlainPath}
 use Rattle.fst_plain.specs.PlainPaths.{path_of}
-use Rattle.fst_plain.specs.Collected.{inserted, place_in, ties_in}
+use Rattle.fst_plain.specs.Collected.{place_in, ties_in}
 use Rattle.fst_plain.proofs.Collecting.{inserted_is}
 use Rattle.fst_plain.proofs.listing.insert.Goals as goal
 

@@ -1,5 +1,5 @@
-use Rattle.std.proofs.Common.{◌≡◌, ◌<◌, ◌+◌, ◌++◌, ◌∷◌, ℕ, List, length, map, sym, ap, ◌∙◌, subst, arith}
-use Rattle.fst_machine.specs.Machine.{Arc, valued, valued_arc}
+use Rattle.std.proofs.Common.{◌≡◌, ◌<◌, ◌++◌, ◌∷◌, length, map, sym, ap, ◌∙◌, subst, arith}
+use Rattle.fst_machine.specs.Machine.{valued, valued_arc}
 use Rattle.fst_machine.specs.Graph.{graph_of}
 use Rattle.fst_machine.proofs.Walking.{graph_arcs, nexts_within}
 use Rattle.fst_plain.specs.declared.path.PlainPart.{PlainPart}

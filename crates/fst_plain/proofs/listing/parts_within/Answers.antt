@@ -1,9 +1,9 @@
-use Rattle.std.proofs.Common.{◌≡◌, ◌<◌, ◌≤◌, ◌+◌, ℕ, List, length, map, sym, ap, ◌∙◌, subst, arith}
+use Rattle.std.proofs.Common.{◌+◌, List, length, map, sym, subst, arith}
 use Rattle.fst_machine.specs.Machine.{valued}
 use Rattle.fst_machine.specs.Graph.{graph_of}
 use Rattle.fst_plain.specs.declared.path.PlainPart.{PlainPart}
 use Rattle.fst_plain.specs.PlainPaths.{AllGood, ArePartsBelow, Part, part_of}
-use Rattle.fst_plain.proofs.Parts.{parts_more, no_parts}
+use Rattle.fst_plain.proofs.Parts.{parts_more}
 use Rattle.fst_plain.proofs.listing.parts_within.Goals as goal
 
 pub longer-requires-in-loop-round-clause-good : goal.longer-requires-in-loop-round-clause-good

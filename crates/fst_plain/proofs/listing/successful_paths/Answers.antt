@@ -1,9 +1,9 @@
-use Rattle.std.proofs.Common.{◌≡◌, ◌<◌, ◌≤◌, ◌+◌, ℕ, List, Some, length, map, sym, ap, ◌∙◌, subst, arith}
+use Rattle.std.proofs.Common.{◌≡◌, ◌+◌, ℕ, List, Some, length, map, sym, subst, arith}
 use Rattle.fst_machine.specs.Machine.{valued}
 use Rattle.fst_machine.specs.Graph.{graph_of}
 use Rattle.fst_machine.specs.PathOrder.{WeightedPath}
 use Rattle.fst_plain.specs.declared.path.PlainPart.{PlainPart}
-use Rattle.fst_plain.specs.PlainPaths.{AllGood, ArePartsBelow, ListsPaths, part_of, path_of}
+use Rattle.fst_plain.specs.PlainPaths.{AllGood, ArePartsBelow, ListsPaths, part_of}
 use Rattle.fst_plain.proofs.Collecting.{collected_lists}
 use Rattle.fst_plain.proofs.listing.successful_paths.Goals as goal
 
