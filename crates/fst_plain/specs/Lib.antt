@@ -1,3 +1,4 @@
 pub mod Plain
 pub mod Tables
 pub mod PlainPaths
+pub mod Collected

@@ -1,19 +1,20 @@
 -- Paths as the plain programs hold them, and the list of all of them.
-use Rattle.std.specs.Prelude.{◌≡◌, ◌↔◌, ℕ, ◌≤◌, suc, List, [], ◌∷◌, ◌++◌, length, map}
-use Rattle.std.specs.List.{flat_map}
+use Rattle.std.specs.Prelude.{◌≡◌, ℕ, ◌<◌, ◌≤◌, suc, List, [], ◌∷◌, ◌++◌, length, map}
+use Rattle.std.specs.List.{All, flat_map}
 use Rattle.fst_semiring.specs.Cost.{Cost}
 use Rattle.fst_semiring.specs.declared.arc_type.ArcType.{ArcType}
 use Rattle.fst_semiring.specs.Semiring.{one_of, times}
 use Rattle.fst_machine.specs.Machine.{Arc}
 use Rattle.fst_machine.specs.Graph.{Graph}
-use Rattle.fst_machine.specs.Paths.{Transition}
+use Rattle.fst_machine.specs.Letters.{product}
+use Rattle.fst_machine.specs.Paths.{Transition, IsPath, letters}
 use Rattle.fst_machine.specs.Relation.{IsSuccessful}
 use Rattle.fst_machine.specs.BreadthFirst.{Has}
 use Rattle.fst_machine.specs.PathOrder.{WeightedPath, Ascends}
 use Rattle.fst_plain.specs.declared.path.PlainTransition.{PlainTransition}
 use Rattle.fst_plain.specs.declared.path.PlainPath.{PlainPath}
 use Rattle.fst_plain.specs.declared.path.PlainPart.{PlainPart}
-use Rattle.fst_plain.specs.Plain.{cost_of}
+use Rattle.fst_plain.specs.Plain.{cost_of, Fits}
 
 -- the transition that is held
 abbrev pub transition_of : PlainTransition → Transition ℕ
@@ -54,3 +55,12 @@ pub record ListsPaths (kind : ArcType) (g : Graph ℕ) (k : ℕ) (listed : List 
   pub ascends : Ascends listed
   pub only : (a : WeightedPath ℕ) → Has listed a → IsSuccessful kind g a.path a.weight × (length a.path ≤ k)
   pub all : (a : WeightedPath ℕ) → IsSuccessful kind g a.path a.weight → length a.path ≤ k → Has listed a
+
+-- these are the paths from a start with less than k arcs, each with its end and product
+pub record ArePartsBelow (kind : ArcType) (g : Graph ℕ) (start k : ℕ) (parts : List Part) : Type 0 where
+  pub only : (a : Part) → Has parts a → IsPath g start a.path a.end × (length a.path < k) × (a.product ≡ product kind (letters a.path))
+  pub all : (path : List (Transition ℕ)) (end : ℕ) → IsPath g start path end → length path < k → Has parts (record { path = path; end = end; product = product kind (letters path) })
+
+-- each ends at a state, and its product fits
+abbrev pub AllGood : ℕ → ℕ → List PlainPart → Type 0
+AllGood states n parts = All (λ p. (p.end < states) × Fits n (cost_of p.product)) parts

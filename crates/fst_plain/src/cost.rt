@@ -1,12 +1,12 @@
 //! Values as plain numbers.
 
-ghost use Rattle.std.specs.Prelude.{◌≡◌, ◌+ℤ◌};
+ghost use Rattle.std.specs.Prelude.{◌≡◌, ◌+ℤ◌, IfNone, IfSome, pos};
 ghost use Rattle.std.specs.Ordering.{int_cmp};
-ghost use Rattle.fst_semiring.specs.Cost.{cost_cmp, plus, worse};
-ghost use Rattle.fst_semiring.specs.Semiring.{one_of, sum_of, times};
+ghost use Rattle.fst_semiring.specs.Cost.{cost_cmp, finite, plus, worse};
+ghost use Rattle.fst_semiring.specs.Semiring.{IsSmall, one_of, sum_of, times};
 ghost use Rattle.fst_plain.specs.Plain.{cost_of, Fits, IsWithin, SumFits};
 
-use fst_semiring::{ArcType, Weight};
+use fst_semiring::{ArcType, Key, Tropical, Weight};
 use std::cmp::Ordering;
 
 /// The value of a weight of any arc type.
@@ -59,10 +59,11 @@ pub fn compare_costs(a: PlainCost, b: PlainCost) -> Ordering
         (PlainCost::Best, PlainCost::Best) => Ordering::Equal,
         (PlainCost::Best, _) => Ordering::Less,
         (PlainCost::Finite(_, _), PlainCost::Best) => Ordering::Greater,
-        (PlainCost::Finite(first, second), PlainCost::Finite(third, fourth)) => match compare_numbers(first, third) {
-            Ordering::Equal => compare_numbers(second, fourth),
-            other => other,
-        },
+        (PlainCost::Finite(first, second), PlainCost::Finite(third, fourth)) =>
+            match compare_numbers(first, third) {
+                Ordering::Equal => compare_numbers(second, fourth),
+                other => other,
+            },
         (PlainCost::Finite(_, _), PlainCost::Infinite) => Ordering::Less,
         (PlainCost::Infinite, PlainCost::Infinite) => Ordering::Equal,
         (PlainCost::Infinite, _) => Ordering::Greater,
@@ -97,7 +98,10 @@ fn add_costs(a: PlainCost, b: PlainCost) -> PlainCost
         (_, PlainCost::Infinite) => PlainCost::Infinite,
         (PlainCost::Best, _) => PlainCost::Best,
         (_, PlainCost::Best) => PlainCost::Best,
-        (PlainCost::Finite(first, second), PlainCost::Finite(third, fourth)) => PlainCost::Finite(add_numbers(first, third), add_numbers(second, fourth)),
+        (PlainCost::Finite(first, second), PlainCost::Finite(third, fourth)) => PlainCost::Finite(
+            add_numbers(first, third),
+            add_numbers(second, fourth),
+        ),
     }
 }
 
@@ -120,4 +124,16 @@ pub fn times_costs(kind: ArcType, a: PlainCost, b: PlainCost) -> PlainCost
         ArcType::MinMax => worse_cost(a, b),
         _ => add_costs(a, b),
     }
+}
+
+/// The tropical weight of a number. `None` exactly where its absolute value is greater than 10 to the 18.
+pub fn tropical_number(number: i64) -> Option<Tropical>
+    ensures some { IfSome result (λ w. w ≡ finite number (pos 0)) }
+    ensures none { IfNone result (IsSmall number → ⊥) }
+{
+    Tropical::from_key(Key {
+        class: 1,
+        first: i128::from(number),
+        second: 0,
+    })
 }

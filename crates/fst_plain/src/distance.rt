@@ -38,7 +38,12 @@ fn best_way<W: Weight>(arcs: &[FstArc<W>], table: &[PlainCost]) -> PlainCost
 }
 
 /// The distances over paths of at most one arc more than those of the table.
-fn relax<W: Weight>(alloc: Global, fst: &Fst<W>, targets: &[PlainCost], table: &[PlainCost]) -> Result<Vec<PlainCost>, AllocError>
+fn relax<W: Weight>(
+    alloc: Global,
+    fst: &Fst<W>,
+    targets: &[PlainCost],
+    table: &[PlainCost],
+) -> Result<Vec<PlainCost>, AllocError>
     requires targets { length targets.now ≡ length fst.now.states }
     requires table { length table.now ≡ length fst.now.states }
     requires fits { (n : ℕ) × (n ≤ 10000000000) × AllFit n table.now }
@@ -56,7 +61,12 @@ fn relax<W: Weight>(alloc: Global, fst: &Fst<W>, targets: &[PlainCost], table: &
 
 /// The best, over paths of at most so many arcs from each state, of the product Times the value that its end
 /// has among the targets.
-fn distances<W: Weight>(alloc: Global, fst: &Fst<W>, targets: &[PlainCost], arcs: u32) -> Result<Vec<PlainCost>, AllocError>
+fn distances<W: Weight>(
+    alloc: Global,
+    fst: &Fst<W>,
+    targets: &[PlainCost],
+    arcs: u32,
+) -> Result<Vec<PlainCost>, AllocError>
     requires targets { length targets.now ≡ length fst.now.states }
     requires fits { AllFit 1 targets.now }
     ensures size { IfOk result (λ table. length table.items ≡ length fst.now.states) }
@@ -71,7 +81,11 @@ fn distances<W: Weight>(alloc: Global, fst: &Fst<W>, targets: &[PlainCost], arcs
 }
 
 /// The values that count as targets: One at one state, Zero at each other.
-fn only_state<W: Weight>(alloc: Global, fst: &Fst<W>, state: u32) -> Result<Vec<PlainCost>, AllocError>
+fn only_state<W: Weight>(
+    alloc: Global,
+    fst: &Fst<W>,
+    state: u32,
+) -> Result<Vec<PlainCost>, AllocError>
     requires { state < length fst.now.states }
     ensures size { IfOk result (λ table. length table.items ≡ length fst.now.states) }
     ensures value { IfOk result (λ table. (p : ℕ) → table_at table.items p ≡ only_at W.KIND state p) }
@@ -102,7 +116,12 @@ fn final_weights<W: Weight>(alloc: Global, fst: &Fst<W>) -> Result<Vec<PlainCost
 }
 
 /// The distances from each state to one state, over paths of at most so many arcs.
-pub fn distances_to<W: Weight>(alloc: Global, fst: &Fst<W>, state: u32, arcs: u32) -> Result<Vec<PlainCost>, AllocError>
+pub fn distances_to<W: Weight>(
+    alloc: Global,
+    fst: &Fst<W>,
+    state: u32,
+    arcs: u32,
+) -> Result<Vec<PlainCost>, AllocError>
     requires { state < length fst.now.states }
     ensures size { IfOk result (λ table. length table.items ≡ length fst.now.states) }
     ensures value { IfOk result (λ table. (p : ℕ) → IsLeast (ReachesWithin W.KIND (graph_of (valued W.value fst.now)) arcs p state) (table_at table.items p)) }
@@ -113,7 +132,11 @@ pub fn distances_to<W: Weight>(alloc: Global, fst: &Fst<W>, state: u32, arcs: u3
 }
 
 /// The distances from each state to the final states, over paths of at most so many arcs.
-pub fn distances_to_final<W: Weight>(alloc: Global, fst: &Fst<W>, arcs: u32) -> Result<Vec<PlainCost>, AllocError>
+pub fn distances_to_final<W: Weight>(
+    alloc: Global,
+    fst: &Fst<W>,
+    arcs: u32,
+) -> Result<Vec<PlainCost>, AllocError>
     ensures size { IfOk result (λ table. length table.items ≡ length fst.now.states) }
     ensures value { IfOk result (λ table. (p : ℕ) → IsLeast (ArrivesWithin W.KIND (graph_of (valued W.value fst.now)) (graph_of (valued W.value fst.now)).final arcs p) (table_at table.items p)) }
 {

@@ -11,8 +11,12 @@ mod pair;
 mod path;
 mod scan;
 
-pub use cost::PlainCost;
+pub use cost::{PlainCost, tropical_number};
 pub use distance::{distances_to, distances_to_final};
+pub use listing::successful_paths;
 pub use pair::pair_weight;
 pub use path::{PlainPath, PlainTransition};
 pub use scan::breadth_first;
+
+#[cfg(test)]
+mod tests;

@@ -23,13 +23,7 @@ fn rest_behind(label: u32, text: &[u32]) -> Option<&[u32]>
     }
     match text {
         [] => None,
-        [first, rest @ ..] => {
-            if label == *first {
-                Some(rest)
-            } else {
-                None
-            }
-        }
+        [first, rest @ ..] => { if label == *first { Some(rest) } else { None } }
     }
 }
 
@@ -47,7 +41,13 @@ fn ending<W: Weight>(fst: &Fst<W>, state: u32, input: &[u32], output: &[u32]) ->
 
 /// The weight of the pair by an arc and a path of at most so many arcs behind it.
 #[cycle(weight)]
-fn weight_by<W: Weight>(fst: &Fst<W>, arcs: u32, arc: &FstArc<W>, input: &[u32], output: &[u32]) -> PlainCost
+fn weight_by<W: Weight>(
+    fst: &Fst<W>,
+    arcs: u32,
+    arc: &FstArc<W>,
+    input: &[u32],
+    output: &[u32],
+) -> PlainCost
     requires { arc.now.next < length fst.now.states }
     ensures value { cost_of result ≡ arc_weight W.KIND (weight_within W.KIND (graph_of (valued W.value fst.now)) arcs) (valued_arc W.value arc.now) (behind arc.now.ilabel input.now) (behind arc.now.olabel output.now) }
     ensures fits { Fits (arcs + 2) (cost_of result) }
@@ -64,7 +64,13 @@ fn weight_by<W: Weight>(fst: &Fst<W>, arcs: u32, arc: &FstArc<W>, input: &[u32],
 
 /// The weight of the pair from a state over paths of at most so many arcs.
 #[cycle(weight)]
-fn weight_from<W: Weight>(fst: &Fst<W>, arcs: u32, state: u32, input: &[u32], output: &[u32]) -> PlainCost
+fn weight_from<W: Weight>(
+    fst: &Fst<W>,
+    arcs: u32,
+    state: u32,
+    input: &[u32],
+    output: &[u32],
+) -> PlainCost
     requires { state < length fst.now.states }
     ensures value { cost_of result ≡ weight_within W.KIND (graph_of (valued W.value fst.now)) arcs state input.now output.now }
     ensures fits { Fits (arcs + 1) (cost_of result) }
@@ -82,7 +88,13 @@ fn weight_from<W: Weight>(fst: &Fst<W>, arcs: u32, state: u32, input: &[u32], ou
 
 /// The weight of a pair of strings from a state over paths of at most so many arcs: Zero where no such path
 /// has the pair, else the best of their weights.
-pub fn pair_weight<W: Weight>(fst: &Fst<W>, arcs: u32, state: u32, input: &[u32], output: &[u32]) -> PlainCost
+pub fn pair_weight<W: Weight>(
+    fst: &Fst<W>,
+    arcs: u32,
+    state: u32,
+    input: &[u32],
+    output: &[u32],
+) -> PlainCost
     requires { state < length fst.now.states }
     ensures { IsLeast (RelWithin W.KIND (graph_of (valued W.value fst.now)) arcs state input.now output.now) (cost_of result) }
 {

@@ -42,7 +42,11 @@ fn find_all<W: Weight>(names: &mut Vec<u32>, arcs: &[FstArc<W>]) -> Result<(), A
 }
 
 /// The breadth-first list of a start.
-pub fn breadth_first<W: Weight>(alloc: Global, fst: &Fst<W>, start: u32) -> Result<Vec<u32>, AllocError>
+pub fn breadth_first<W: Weight>(
+    alloc: Global,
+    fst: &Fst<W>,
+    start: u32,
+) -> Result<Vec<u32>, AllocError>
     requires { start < length fst.now.states }
     ensures { IfOk result (λ names. IsBreadthFirst (graph_of (valued W.value fst.now)) start names.items) }
 {

@@ -7,7 +7,7 @@ use Rattle.fst_plain.proofs.distance.distances.Given as goal
 
 abbrev pub invariant-loop-round : goal.invariant-loop-round
 invariant-loop-round g l = record {
-    size : length l.table.items ≡ length l.fst.states;
-    value : (p : ℕ) → table_at l.table.items p ≡ target_within g.W.Weight.KIND (graph_of (valued g.W.Weight.value l.fst)) (table_at l.targets) l._round p;
-    fits : AllFit (l._round + 1) l.table.items;
-  }
+  size : length l.table.items ≡ length l.fst.states;
+  value : (p : ℕ) → table_at l.table.items p ≡ target_within g.W.Weight.KIND (graph_of (valued g.W.Weight.value l.fst)) (table_at l.targets) l._round p;
+  fits : AllFit (l._round + 1) l.table.items;
+}

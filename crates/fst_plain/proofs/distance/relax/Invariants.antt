@@ -8,7 +8,7 @@ use Rattle.fst_plain.proofs.distance.relax.Given as goal
 
 abbrev pub invariant-loop-state : goal.invariant-loop-state
 invariant-loop-state g l = record {
-    size : length l.more.items ≡ l.state;
-    value : (p : ℕ) → p < l.state → table_at l.more.items p ≡ plus (table_at l.targets p) (ways_weight g.W.Weight.KIND (table_at l.table) ((graph_of (valued g.W.Weight.value l.fst)).arcs p));
-    fits : (n : ℕ) → AllFit n l.table → AllFit (n + 1) l.targets → AllFit (n + 1) l.more.items;
-  }
+  size : length l.more.items ≡ l.state;
+  value : (p : ℕ) → p < l.state → table_at l.more.items p ≡ plus (table_at l.targets p) (ways_weight g.W.Weight.KIND (table_at l.table) ((graph_of (valued g.W.Weight.value l.fst)).arcs p));
+  fits : (n : ℕ) → AllFit n l.table → AllFit (n + 1) l.targets → AllFit (n + 1) l.more.items;
+}

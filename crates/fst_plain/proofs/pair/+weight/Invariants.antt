@@ -14,6 +14,6 @@ decreases-weight_from g l = 2 * l.arcs
 
 abbrev pub invariant-weight_from-loop-arc : goal.invariant-weight_from-loop-arc
 invariant-weight_from-loop-arc g l = record {
-    value : cost_of l.best ≡ plus (end_weight ((graph_of (valued g.W.Weight.value l.fst)).final l.state) l.input l.output) (arcs_weight g.W.Weight.KIND (weight_within g.W.Weight.KIND (graph_of (valued g.W.Weight.value l.fst)) (l.arcs - 1)) l.input l.output (map (valued_arc g.W.Weight.value) (take l.arc-index l.arc-items)));
-    fits : Fits (l.arcs + 1) (cost_of l.best);
-  }
+  value : cost_of l.best ≡ plus (end_weight ((graph_of (valued g.W.Weight.value l.fst)).final l.state) l.input l.output) (arcs_weight g.W.Weight.KIND (weight_within g.W.Weight.KIND (graph_of (valued g.W.Weight.value l.fst)) (l.arcs - 1)) l.input l.output (map (valued_arc g.W.Weight.value) (take l.arc-index l.arc-items)));
+  fits : Fits (l.arcs + 1) (cost_of l.best);
+}

@@ -7,9 +7,9 @@ use Rattle.fst_plain.proofs.scan.breadth_first.Given as goal
 
 abbrev pub invariant-loop-taken : goal.invariant-loop-taken
 invariant-loop-taken g l = record {
-    walking : IsWalking (graph_of (valued g.W.Weight.value l.fst)) l.start l.names.items l.taken;
-    within : (k : ℕ) → Has l.names.items k → k < length l.fst.states;
-  }
+  walking : IsWalking (graph_of (valued g.W.Weight.value l.fst)) l.start l.names.items l.taken;
+  within : (k : ℕ) → Has l.names.items k → k < length l.fst.states;
+}
 
 abbrev pub decreases-loop-taken : goal.decreases-loop-taken
 decreases-loop-taken g l = length l.fst.states - l.taken
