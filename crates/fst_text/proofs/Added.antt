@@ -1,12 +1,12 @@
 -- A building that stands for the entries that are read, with one more entry.
-use Rattle.std.proofs.Common.{◌≡◌, ℕ, ◌+◌, ◌<◌, ◌≤◌, ◌==◌, zero, suc, Bool, true, false, cond, List, [], ◌∷◌, ◌++◌, length, map, Option, Some, None, refl, sym, ap, ◌∙◌, subst, arith, append-nil, append_assoc}
+use Rattle.std.proofs.Common.{◌≡◌, ℕ, ◌≤◌, ◌==◌, suc, Bool, true, false, cond, List, [], ◌∷◌, ◌++◌, length, map, Option, refl, sym, ap, ◌∙◌, subst, arith, append-nil, append_assoc}
 use Rattle.std.specs.List.{flat_map}
 use Rattle.std.specs.Option.{option_map}
 use Rattle.std.proofs.lemmas.List.{map-append}
 use Rattle.std.proofs.lemmas.Grind.{flat_map-append}
 use Rattle.fst_semiring.specs.Cost.{Cost, infinite}
 use Rattle.fst_machine.specs.Machine.{Arc, Machine, State, changed, with_arc, with_final}
-use Rattle.fst_text.specs.Entries.{Entry, arc_entry, final_entry, arcs_from, first_in, last_weight, machine_over, place_in, placed, state_numbers, state_of, states_named}
+use Rattle.fst_text.specs.Entries.{Entry, arc_entry, final_entry, arcs_from, first_in, last_weight, place_in, placed, state_numbers, state_of, states_named}
 use Rattle.fst_text.specs.Building.{Building, or_start, place_of, with_entry, with_number}
 use Rattle.fst_text.proofs.Numbers.{Has, IsApart, Lacks, equal_is, state_numbers-push, with_more}
 use Rattle.fst_text.proofs.Holding.{NamedIn}

@@ -1,26 +1,24 @@
 -- A printed machine is compiled to the machine.
-use Rattle.std.proofs.Common.{◌≡◌, ◌≢◌, ℕ, ◌+◌, ◌-◌, ◌<◌, ◌≤◌, ◌==◌, zero, suc, max, Bool, true, false, cond, List, [], ◌∷◌, ◌++◌, length, map, Option, Some, None, Result, Ok, Err, refl, sym, ap, ◌∙◌, subst, arith, append_assoc, append-nil}
+use Rattle.std.proofs.Common.{◌≡◌, ℕ, ◌+◌, ◌-◌, ◌<◌, ◌≤◌, ◌==◌, zero, suc, max, Bool, true, false, cond, List, [], ◌∷◌, ◌++◌, length, map, Option, Some, None, Result, Ok, Err, refl, sym, ap, ◌∙◌, subst, arith}
 use Rattle.std.specs.Prelude.{IsSome, IfSome, get_or}
 use Rattle.std.specs.List.{All, AllByRecursion, flat_map, slice_get}
 use Rattle.std.specs.Option.{option_map}
-use Rattle.std.proofs.lemmas.List.{length-map}
 use Rattle.std.proofs.lemmas.List.Elements.{recursion_from_All}
 use Rattle.std.proofs.lemmas.List.Sums.{sum_by-cons}
 use Rattle.std.proofs.lemmas.Option.{slice_get-get_or, slice_get_within}
 use Rattle.std.proofs.lemmas.Bool.{eq-eqb}
-use Rattle.fst_fields.specs.Lines.{fields_of, lines_of}
 use Rattle.fst_semiring.specs.declared.arc_type.ArcType.{ArcType}
 use Rattle.fst_semiring.specs.Cost.{Cost, infinite}
-use Rattle.fst_machine.specs.Machine.{Arc, IsArc, IsMachine, Machine, State, arc_total, bare_state, most_arcs, most_states}
+use Rattle.fst_machine.specs.Machine.{Arc, IsArc, Machine, State, arc_total, bare_state, most_arcs, most_states}
 use Rattle.fst_text.specs.declared.fault.PrintFault.{PrintFault}
 use Rattle.fst_text.specs.declared.fault.PrintFault.TheVariants.{NotAcceptor}
 use Rattle.fst_text.specs.declared.fault.TextFault.{TextFault}
 use Rattle.fst_text.specs.declared.options.TextOptions.{TextOptions}
-use Rattle.fst_text.specs.Entries.{Entry, above, arc_count, arc_entry, arcs_from, final_entry, first_in, from_zero, last_weight, machine_of_entries, machine_over, place_in, placed, state_of, states_named}
+use Rattle.fst_text.specs.Entries.{Entry, above, arc_count, arc_entry, arcs_from, final_entry, first_in, from_zero, machine_of_entries, machine_over, place_in, placed, state_of, states_named}
 use Rattle.fst_text.specs.Grammar.{◌>>=◌, entries_of_lines, machine_of_text}
-use Rattle.fst_text.specs.Laws.{CompilesBack, HasWeights, IsWeight}
+use Rattle.fst_text.specs.Laws.{CompilesBack, IsWeight}
 use Rattle.fst_text.specs.Printed.{entries_at, entries_of_machine, fields_of_entry, final_entries, is_zero, other_entries, refusal, split_arc, split_state, state_entries, text_of_entries, text_of_machine}
-use Rattle.fst_text.proofs.Numbers.{equal_is, length-from_zero, place_in-from_zero}
+use Rattle.fst_text.proofs.Numbers.{equal_is, place_in-from_zero}
 use Rattle.fst_text.proofs.EntryTexts.{GoodArc, GoodEntry, fields-good}
 use Rattle.fst_text.proofs.TextLines.{IsField, lines-read}
 use Rattle.fst_text.proofs.Rereading.{above-append, arc_count-append, entries-read, named-append}

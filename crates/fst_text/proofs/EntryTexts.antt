@@ -1,23 +1,19 @@
 -- A printed entry is read again.
-use Rattle.std.proofs.Common.{◌≡◌, ◌≢◌, ℕ, ◌+◌, ◌^◌, ◌<◌, ◌≤◌, zero, suc, max, Bool, true, false, cond, List, [], ◌∷◌, ◌++◌, length, map, Option, Some, None, Result, Ok, Err, refl, sym, ap, ◌∙◌, subst, arith, append_assoc, nat_le, nat_lt, lit<}
+use Rattle.std.proofs.Common.{◌≡◌, ◌≢◌, ℕ, ◌<◌, ◌≤◌, Bool, true, false, cond, List, [], ◌∷◌, ◌++◌, Option, Some, None, Result, Ok, Err, refl, sym, ap, ◌∙◌, arith, nat_le, lit<}
 use Rattle.std.specs.Fmt.{decimal}
-use Rattle.std.specs.List.{AllByRecursion, flat_map}
+use Rattle.std.specs.List.{AllByRecursion}
 use Rattle.std.proofs.lemmas.Bool.Decides.{nat_tests}
-use Rattle.std.proofs.lemmas.Grind.{flat_map-append}
-use Rattle.fst_fields.specs.Decimal.{natural_of_text}
 use Rattle.fst_semiring.specs.declared.arc_type.ArcType.{ArcType}
 use Rattle.fst_semiring.specs.Cost.{Cost, best, finite, infinite}
-use Rattle.fst_semiring.specs.Semiring.{one_of}
-use Rattle.fst_semiring.specs.WeightText.{cost_of_text, text_of_cost}
-use Rattle.fst_machine.specs.Machine.{Arc, greatest_label, most_arcs, most_states}
+use Rattle.fst_semiring.specs.WeightText.{text_of_cost}
+use Rattle.fst_machine.specs.Machine.{Arc, greatest_label, most_states}
 use Rattle.fst_text.specs.declared.fault.TextFault.{TextFault}
 use Rattle.fst_text.specs.declared.fault.TextFault.TheVariants.{BadState, BadLabel, BadWeight, TooManyStates, TooManyArcs}
 use Rattle.fst_text.specs.declared.options.TextOptions.{TextOptions}
-use Rattle.fst_text.specs.Entries.{Entry, above, arc_count, arc_entry, final_entry, from_zero, states_named}
-use Rattle.fst_text.specs.Grammar.{Room, ◌>>=◌, arc_line, arc_weight_of_field, entries_of_lines, entry_of_fields, final_line, fits, label_of_field, not_zero, room_behind, state_of_field, weight_of_field}
+use Rattle.fst_text.specs.Entries.{Entry, arc_entry, final_entry}
+use Rattle.fst_text.specs.Grammar.{Room, ◌>>=◌, arc_line, arc_weight_of_field, entry_of_fields, final_line, fits, label_of_field, not_zero, state_of_field, weight_of_field}
 use Rattle.fst_text.specs.Laws.{IsWeight}
 use Rattle.fst_text.specs.Printed.{fields_of_entry, is_one, weight_fields}
-use Rattle.fst_text.proofs.Numbers.{length-from_zero}
 use Rattle.fst_text.proofs.Numerals.{AreDigits, IsDigit, decimal-digits, decimal-read}
 use Rattle.fst_text.proofs.TextLines.{IsDark, IsField}
 use Rattle.fst_text.proofs.WeightTexts.{one-is, weight-field, weight-read}

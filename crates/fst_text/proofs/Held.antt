@@ -1,14 +1,12 @@
 -- A building that stands for the entries that are read, with one more state number and one more entry.
-use Rattle.std.proofs.Common.{◌≡◌, ℕ, ◌+◌, ◌-◌, ◌<◌, ◌≤◌, ◌==◌, zero, suc, max, Bool, true, false, cond, List, [], ◌∷◌, ◌++◌, length, map, Option, Some, None, refl, sym, ap, ◌∙◌, subst, arith, append-nil, ◌⊎◌, inl, inr}
-use Rattle.std.specs.List.{flat_map}
-use Rattle.std.specs.Option.{option_map}
-use Rattle.std.proofs.lemmas.List.{length-append, length-map, map-append}
+use Rattle.std.proofs.Common.{◌≡◌, ℕ, ◌+◌, ◌-◌, ◌<◌, ◌≤◌, ◌==◌, zero, suc, max, Bool, true, false, cond, List, [], ◌∷◌, ◌++◌, length, Option, Some, None, refl, sym, ap, ◌∙◌, subst, arith, ◌⊎◌, inl, inr}
+use Rattle.std.proofs.lemmas.List.{length-append, length-map}
 use Rattle.std.proofs.lemmas.Bool.{eq-eqb, cases_lt}
 use Rattle.fst_semiring.specs.Cost.{Cost, infinite}
-use Rattle.fst_machine.specs.Machine.{Arc, Machine, State, bare_state, changed, with_arc, with_final}
-use Rattle.fst_text.specs.Entries.{Entry, arc_entry, final_entry, arcs_from, first_in, from_zero, last_weight, machine_over, place_in, placed, state_of, states_named}
-use Rattle.fst_text.specs.Building.{Building, or_start, place_of, with_number, with_place, with_state}
-use Rattle.fst_text.proofs.Numbers.{Has, Has-front, Has-new, IsApart, Lacks, Lacks-from_zero, apart_back, equal_is, has, has-false, has-true, length-from_zero, place_in-behind, place_in-front, place_in-from_zero, place_in-here, place_in-new, place_in-one, with_more}
+use Rattle.fst_machine.specs.Machine.{Machine, bare_state}
+use Rattle.fst_text.specs.Entries.{Entry, from_zero, machine_over, place_in, state_of}
+use Rattle.fst_text.specs.Building.{Building, place_of, with_number, with_state}
+use Rattle.fst_text.proofs.Numbers.{Has, Has-front, Has-new, IsApart, Lacks, Lacks-from_zero, apart_back, equal_is, has, has-false, has-true, length-from_zero, place_in-behind, place_in-front, place_in-from_zero, place_in-new, place_in-one, with_more}
 use Rattle.fst_text.proofs.Holding.{NamedIn, NamedIn-more, machine-push, machine-zeros, with_bares}
 
 -- what is known of a number

@@ -1,13 +1,12 @@
 -- How a building stands to the entries that are read, and the step of one more state number.
-use Rattle.std.proofs.Common.{◌≡◌, ℕ, ◌+◌, ◌-◌, ◌<◌, ◌≤◌, ◌==◌, zero, suc, max, Bool, true, false, cond, List, [], ◌∷◌, ◌++◌, length, map, replicate, Option, Some, None, refl, sym, ap, ◌∙◌, subst, arith, append_assoc, append-nil}
+use Rattle.std.proofs.Common.{◌≡◌, ℕ, ◌+◌, ◌==◌, zero, suc, Bool, true, false, cond, List, [], ◌∷◌, ◌++◌, map, replicate, Option, Some, refl, sym, ap, ◌∙◌, subst, arith, append_assoc, append-nil}
 use Rattle.std.specs.List.{flat_map}
 use Rattle.std.specs.Option.{option_map}
-use Rattle.std.proofs.lemmas.List.{length-append, length-map, map-append, replicate-append-replicate}
+use Rattle.std.proofs.lemmas.List.{map-append, replicate-append-replicate}
 use Rattle.fst_semiring.specs.Cost.{Cost, infinite}
 use Rattle.fst_machine.specs.Machine.{Arc, Machine, State, bare_state}
 use Rattle.fst_text.specs.Entries.{Entry, arc_entry, final_entry, arcs_from, first_in, from_zero, last_weight, machine_over, place_in, placed, state_of, states_named}
-use Rattle.fst_text.specs.Building.{Building, grown, place_of, with_number, with_place, with_state}
-use Rattle.fst_text.proofs.Numbers.{Has, Has-front, Has-new, IsApart, Lacks, Lacks-from_zero, equal_is, has, has-false, has-true, length-from_zero, place_in-front, place_in-from_zero, place_in-later, place_in-new, with_more}
+use Rattle.fst_text.proofs.Numbers.{Has, Has-front, Lacks, Lacks-from_zero, equal_is, place_in-front}
 
 -- the states that the entries name are among these
 abbrev pub NamedIn : List ℕ → List Entry → Type 0

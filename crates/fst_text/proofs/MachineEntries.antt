@@ -1,19 +1,16 @@
 -- The entries of a machine describe it.
-use Rattle.std.proofs.Common.{◌≡◌, ◌≢◌, ℕ, ◌+◌, ◌-◌, ◌<◌, ◌≤◌, ◌==◌, zero, suc, max, Bool, true, false, cond, List, [], ◌∷◌, ◌++◌, length, map, take, get_or, Option, Some, None, refl, sym, ap, ◌∙◌, subst, arith, append_assoc, append-nil, ◌⊎◌, inl, inr}
-use Rattle.std.specs.List.{AllByRecursion, flat_map, slice_get}
-use Rattle.std.specs.Option.{option_map}
+use Rattle.std.proofs.Common.{◌≡◌, ℕ, ◌+◌, ◌<◌, ◌≤◌, ◌==◌, zero, suc, Bool, true, false, cond, List, [], ◌∷◌, ◌++◌, length, map, take, get_or, Some, refl, sym, ap, ◌∙◌, subst, arith, append-nil}
+use Rattle.std.specs.List.{slice_get}
 use Rattle.std.proofs.Math.Seq.{take-suc}
-use Rattle.std.proofs.lemmas.List.{take_all, length-map, map-append}
-use Rattle.std.proofs.lemmas.List.Sums.{sum_by-cons}
-use Rattle.std.proofs.lemmas.Option.{slice_get-get_or, slice_get_within}
+use Rattle.std.proofs.lemmas.List.{take_all, map-append}
+use Rattle.std.proofs.lemmas.Option.{slice_get-get_or}
 use Rattle.std.proofs.lemmas.Bool.{eq-eqb}
 use Rattle.std.proofs.lemmas.Bool.Decides.{nat_tests}
 use Rattle.fst_semiring.specs.Cost.{Cost, best, finite, infinite}
-use Rattle.fst_machine.specs.Machine.{Arc, Machine, State, arc_total}
-use Rattle.fst_text.specs.Entries.{Entry, above, arc_count, arc_entry, arcs_from, final_entry, first_in, from_zero, last_weight, machine_of_entries, machine_over, place_in, placed, state_of, states_named}
-use Rattle.fst_text.specs.Printed.{entries_at, entries_of_machine, final_entries, is_zero, other_entries, state_entries}
-use Rattle.fst_text.proofs.Numbers.{equal_is, length-from_zero, place_in-from_zero}
-use Rattle.fst_text.proofs.Rereading.{above-append, arc_count-append, named-append}
+use Rattle.fst_machine.specs.Machine.{Arc, State}
+use Rattle.fst_text.specs.Entries.{Entry, arc_entry, arcs_from, final_entry, from_zero, last_weight}
+use Rattle.fst_text.specs.Printed.{final_entries, is_zero, other_entries, state_entries}
+use Rattle.fst_text.proofs.Numbers.{equal_is}
 
 -- what entries one behind the other say of a state
 arcs_from-append : (n : ℕ) (a b : List Entry) → arcs_from n (a ++ b) ≡ arcs_from n a ++ arcs_from n b

@@ -11,7 +11,7 @@ use Rattle.fst_text.specs.declared.fault.TextFault.TheVariants.{BadColumns, BadS
 use Rattle.fst_text.specs.declared.options.TextOptions.{TextOptions}
 use Rattle.fst_text.specs.Entries.{Entry, machine_of_entries, states_named}
 use Rattle.fst_text.specs.Grammar.{Fails, Room, ◌>>=◌, entries_of_lines, entry_of_fields, machine_of_text, room_behind}
-use Rattle.fst_text.specs.Building.{Building, after_line, after_lines, nothing_built, room_of, with_entry, with_number}
+use Rattle.fst_text.specs.Building.{Building, after_lines, nothing_built, room_of, with_entry, with_number}
 use Rattle.fst_text.proofs.Held.{Holds, number-held, states-count}
 use Rattle.fst_text.proofs.Added.{entry-held, numbers-one, numbers-two, numbers_of}
 use Rattle.fst_text.proofs.Numbers.{with_more}

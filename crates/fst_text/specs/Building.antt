@@ -1,5 +1,5 @@
 -- A machine that is being built line by line.
-use Rattle.std.specs.Prelude.{◌≡◌, ℕ, ◌+◌, ◌-◌, ◌<◌, ◌==◌, Bool, List, [], ◌∷◌, ◌++◌, length, replicate, nat_le, nat_lt, get_or, nat_eq, Option, Some, None, IfSome, Result, Ok, Err, if◌then◌else◌}
+use Rattle.std.specs.Prelude.{◌≡◌, ℕ, ◌+◌, ◌-◌, ◌<◌, ◌==◌, Bool, List, [], ◌∷◌, ◌++◌, length, replicate, nat_le, nat_lt, nat_eq, Option, Some, None, IfSome, Result, Ok, Err, if◌then◌else◌}
 use Rattle.std.specs.HashMap.{get}
 use Rattle.fst_semiring.specs.declared.arc_type.ArcType.{ArcType}
 use Rattle.fst_semiring.specs.Cost.{Cost, infinite}
@@ -10,7 +10,7 @@ use Rattle.fst_text.specs.declared.places.Places.{Places}
 use Rattle.fst_text.specs.declared.builder.Builder.{Builder}
 use Rattle.fst_text.specs.Slots.{found_among}
 use Rattle.fst_text.specs.Entries.{Entry, arc_entry, final_entry}
-use Rattle.fst_text.specs.Grammar.{Room, ◌>>=◌, arc_line, Fails, entry_of_fields, final_line}
+use Rattle.fst_text.specs.Grammar.{Room, ◌>>=◌, Fails, entry_of_fields}
 
 -- The place of the state of each written number that is known, and the machine so far.
 pub record Building : Type 0 where

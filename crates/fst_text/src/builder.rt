@@ -1,6 +1,6 @@
 //! A machine that is built from the lines of a text.
 
-ghost use Rattle.std.specs.Prelude.{◌≡◌, ◌≢◌, ◌∷◌, ◌<◌, ◌≤◌, ◌+◌, length, nat_lt, true, None, Some, OnOk, IfErr, IfOk, IfSome};
+ghost use Rattle.std.specs.Prelude.{◌≡◌, ◌≢◌, ◌∷◌, ◌<◌, ◌≤◌, ◌+◌, length, nat_lt, true, None, Some, OnOk, IfErr, IfOk};
 ghost use Rattle.std.specs.Option.{option_map};
 ghost use Rattle.fst_fields.specs.Lines.{fields_of};
 ghost use Rattle.fst_semiring.specs.Cost.{infinite};
@@ -67,7 +67,7 @@ fn read_arc_weight<W: Weight>(line: u64, field: Option<&[u8]>) -> Result<W, Text
 }
 
 impl<W: Weight> Builder<W> {
-    /// Nothing is built. Takes no memory.
+    /// Nothing is built; written numbers below `bound` are to be looked up in a table. Takes no memory.
     pub fn new(alloc: Global, bound: usize) -> Builder<W>
         ensures nothing { built W.value result ≡ nothing_built }
         ensures placed { IsPlaced (built W.value result) }
@@ -78,7 +78,7 @@ impl<W: Weight> Builder<W> {
         }
     }
 
-    /// The machine.
+    /// The machine of the lines so far.
     pub fn into_machine(self) -> Fst<W>
         ensures { result ≡ self.fst }
     {
@@ -322,7 +322,7 @@ impl<W: Weight> Builder<W> {
         self.add_final(kept, state, weight)
     }
 
-    /// Adds a line. An error says what the machine then is of no use for.
+    /// Adds a line, which has this number. After an error what is built stands for no text.
     pub fn line(&mut self, options: &TextOptions, line: u64, text: &[u8]) -> Result<(), TextFault>
         requires { IsPlaced (built W.value self.old) }
         ensures read { Builds (built W.value self.new) result (after_line W.KIND options.now line (built W.value self.old) (fields_of text.now)) }

@@ -37,7 +37,11 @@ fn read_lines<W: Weight>(
     Ok(builder)
 }
 
-/// The machine of a text.
+/// The machine of a text, with states numbered in the order of first appearance, the source of an arc
+/// before its destination, or with the written numbers where `keep_state_numbering` is set. The first state
+/// of the text is the start; a text of blank lines is the machine with no states. Reads the text once, and
+/// takes memory by the machine, and at most half as much as the text for the numbers below an eighth of its
+/// length. A fault is the first one of the first faulty line; `Memory` where memory runs out.
 pub fn compile<W: Weight>(
     alloc: Global,
     bytes: &[u8],

@@ -1,4 +1,3 @@
-use Rattle.std.proofs.Common.{◌≡◌}
 use Rattle.fst_text.proofs.Growth.{with_state-is}
 use Rattle.fst_text.specs.Building.{found_in}
 use Rattle.fst_text.proofs.builder.Builder.add.Goals as goal

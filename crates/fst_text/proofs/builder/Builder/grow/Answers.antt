@@ -3,7 +3,7 @@ use Rattle.std.proofs.lemmas.List.{length-map}
 use Rattle.std.proofs.lemmas.Option.{IfSome_then}
 use Rattle.fst_semiring.specs.Cost.{Cost}
 use Rattle.fst_machine.specs.Machine.{State, bare_state, valued_state}
-use Rattle.fst_text.specs.Building.{Building, found_in, grown}
+use Rattle.fst_text.specs.Building.{found_in, grown}
 use Rattle.fst_text.proofs.Growth.{grown-more, states-pushed, length-pushed}
 use Rattle.fst_text.proofs.builder.Builder.grow.Goals as goal
 

@@ -1,4 +1,4 @@
-use Rattle.std.proofs.Common.{get_or, ap, ◌∙◌, cond, Some, ◌==◌, arith, nat_eq}
+use Rattle.std.proofs.Common.{ap, ◌∙◌, cond, Some, ◌==◌, arith, nat_eq}
 use Rattle.std.specs.HashMap.{get}
 use Rattle.fst_text.specs.Building.{found_in}
 use Rattle.fst_text.proofs.Slots.{slot-kept, slot-set}
