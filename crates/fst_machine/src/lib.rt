@@ -2,10 +2,23 @@
 //!
 //! `Fst` is a machine that grows by its calls and keeps its limits, the range of its labels and next
 //! states, and that no arc has weight Zero. Contracts see it as the plain data of `specs/Machine.antt`.
+//!
+//! The definitions of the subject stand in `specs`, over graphs of plain values with any kind of name, of which
+//! a machine is one: paths and what they read, write and weigh, the relation and the weight of a pair, cycles,
+//! distances, breadth-first lists, the order of paths. Their laws are in `proofs`, and `laws` asks for each.
 #![tactic(auto)]
 
 mod arc;
+mod breadth_first;
 mod fst;
+pub mod laws;
+mod path;
+mod slot;
 
 pub use arc::FstArc;
+pub use breadth_first::walk;
 pub use fst::{Fst, GrowFault, MOST_ARCS, MOST_LABEL, MOST_STATES, StateList};
+pub use path::{Path, Paths, Step};
+
+#[cfg(test)]
+mod tests;

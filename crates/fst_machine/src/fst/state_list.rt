@@ -3,8 +3,9 @@
 ghost use Rattle.std.specs.Prelude.{◌≡◌, ◌≤◌, ◌+◌, ◌∷◌, ◌++◌, [], OnOk, OnErr, IfOk, length};
 ghost use Rattle.fst_machine.specs.Machine.{IsMachine, arc_total, most_arcs};
 
-use super::{Fst, FstState};
+use super::Fst;
 use crate::arc::FstArc;
+use crate::slot::Slot;
 use fst_semiring::Weight;
 use std::alloc::{AllocError, Global};
 use std::marker::Model;
@@ -12,49 +13,63 @@ use std::marker::Model;
 /// States with their arcs, which become a machine once all of them stand.
 #[derive(Drop)]
 pub struct StateList<W: Weight> {
-    states: Vec<FstState<W>>,
-    total: u32,
+    slots: Vec<Slot<W>>,
+    store: Vec<FstArc<W>>,
 }
 
 impl<W: Weight> Model for StateList<W> {
-    ghost use Rattle.std.specs.Prelude.{List, ◌≡◌};
+    ghost use Rattle.std.specs.Prelude.{List, ◌≡◌, length, All};
     ghost use Rattle.fst_machine.specs.Machine.{State, arc_total};
+    ghost use Rattle.fst_machine.specs.Store.{kept_states, LiesIn};
 
     ghost Value = { List (State W) };
 
-    ghost view = { λ l. l.states.items };
+    ghost view = { λ l. kept_states l.store.items l.slots.items };
 
-    ghost invariant = { λ l. l.total ≡ arc_total l.states.items };
+    ghost invariant = { λ l. (length l.store.items ≡ arc_total (kept_states l.store.items l.slots.items)) × All (LiesIn (length l.store.items)) l.slots.items };
 }
 
 impl<W: Weight> StateList<W> {
-    /// No states, and room for so many.
-    pub fn with_capacity(alloc: Global, states: usize) -> Result<StateList<W>, AllocError>
+    /// No states, and room for so many states and arcs.
+    pub fn with_capacity(
+        alloc: Global,
+        states: usize,
+        arcs: usize,
+    ) -> Result<StateList<W>, AllocError>
         ensures { IfOk result (λ l. l ≡ []) }
     {
         Ok(StateList {
-            states: Vec::with_capacity(alloc, states)?,
-            total: 0,
+            slots: Vec::with_capacity(alloc, states)?,
+            store: Vec::with_capacity(alloc, arcs)?,
         })
     }
 
-    /// Puts a state with these arcs behind the others. An `Err` changes nothing.
-    pub fn push(&mut self, last: W, arcs: Vec<FstArc<W>>) -> Result<(), AllocError>
-        requires { arc_total self.old + length arcs.items ≤ most_arcs }
-        ensures ok { OnOk result (self.new ≡ self.old ++ record { final = last; arcs = arcs.items } ∷ []) }
+    /// Puts a state with these arcs behind the others. After an `Err` the list is as before.
+    pub fn push(&mut self, last: W, arcs: &[FstArc<W>]) -> Result<(), AllocError>
+        requires { arc_total self.old + length arcs.now ≤ most_arcs }
+        ensures ok { OnOk result (self.new ≡ self.old ++ record { final = last; arcs = arcs.now } ∷ []) }
         ensures err { OnErr result (self.new ≡ self.old) }
     {
-        let added = arcs.len() as u32;
-        self.states.push(FstState { last, arcs })?;
-        self.total += added;
+        let alloc = *self.slots.allocator();
+        let first = self.store.len() as u32;
+        let count = arcs.len() as u32;
+        self.slots.reserve(1)?;
+        self.store.extend_from_slice(arcs)?;
+        self.slots.push_reserved(Slot {
+            last,
+            first,
+            count,
+            own: Vec::new(alloc),
+        });
         Ok(())
     }
 
     /// The number of arcs of all states together. Takes no memory.
     pub fn arc_count(&self) -> u32
+        requires { arc_total self.now ≤ most_arcs }
         ensures { result ≡ arc_total self.now }
     {
-        self.total
+        self.store.len() as u32
     }
 
     /// The machine with these states and this start. Takes no memory.
@@ -62,10 +77,12 @@ impl<W: Weight> StateList<W> {
         requires { IsMachine W.value (record { start = start; states = self }) }
         ensures { result ≡ record { start = start; states = self } }
     {
+        let total = self.store.len() as u32;
         Fst {
             start,
-            states: self.states,
-            total: self.total,
+            slots: self.slots,
+            store: self.store,
+            total,
         }
     }
 }

@@ -1,20 +1,25 @@
-use Rattle.std.proofs.Common.{◌≡◌, length, ap, arith}
+use Rattle.std.proofs.Common.{◌≡◌, length, sym, ap, ◌∙◌, arith}
+use Rattle.std.proofs.lemmas.List.{length-map}
 use Rattle.fst_machine.specs.Machine.{IsArc, with_arc}
-use Rattle.fst_machine.proofs.Changes.{IsMachine-with_arc, set-changed, read_as}
+use Rattle.fst_machine.specs.Store.{kept_state, kept_states}
+use Rattle.fst_machine.proofs.Changes.{set-changed}
+use Rattle.fst_machine.proofs.Keeping.{IsKept-put, kept_states-put, kept_read}
 use Rattle.fst_machine.proofs.fst.Fst.add_arc.Goals as goal
 
 pub invariant_of-self-2 : goal.invariant_of-self-2
 invariant_of-self-2 g c =
-    let states = c.self.inside.states.items in
-    let same : length states ≡ length c.args.self.now.states = ap (λ m. length m.states) c.self.view_is in
-    let good : IsArc g.W.Weight.value (length states) c.args.arc = record { ilabel = c.requires.ilabel; olabel = c.requires.olabel; weight = c.requires.weight; next = omega (arith, c.requires.next) } in
-    let read = read_as states c.args.state _ _ c.s.view_is c.index_mut-s.ensures.value in
-    let grown = IsMachine-with_arc g.W.Weight.value (record { start = c.self.inside.start; states = states }) c.args.state c.args.arc _ c.self.invariant.1 (omega (arith, c.requires.state)) read good (omega (arith, c.self.invariant.0)) in
-    rw c.in_ok-push.ensures.items (omega (arith, grown.0, c.self.invariant.0), grown.1)
+    let slots = c.self.inside.slots.items in
+    let store = c.self.inside.store.items in
+    let same : length slots ≡ length c.args.self.now.states = sym (length-map slots (kept_state store)) ∙ ap (λ m. length m.states) c.self.view_is in
+    let good : IsArc g.W.Weight.value (length slots) c.args.arc = record { ilabel = c.requires.ilabel; olabel = c.requires.olabel; weight = c.requires.weight; next = omega (arith, c.requires.next) } in
+    IsKept-put g.W.Weight.value c.self.inside.start slots store c.put.new.store.items c.self.inside.total c.args.state c.args.arc c.index_mut-slot.result.now c.put.new.self c.self.invariant (omega (arith, c.requires.state)) c.index_mut-slot.ensures.value good (omega arith) c.in_ok-put.ensures.ok
 
 pub returns-clause-ok : goal.returns-clause-ok
 returns-clause-ok g c =
-    let states = c.self.inside.states.items in
-    let same : length states ≡ length c.args.self.now.states = ap (λ m. length m.states) c.self.view_is in
-    let read = read_as states c.args.state _ _ c.s.view_is c.index_mut-s.ensures.value in
-    rw (c.in_ok-push.ensures.items, ← c.self.view_is) (ap (λ ss. record { start = c.self.inside.start; states = ss }) (set-changed (with_arc c.args.arc) states c.args.state _ _ (omega (arith, c.requires.state)) (ap (with_arc c.args.arc) read)))
+    let slots = c.self.inside.slots.items in
+    let store = c.self.inside.store.items in
+    let before = c.index_mut-slot.result.now in
+    let same : length (kept_states store slots) ≡ length c.args.self.now.states = ap (λ m. length m.states) c.self.view_is in
+    rw (← c.self.view_is) (ap (λ ss. record { start = c.self.inside.start; states = ss })
+    (kept_states-put c.args.arc store c.put.new.store.items slots c.args.state before c.put.new.self c.self.invariant.parts c.in_ok-put.ensures.ok
+    ∙ set-changed (with_arc c.args.arc) (kept_states store slots) c.args.state _ _ (omega (arith, c.requires.state)) (ap (with_arc c.args.arc) (kept_read store slots c.args.state before c.index_mut-slot.ensures.value))))

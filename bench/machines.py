@@ -1,0 +1,47 @@
+"""Seeded random machines as text, for measuring.
+
+Every weight is a whole number below 1,000, so that a 32-bit float holds it exactly. The states are
+numbered in the order of first appearance, so that every program reads the same machine; `shuffled`
+gives the same machine with its state numbers permuted and spread out with gaps.
+"""
+import random
+
+
+def arcs_by_state(arcs, seed):
+    """About `arcs` arcs from a fifth as many states, 2 to 8 a state; labels below 5,000, some epsilon."""
+    draw = random.Random(seed)
+    states = max(2, arcs // 5)
+    machine, total = [], 0
+    while total < arcs:
+        here = []
+        for _ in range(draw.randrange(2, 9)):
+            ilabel = 0 if draw.random() < 0.05 else draw.randrange(1, 5001)
+            olabel = 0 if draw.random() < 0.05 else draw.randrange(1, 5001)
+            here.append((ilabel, olabel, draw.randrange(1000), draw.randrange(states)))
+        machine.append(here)
+        total += len(here)
+    return machine, states
+
+
+def write_text(path, arcs, seed=1, spread=False):
+    """Writes the machine as text, its states numbered by first appearance, or spread out with gaps."""
+    machine, states = arcs_by_state(arcs, seed)
+    states = max(states, len(machine))
+    number, names = {}, None
+    if spread:
+        names = list(range(0, 7 * states, 7))
+        random.Random(seed + 1).shuffle(names)
+
+    def name(state):
+        known = number.setdefault(state, len(number))
+        return names[known] if names else known
+
+    with open(path, "w") as out:
+        for state, here in enumerate(machine):
+            source = name(state)
+            lines = []
+            for ilabel, olabel, weight, target in here:
+                lines.append(f"{source}\t{name(target)}\t{ilabel}\t{olabel}\t{weight}\n")
+            if state % 6 == 0:
+                lines.append(f"{source}\t{state % 1000}\n")
+            out.write("".join(lines))

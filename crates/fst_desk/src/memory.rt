@@ -1,0 +1,326 @@
+// A desk in memory, which tells all and fails where it was asked to.
+ghost use Rattle.std.specs.Prelude.{◌≡◌, [], ◌∷◌, ◌++◌, take, None, OnOk, OnErr, nat_eq};
+ghost use Rattle.std.specs.Option.{option_copied};
+ghost use Rattle.std.specs.Result.{result_map_both};
+ghost use Rattle.std.specs.Str.{bytes_eq};
+ghost use Rattle.fst_desk.specs.Desk.{Fetches, Stores, DeskShows};
+ghost use Rattle.fst_desk.specs.Kept.{last_of, files_of, fresh, planned_for, counted, written, seen_of, part_of, Misses, KeptFetches, KeptStores, KeptShows};
+
+use crate::count::raise;
+use crate::edge::{Desk, FetchFault, StoreFault};
+use crate::text::Text;
+use std::alloc::{AllocError, Global};
+use std::marker::Model;
+
+// A content that was written under a name.
+#[derive(Drop)]
+struct Write {
+    name: Text,
+    content: Text,
+}
+
+impl Model for Write {
+    ghost use Rattle.std.specs.Prelude.{List, ℕ};
+
+    ghost Value = { List ℕ × List ℕ };
+
+    ghost view = { λ w. (w.name, w.content) };
+}
+
+// The number of a call that is to fail, and how many bytes it takes first.
+#[derive(Drop)]
+struct Planned {
+    call: u64,
+    after: u64,
+}
+
+impl Model for Planned {
+    ghost use Rattle.std.specs.Prelude.{ℕ};
+
+    ghost Value = { ℕ × ℕ };
+
+    ghost view = { λ p. (p.call, p.after) };
+}
+
+/// A desk in memory, for tests: it tells all, and a call fails where it was asked to, where a name is
+/// not held, or where there is no memory.
+///
+/// The writes are kept as a log, so space grows with each store, also of the same name.
+#[derive(Drop)]
+pub struct MemoryDesk {
+    writes: Vec<Write>,
+    plan: Vec<Planned>,
+    calls: u64,
+    missed: Vec<Text>,
+    write_faults: u64,
+    starved: u64,
+    taken: usize,
+    shown: Vec<u8>,
+    show_faults: u64,
+    show_starved: u64,
+}
+
+impl Model for MemoryDesk {
+    ghost use Rattle.fst_desk.specs.Kept.{Kept};
+
+    ghost Value = { Kept };
+
+    ghost view = { λ d. record {
+      writes = d.writes.items;
+      plan = d.plan.items;
+      calls = d.calls;
+      missed = d.missed.items;
+      write_faults = d.write_faults;
+      starved = d.starved;
+      taken = d.taken;
+      shown = d.shown.items;
+      show_faults = d.show_faults;
+      show_starved = d.show_starved;
+    } };
+}
+
+impl MemoryDesk {
+    /// A desk that holds no file, and of which no call is to fail. It takes no memory.
+    pub fn new(alloc: Global) -> MemoryDesk
+        ensures { result ≡ fresh }
+    {
+        MemoryDesk {
+            writes: Vec::new(alloc),
+            plan: Vec::new(alloc),
+            calls: 0,
+            missed: Vec::new(alloc),
+            write_faults: 0,
+            starved: 0,
+            taken: 0,
+            shown: Vec::new(alloc),
+            show_faults: 0,
+            show_starved: 0,
+        }
+    }
+
+    /// Sets the content of a file. After an `Err`, for want of memory, nothing is changed.
+    pub fn put(&mut self, name: &str, bytes: &[u8]) -> Result<(), AllocError>
+        ensures ok { OnOk result (self.new ≡ written name.now bytes.now self.old) }
+        ensures err { OnErr result (self.new ≡ self.old) }
+    {
+        let alloc = *self.shown.allocator();
+        let name = Text::new(alloc, name.as_bytes())?;
+        let content = Text::new(alloc, bytes)?;
+        self.writes.push(Write { name, content })?;
+        Ok(())
+    }
+
+    /// Makes the call of that number fail, counted from 1 over `fetch`, `store` and `show` together. A
+    /// failing `store` or `show` first takes `after` bytes, or all where there are fewer. After an
+    /// `Err`, for want of memory, nothing is changed.
+    pub fn fail(&mut self, call: u64, after: u64) -> Result<(), AllocError>
+        ensures ok { OnOk result (self.new ≡ record self.old { plan = self.old.plan ++ (call, after) ∷ [] }) }
+        ensures err { OnErr result (self.new ≡ self.old) }
+    {
+        self.plan.push(Planned { call, after })?;
+        Ok(())
+    }
+
+    /// The content under the name, None exactly where the name is not held. It takes no memory.
+    pub fn held(&self, name: &str) -> Option<&[u8]>
+        ensures { option_copied result ≡ files_of self.now name.now }
+    {
+        last_written(self.writes.as_slice(), name)
+    }
+
+    /// The diagnostic bytes, in the order in which they were shown. It takes no memory.
+    pub fn shown_bytes(&self) -> &[u8]
+        ensures { result.now ≡ self.now.shown }
+    {
+        self.shown.as_slice()
+    }
+
+    // Counts a call. Where it is to fail, the result is the number of bytes that it takes first.
+    fn count_call(&mut self) -> Option<u64>
+        ensures counts { self.new ≡ counted self.old }
+        ensures planned { result ≡ planned_for self.old }
+    {
+        self.calls = raise(self.calls);
+        last_planned(self.plan.as_slice(), self.calls)
+    }
+
+    // Notes a name whose fetch failed.
+    fn miss(&mut self, name: &str) -> FetchFault
+        ensures { Misses name.now self.old self.new result }
+    {
+        self.taken = 0;
+        let alloc = *self.shown.allocator();
+        let name = match Text::new(alloc, name.as_bytes()) {
+            Ok(name) => name,
+            Err(_) => return FetchFault::Memory,
+        };
+        match self.missed.push(name) {
+            Ok(()) => FetchFault::Failed,
+            Err(_) => FetchFault::Memory,
+        }
+    }
+}
+
+impl Desk for MemoryDesk {
+    ghost seen = { seen_of };
+
+    fn fetch(&mut self, alloc: Global, name: &str, limit: usize) -> Result<Vec<u8>, FetchFault>
+        ensures promised { Fetches name.now limit (seen_of self.old) (seen_of self.new)
+            (result_map_both (λ v. v.items) (λ e. e) result) }
+        ensures exact { KeptFetches name.now limit self.old self.new
+            (result_map_both (λ v. v.items) (λ e. e) result) }
+    {
+        if self.count_call().is_some() {
+            return Err(self.miss(name));
+        }
+        let content = match self.held(name) {
+            Some(content) => content,
+            None => return Err(self.miss(name)),
+        };
+        let length = content.len();
+        if length > limit {
+            self.taken = length;
+            return Err(FetchFault::TooLong);
+        }
+        match Vec::from_slice(alloc, content) {
+            Ok(bytes) => {
+                self.taken = length;
+                Ok(bytes)
+            }
+            Err(_) => {
+                self.taken = 0;
+                Err(FetchFault::Memory)
+            }
+        }
+    }
+
+    fn store(&mut self, name: &str, bytes: &[u8]) -> Result<(), StoreFault>
+        ensures promised { Stores name.now bytes.now (seen_of self.old) (seen_of self.new) result }
+        ensures exact { KeptStores name.now bytes.now self.old self.new result }
+    {
+        let planned = self.count_call();
+        if self.put(name, part(bytes, planned)).is_err() {
+            self.starved = raise(self.starved);
+            return Err(StoreFault::Memory);
+        }
+        if planned.is_some() {
+            self.write_faults = raise(self.write_faults);
+            return Err(StoreFault::Failed);
+        }
+        Ok(())
+    }
+
+    fn show(&mut self, line: &[u8]) -> Result<(), StoreFault>
+        ensures promised { DeskShows line.now (seen_of self.old) (seen_of self.new) result }
+        ensures exact { KeptShows line.now self.old self.new result }
+    {
+        let planned = self.count_call();
+        if self.shown.extend_from_slice(part(line, planned)).is_err() {
+            self.show_starved = raise(self.show_starved);
+            return Err(StoreFault::Memory);
+        }
+        if planned.is_some() {
+            self.show_faults = raise(self.show_faults);
+            return Err(StoreFault::Failed);
+        }
+        Ok(())
+    }
+}
+
+// The content of the last write of the name.
+fn last_written<'w>(writes: &'w [Write], name: &str) -> Option<&'w [u8]>
+    ensures { option_copied result ≡ last_of bytes_eq None writes.now name.now }
+{
+    let mut found = None;
+    for write in writes {
+        if write.name.as_bytes() == name.as_bytes() {
+            found = Some(write.content.as_bytes());
+        }
+    }
+    found
+}
+
+// How many bytes the call of that number takes before it fails, where it is to fail.
+fn last_planned(plan: &[Planned], call: u64) -> Option<u64>
+    ensures { result ≡ last_of nat_eq None plan.now call }
+{
+    let mut found = None;
+    for planned in plan {
+        if planned.call == call {
+            found = Some(planned.after);
+        }
+    }
+    found
+}
+
+// What a call takes of its bytes: the planned number, or all where there are fewer or none is planned.
+fn part(bytes: &[u8], planned: Option<u64>) -> &[u8]
+    ensures { result.now ≡ part_of planned bytes.now }
+{
+    match planned {
+        Some(most) if (most as usize) < bytes.len() => &bytes[..most as usize],
+        _ => bytes,
+    }
+}
+
+#[cfg(test)]
+mod tests {
+    use super::*;
+    use std::test::Fail;
+
+    fn is_held(desk: &MemoryDesk, name: &str, want: &str) -> bool {
+        match desk.held(name) {
+            Some(content) => content == want.as_bytes(),
+            None => false,
+        }
+    }
+
+    fn is_shown(desk: &MemoryDesk, want: &str) -> bool {
+        desk.shown_bytes() == want.as_bytes()
+    }
+
+    #[test]
+    fn keeps_what_is_put_stored_and_shown(rt: HostRuntime) -> Result<(), Fail> {
+        let alloc = rt.alloc();
+        let mut desk = MemoryDesk::new(alloc);
+        desk.put("a", b"one")?;
+        desk.put("b", b"two")?;
+        desk.store("a", b"three")?;
+        desk.show(b"x\n")?;
+        desk.show(b"y\n")?;
+        for (name, want) in [("a", "three"), ("b", "two")] {
+            assert!(rt; is_held(&desk, name, want), "{name}");
+            let content = desk.fetch(alloc, name, want.len())?;
+            assert!(rt; content.as_slice() == want.as_bytes(), "{name}");
+            let longer = desk.fetch(alloc, name, want.len().saturating_sub(1));
+            assert_eq!(rt; longer.err(), Some(FetchFault::TooLong), "{name}");
+        }
+        assert!(rt; desk.held("c").is_none());
+        assert_eq!(rt; desk.fetch(alloc, "c", 9).err(), Some(FetchFault::Failed));
+        assert!(rt; is_shown(&desk, "x\ny\n"));
+        Ok(())
+    }
+
+    #[test]
+    fn fails_where_it_was_asked_to(rt: HostRuntime) -> Result<(), Fail> {
+        let alloc = rt.alloc();
+        for (after, want) in [(0, ""), (2, "xy"), (3, "xyz"), (9, "xyz")] {
+            let mut desk = MemoryDesk::new(alloc);
+            desk.put("a", b"one")?;
+            for call in 1..4 {
+                desk.fail(call, after)?;
+            }
+            assert_eq!(rt;
+                desk.fetch(alloc, "a", 9).err(),
+                Some(FetchFault::Failed),
+                "{after}"
+            );
+            assert_eq!(rt; desk.store("a", b"xyz"), Err(StoreFault::Failed), "{after}");
+            assert_eq!(rt; desk.show(b"xyz"), Err(StoreFault::Failed), "{after}");
+            assert!(rt; is_held(&desk, "a", want), "{after}");
+            assert!(rt; is_shown(&desk, want), "{after}");
+            assert_eq!(rt; desk.show(b""), Ok(()), "{after}");
+        }
+        Ok(())
+    }
+}

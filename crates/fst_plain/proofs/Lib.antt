@@ -1,0 +1,4 @@
+pub mod Bounds
+pub mod Folds
+pub mod Tables
+pub mod Reached

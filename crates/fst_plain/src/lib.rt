@@ -1,0 +1,15 @@
+//! Slow programs that compute the definitions of paths on small machines, for the tests of the crates above.
+//!
+//! The contract of each is the definition itself, over paths of at most so many arcs: the weight of a pair of
+//! strings, distances, all successful paths in their order; and the breadth-first list.
+#![tactic(auto)]
+
+mod cost;
+mod distance;
+mod pair;
+mod scan;
+
+pub use cost::PlainCost;
+pub use distance::{distances_to, distances_to_final};
+pub use pair::pair_weight;
+pub use scan::breadth_first;

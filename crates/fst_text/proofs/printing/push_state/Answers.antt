@@ -1,0 +1,19 @@
+use Rattle.std.proofs.Common.{List, map, ap, sym, ◌++◌, ◌∙◌}
+use Rattle.fst_machine.specs.Machine.{valued_arc}
+use Rattle.fst_text.specs.Entries.{Entry, arc_entry}
+use Rattle.fst_text.specs.Printed.{final_entries, text_of_entries}
+use Rattle.fst_text.proofs.Prints.{entries-read, texts-append}
+use Rattle.fst_text.proofs.printing.push_state.Goals as goal
+
+pub returns : goal.returns
+returns g c =
+    let value = g.W.Weight.value in
+    let kind = g.W.Weight.KIND in
+    let options = c.args.options.now in
+    let state = c.args.state in
+    let arcs = c.arcs-arcs.result.now in
+    let w = c.final_weight.result in
+    let first = map (arc_entry state) (map (valued_arc value) arcs) in
+    let last = final_entries state (value w) (map (valued_arc value) arcs) in
+    texts-append kind options c.args.out.now.items c.push_arcs.new.out.items c.push_final.new.out.items first last c.in_ok-push_arcs.ensures c.in_ok-push_final.ensures
+    ∙ ap (λ (es : List Entry). c.args.out.now.items ++ text_of_entries kind options es) (sym (entries-read value c.args.fst.now.states state arcs w c.arcs-arcs.ensures c.final_weight.ensures))

@@ -1,0 +1,123 @@
+-- The text form of a machine: which texts have it, what they say, and the first fault of the others.
+-- (OpenFst Quick Tour, "Creating FSTs". The limits and the numbers of digits are this project's own.)
+use Rattle.std.specs.Prelude.{◌≡◌, ℕ, ◌+◌, Bool, List, [], ◌∷◌, ◌++◌, length, map, nat_le, nat_lt, Option, Some, None, Result, Ok, Err, if◌then◌else◌}
+use Rattle.std.specs.List.{flat_map}
+use Rattle.fst_fields.specs.Lines.{lines_of, fields_of}
+use Rattle.fst_fields.specs.Decimal.{natural_of_text}
+use Rattle.fst_semiring.specs.declared.arc_type.ArcType.{ArcType}
+use Rattle.fst_semiring.specs.Cost.{Cost, best, finite, infinite}
+use Rattle.fst_semiring.specs.Semiring.{one_of}
+use Rattle.fst_semiring.specs.WeightText.{cost_of_text}
+use Rattle.fst_machine.specs.Machine.{Machine, greatest_label, most_arcs, most_states}
+use Rattle.fst_text.specs.declared.fault.TextFault.{TextFault}
+use Rattle.fst_text.specs.declared.fault.TextFault.TheVariants.{BadColumns, BadState, BadLabel, BadWeight, TooManyStates, TooManyArcs, Memory}
+use Rattle.fst_text.specs.declared.options.TextOptions.{TextOptions}
+use Rattle.fst_text.specs.Entries.{Entry, arc_count, arc_entry, final_entry, states_named, state_numbers, machine_of_entries}
+
+infixl 10 ◌>>=◌
+-- reading goes on with what was read, or ends with the first fault
+abbrev pub ◌>>=◌ : {A B : Type 0} → Result A TextFault → (A → Result B TextFault) → Result B TextFault
+(Ok a) >>= f = f a
+(Err e) >>= f = Err e
+
+-- What still fits into a machine: a state with this number, states with these two numbers, one more arc.
+pub record Room : Type 0 where
+  pub state : ℕ → Bool
+  pub states : ℕ → ℕ → Bool
+  pub arc : Bool
+
+-- a state field is a number of one to eighteen digits for which there is room
+abbrev pub state_of_field : ℕ → (ℕ → Bool) → List ℕ → Result ℕ TextFault
+state_of_field line room field = elim (natural_of_text 18 field) [ None ↦ Err (BadState line) | Some n ↦ if room n then Ok n else Err (TooManyStates line) ]
+
+-- a label field is a number of one to eighteen digits that is at most the greatest label
+abbrev pub label_of_field : ℕ → List ℕ → Result ℕ TextFault
+label_of_field line field = elim (natural_of_text 18 field) [ None ↦ Err (BadLabel line) | Some n ↦ if nat_le n greatest_label then Ok n else Err (BadLabel line) ]
+
+-- a weight field is a weight text of the arc type; a missing one is One
+abbrev pub weight_of_field : ArcType → ℕ → Option (List ℕ) → Result Cost TextFault
+weight_of_field kind line None = Ok (one_of kind)
+weight_of_field kind line (Some field) = elim (cost_of_text kind field) [ None ↦ Err (BadWeight line) | Some w ↦ Ok w ]
+
+-- no arc has weight Zero
+abbrev pub not_zero : ℕ → Cost → Result Cost TextFault
+not_zero line best = Ok best
+not_zero line (finite a b) = Ok (finite a b)
+not_zero line infinite = Err (BadWeight line)
+
+-- the weight field of an arc
+abbrev pub arc_weight_of_field : ArcType → ℕ → Option (List ℕ) → Result Cost TextFault
+arc_weight_of_field kind line field = weight_of_field kind line field >>= not_zero line
+
+-- an arc line by its fields
+unfoldable pub arc_line : ArcType → ℕ → Room → (source dest ilabel olabel : List ℕ) → Option (List ℕ) → Result Entry TextFault
+arc_line kind line room source dest ilabel olabel weight = do
+  s ← state_of_field line room.state source
+  d ← state_of_field line (room.states s) dest
+  i ← label_of_field line ilabel
+  o ← label_of_field line olabel
+  w ← arc_weight_of_field kind line weight
+  if room.arc then Ok (arc_entry s (record { ilabel = i; olabel = o; weight = w; next = d })) else Err (TooManyArcs line)
+
+-- a final line by its fields
+unfoldable pub final_line : ArcType → ℕ → Room → List ℕ → Option (List ℕ) → Result Entry TextFault
+final_line kind line room state weight = do
+  s ← state_of_field line room.state state
+  w ← weight_of_field kind line weight
+  Ok (final_entry s w)
+
+-- a line of a transducer that is not blank
+abbrev pub transducer_line : ArcType → ℕ → Room → List (List ℕ) → Result Entry TextFault
+transducer_line kind line room (s ∷ []) = final_line kind line room s None
+transducer_line kind line room (s ∷ w ∷ []) = final_line kind line room s (Some w)
+transducer_line kind line room (s ∷ d ∷ i ∷ o ∷ []) = arc_line kind line room s d i o None
+transducer_line kind line room (s ∷ d ∷ i ∷ o ∷ w ∷ []) = arc_line kind line room s d i o (Some w)
+transducer_line kind line room _ = Err (BadColumns line)
+
+-- a line of an acceptor that is not blank; its label is both labels
+abbrev pub acceptor_line : ArcType → ℕ → Room → List (List ℕ) → Result Entry TextFault
+acceptor_line kind line room (s ∷ []) = final_line kind line room s None
+acceptor_line kind line room (s ∷ w ∷ []) = final_line kind line room s (Some w)
+acceptor_line kind line room (s ∷ d ∷ l ∷ []) = arc_line kind line room s d l l None
+acceptor_line kind line room (s ∷ d ∷ l ∷ w ∷ []) = arc_line kind line room s d l l (Some w)
+acceptor_line kind line room _ = Err (BadColumns line)
+
+abbrev pub entry_of_fields : ArcType → Bool → ℕ → Room → List (List ℕ) → Result Entry TextFault
+entry_of_fields kind acceptor line room fields = if acceptor then acceptor_line kind line room fields else transducer_line kind line room fields
+
+-- no more than 4,194,304 states, where the entries before and then these numbers are named
+abbrev pub fits : Bool → List Entry → List ℕ → Bool
+fits kept before numbers = nat_le (length (state_numbers kept (flat_map states_named before ++ numbers))) most_states
+
+-- the room behind these entries
+abbrev pub room_behind : Bool → List Entry → Room
+room_behind kept before = record {
+  state = λ s. fits kept before (s ∷ []);
+  states = λ s d. fits kept before (s ∷ d ∷ []);
+  arc = nat_lt (arc_count before) most_arcs;
+}
+
+-- the entries before, and behind them those of lines of which the first has this number; blank lines say nothing
+abbrev pub entries_of_lines : ArcType → TextOptions → ℕ → List Entry → List (List (List ℕ)) → Result (List Entry) TextFault
+entries_of_lines kind options line before [] = Ok before
+entries_of_lines kind options line before ([] ∷ lines) = entries_of_lines kind options (line + 1) before lines
+entries_of_lines kind options line before ((f ∷ fs) ∷ lines) = entry_of_fields kind options.acceptor line (room_behind options.keep_state_numbering before) (f ∷ fs) >>= λ e. entries_of_lines kind options (line + 1) (before ++ e ∷ []) lines
+
+-- the machine of a text, or the first fault of its first faulty line
+abbrev pub machine_of_text : ArcType → TextOptions → List ℕ → Result (Machine Cost) TextFault
+machine_of_text kind options text = entries_of_lines kind options 1 [] (map fields_of (lines_of text)) >>= λ es. Ok (machine_of_entries options.keep_state_numbering es)
+
+-- a fault is the one that reading gives, unless memory ran out
+abbrev pub Fails : {Y : Type 0} → TextFault → Result Y TextFault → Type 0
+Fails Memory read = Unit {0}
+Fails (BadColumns line) read = read ≡ Err (BadColumns line)
+Fails (BadState line) read = read ≡ Err (BadState line)
+Fails (BadLabel line) read = read ≡ Err (BadLabel line)
+Fails (BadWeight line) read = read ≡ Err (BadWeight line)
+Fails (TooManyStates line) read = read ≡ Err (TooManyStates line)
+Fails (TooManyArcs line) read = read ≡ Err (TooManyArcs line)
+
+-- what was returned, seen by view, is what reading gives, unless memory ran out
+abbrev pub Gives : {X Y : Type 0} → (X → Y) → Result X TextFault → Result Y TextFault → Type 0
+Gives view (Ok x) read = read ≡ Ok (view x)
+Gives view (Err e) read = Fails e read

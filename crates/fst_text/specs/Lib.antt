@@ -1,0 +1,6 @@
+pub mod Building
+pub mod Entries
+pub mod Grammar
+pub mod Laws
+pub mod Printed
+pub mod Slots

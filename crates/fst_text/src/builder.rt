@@ -1,0 +1,395 @@
+//! A machine that is built from the lines of a text.
+
+ghost use Rattle.std.specs.Prelude.{◌≡◌, ◌≢◌, ◌∷◌, ◌<◌, ◌≤◌, ◌+◌, length, nat_lt, true, None, Some, OnOk, IfErr, IfOk, IfSome};
+ghost use Rattle.std.specs.Option.{option_map};
+ghost use Rattle.fst_fields.specs.Lines.{fields_of};
+ghost use Rattle.fst_semiring.specs.Cost.{infinite};
+ghost use Rattle.fst_machine.specs.Machine.{arc_total, greatest_label, most_arcs, most_states};
+ghost use Rattle.fst_text.specs.Entries.{arc_entry, final_entry};
+ghost use Rattle.fst_text.specs.Grammar.{Gives, arc_line, final_line, label_of_field, state_of_field, weight_of_field, acceptor_line, arc_weight_of_field, transducer_line};
+ghost use Rattle.fst_text.specs.Building.{Builds, IsPlaced, after_line, built, nothing_built, or_start, place_of, room_of, with_entry, with_number, with_state, with_read};
+
+use crate::fault::TextFault;
+use crate::options::TextOptions;
+use crate::places::Places;
+use fst_fields::{next_field, read_decimal};
+use fst_machine::{Fst, FstArc, MOST_ARCS, MOST_LABEL, MOST_STATES};
+use fst_semiring::Weight;
+use std::alloc::Global;
+
+/// The machine of the lines so far.
+#[derive(Drop)]
+pub struct Builder<W: Weight> {
+    places: Places,
+    fst: Fst<W>,
+}
+
+/// The number of a label field.
+fn read_label(line: u64, field: &[u8]) -> Result<u32, TextFault>
+    ensures read { Gives (λ n. n) result (label_of_field line field.now) }
+    ensures small { IfOk result (λ n. n ≤ greatest_label) }
+{
+    match read_decimal(field, 18) {
+        Some(n) => {
+            if n <= u64::from(MOST_LABEL) {
+                Ok(n as u32)
+            } else {
+                Err(TextFault::BadLabel { line })
+            }
+        }
+        None => Err(TextFault::BadLabel { line }),
+    }
+}
+
+/// The weight of a weight field, One where it is missing.
+fn read_weight<W: Weight>(line: u64, field: Option<&[u8]>) -> Result<W, TextFault>
+    ensures { Gives W.value result (weight_of_field W.KIND line (option_map (λ f. f.now) field.entry)) }
+{
+    match field {
+        None => Ok(W::one()),
+        Some(field) => match W::read_weight(field) {
+            Ok(weight) => Ok(weight),
+            Err(_) => Err(TextFault::BadWeight { line }),
+        },
+    }
+}
+
+/// The weight of an arc's weight field, which is not Zero; One where it is missing.
+fn read_arc_weight<W: Weight>(line: u64, field: Option<&[u8]>) -> Result<W, TextFault>
+    ensures read { Gives W.value result (arc_weight_of_field W.KIND line (option_map (λ f. f.now) field.entry)) }
+    ensures finite { IfOk result (λ w. W.value w ≢ infinite) }
+{
+    let weight = read_weight::<W>(line, field)?;
+    if W::key(weight.widen()).class == 2 {
+        return Err(TextFault::BadWeight { line });
+    }
+    Ok(weight)
+}
+
+impl<W: Weight> Builder<W> {
+    /// Nothing is built. Takes no memory.
+    pub fn new(alloc: Global, bound: usize) -> Builder<W>
+        ensures nothing { built W.value result ≡ nothing_built }
+        ensures placed { IsPlaced (built W.value result) }
+    {
+        Builder {
+            places: Places::new(alloc, bound),
+            fst: Fst::new(alloc),
+        }
+    }
+
+    /// The machine.
+    pub fn into_machine(self) -> Fst<W>
+        ensures { result ≡ self.fst }
+    {
+        self.fst
+    }
+
+    /// Whether there is room for the state of a number.
+    fn has_room(&self, kept: bool, number: u64) -> bool
+        ensures { result ≡ (room_of kept (built W.value self.now)).state number }
+    {
+        let states = self.fst.states();
+        if kept {
+            return number < MOST_STATES as u64;
+        }
+        states < MOST_STATES as u32 || self.places.find(number).is_some()
+    }
+
+    /// Whether there is room for the states of two numbers, where there is for the first.
+    fn has_room_for_both(&self, kept: bool, first: u64, second: u64) -> bool
+        requires { (room_of kept (built W.value self.now)).state first ≡ true }
+        ensures { result ≡ (room_of kept (built W.value self.now)).states first second }
+    {
+        let states = self.fst.states();
+        if kept {
+            return second < MOST_STATES as u64;
+        }
+        if states + 2 <= MOST_STATES as u32 || first == second {
+            return true;
+        }
+        if self.places.find(second).is_some() {
+            return true;
+        }
+        states < MOST_STATES as u32 && self.places.find(first).is_some()
+    }
+
+    /// Whether there is room for one more arc.
+    fn has_room_for_arc(&self) -> bool
+        ensures { result ≡ nat_lt (arc_total (built W.value self.now).machine.states) most_arcs }
+    {
+        self.fst.arc_count() < MOST_ARCS
+    }
+
+    /// The number of a line's first state field.
+    fn read_first(&self, kept: bool, line: u64, field: &[u8]) -> Result<u64, TextFault>
+        ensures read { Gives (λ n. n) result (state_of_field line (room_of kept (built W.value self.now)).state field.now) }
+        ensures room { IfOk result (λ n. (room_of kept (built W.value self.now)).state n ≡ true) }
+    {
+        let Some(number) = read_decimal(field, 18) else {
+            return Err(TextFault::BadState { line });
+        };
+        if self.has_room(kept, number) {
+            Ok(number)
+        } else {
+            Err(TextFault::TooManyStates { line })
+        }
+    }
+
+    /// The number of a line's second state field.
+    fn read_second(&self, kept: bool, line: u64, first: u64, field: &[u8]) -> Result<u64, TextFault>
+        requires { (room_of kept (built W.value self.now)).state first ≡ true }
+        ensures read { Gives (λ n. n) result (state_of_field line ((room_of kept (built W.value self.now)).states first) field.now) }
+        ensures room { IfOk result (λ n. (room_of kept (built W.value self.now)).states first n ≡ true) }
+    {
+        let Some(number) = read_decimal(field, 18) else {
+            return Err(TextFault::BadState { line });
+        };
+        if self.has_room_for_both(kept, first, number) {
+            Ok(number)
+        } else {
+            Err(TextFault::TooManyStates { line })
+        }
+    }
+
+    /// The place of a number, if it is known; `again` where it is likely to be asked for again at once.
+    fn find(&mut self, number: u64, again: bool) -> Option<u32>
+        ensures place { result ≡ (built W.value self.old).found number }
+        ensures fst { self.new.fst ≡ self.old.fst }
+        ensures same { built W.value self.new ≡ built W.value self.old }
+    {
+        if again {
+            return self.places.find_again(number);
+        }
+        self.places.find(number)
+    }
+
+    /// The state of a number for which there is room; it is added where it is not known.
+    fn state(&mut self, kept: bool, number: u64, again: bool) -> Result<u32, TextFault>
+        requires placed { IsPlaced (built W.value self.old) }
+        requires room { (room_of kept (built W.value self.old)).state number ≡ true }
+        ensures place { IfOk result (λ place. place ≡ place_of kept (built W.value self.old) number) }
+        ensures within { IfOk result (λ place. place < length self.new.fst.states) }
+        ensures added { OnOk result (built W.value self.new ≡ with_number kept (built W.value self.old) number) }
+        ensures placed { OnOk result (IsPlaced (built W.value self.new)) }
+        ensures more { OnOk result (length self.old.fst.states ≤ length self.new.fst.states) }
+        ensures err { IfErr result (λ e. e ≡ TextFault.Memory) }
+    {
+        if kept {
+            self.grow(number)?;
+            return Ok(number as u32);
+        }
+        match self.find(number, again) {
+            Some(place) => Ok(place),
+            None => self.add(number),
+        }
+    }
+
+    /// Adds states until there is one with this place.
+    fn grow(&mut self, place: u64) -> Result<(), TextFault>
+        requires placed { IsPlaced (built W.value self.old) }
+        requires room { place < most_states }
+        ensures added { OnOk result (built W.value self.new ≡ with_number true (built W.value self.old) place) }
+        ensures within { OnOk result (place < length self.new.fst.states) }
+        ensures placed { OnOk result (IsPlaced (built W.value self.new)) }
+        ensures more { OnOk result (length self.old.fst.states ≤ length self.new.fst.states) }
+        ensures err { IfErr result (λ e. e ≡ TextFault.Memory) }
+    {
+        while u64::from(self.fst.states()) <= place {
+            self.fst.add_state()?;
+        }
+        Ok(())
+    }
+
+    /// Adds a state for a number that is not known.
+    fn add(&mut self, number: u64) -> Result<u32, TextFault>
+        requires placed { IsPlaced (built W.value self.old) }
+        requires absent { (built W.value self.old).found number ≡ None }
+        ensures place { IfOk result (λ place. place ≡ length self.old.fst.states) }
+        ensures within { IfOk result (λ place. place < length self.new.fst.states) }
+        ensures added { OnOk result (built W.value self.new ≡ with_state (built W.value self.old) number) }
+        ensures placed { OnOk result (IsPlaced (built W.value self.new)) }
+        ensures more { OnOk result (length self.old.fst.states ≤ length self.new.fst.states) }
+        ensures err { IfErr result (λ e. e ≡ TextFault.Memory) }
+    {
+        let place = self.fst.add_state()?;
+        self.places.add(number, place)?;
+        Ok(place)
+    }
+
+    /// Makes a state the start where there is none.
+    fn begin(&mut self, state: u32)
+        requires { state < length self.old.fst.states }
+        ensures fst { self.new.fst ≡ record self.old.fst { start = or_start state self.old.fst.start } }
+        ensures places { self.new.places ≡ self.old.places }
+    {
+        if self.fst.start().is_none() {
+            self.fst.set_start(state);
+        }
+    }
+
+    /// Adds an arc between the states of two numbers.
+    fn add_arc(
+        &mut self,
+        kept: bool,
+        source: u64,
+        dest: u64,
+        ilabel: u32,
+        olabel: u32,
+        weight: W,
+    ) -> Result<(), TextFault>
+        requires placed { IsPlaced (built W.value self.old) }
+        requires first { (room_of kept (built W.value self.old)).state source ≡ true }
+        requires second { (room_of kept (built W.value self.old)).states source dest ≡ true }
+        requires ilabel { ilabel ≤ greatest_label }
+        requires olabel { olabel ≤ greatest_label }
+        requires weight { W.value weight ≢ infinite }
+        ensures added { OnOk result (built W.value self.new ≡ with_entry kept (built W.value self.old) (arc_entry source (record { ilabel = ilabel; olabel = olabel; weight = W.value weight; next = dest }))) }
+        ensures placed { OnOk result (IsPlaced (built W.value self.new)) }
+        ensures err { IfErr result (λ e. e ≡ TextFault.Memory) }
+    {
+        let from = self.state(kept, source, true)?;
+        let next = self.state(kept, dest, false)?;
+        self.begin(from);
+        self.fst.add_arc(
+            from,
+            FstArc {
+                ilabel,
+                olabel,
+                weight,
+                next,
+            },
+        )?;
+        Ok(())
+    }
+
+    /// Sets the final weight of the state of a number.
+    fn add_final(&mut self, kept: bool, number: u64, weight: W) -> Result<(), TextFault>
+        requires placed { IsPlaced (built W.value self.old) }
+        requires room { (room_of kept (built W.value self.old)).state number ≡ true }
+        ensures added { OnOk result (built W.value self.new ≡ with_entry kept (built W.value self.old) (final_entry number (W.value weight))) }
+        ensures placed { OnOk result (IsPlaced (built W.value self.new)) }
+        ensures err { IfErr result (λ e. e ≡ TextFault.Memory) }
+    {
+        let state = self.state(kept, number, true)?;
+        self.begin(state);
+        self.fst.set_final(state, weight);
+        Ok(())
+    }
+
+    /// Adds an arc line.
+    #[tactic(auto, unfolding(crate::specs::Grammar::arc_line))]
+    fn arc_line(
+        &mut self,
+        kept: bool,
+        line: u64,
+        source: &[u8],
+        dest: &[u8],
+        ilabel: &[u8],
+        olabel: &[u8],
+        weight: Option<&[u8]>,
+    ) -> Result<(), TextFault>
+        requires { IsPlaced (built W.value self.old) }
+        ensures read { Builds (built W.value self.new) result (with_read kept (built W.value self.old) (arc_line W.KIND line (room_of kept (built W.value self.old)) source.now dest.now ilabel.now olabel.now (option_map (λ f. f.now) weight.entry))) }
+        ensures placed { OnOk result (IsPlaced (built W.value self.new)) }
+    {
+        let source = self.read_first(kept, line, source)?;
+        let dest = self.read_second(kept, line, source, dest)?;
+        let ilabel = read_label(line, ilabel)?;
+        let olabel = read_label(line, olabel)?;
+        let weight = read_arc_weight::<W>(line, weight)?;
+        if !self.has_room_for_arc() {
+            return Err(TextFault::TooManyArcs { line });
+        }
+        self.add_arc(kept, source, dest, ilabel, olabel, weight)
+    }
+
+    /// Adds a final line.
+    #[tactic(auto, unfolding(crate::specs::Grammar::final_line))]
+    fn final_line(
+        &mut self,
+        kept: bool,
+        line: u64,
+        state: &[u8],
+        weight: Option<&[u8]>,
+    ) -> Result<(), TextFault>
+        requires { IsPlaced (built W.value self.old) }
+        ensures read { Builds (built W.value self.new) result (with_read kept (built W.value self.old) (final_line W.KIND line (room_of kept (built W.value self.old)) state.now (option_map (λ f. f.now) weight.entry))) }
+        ensures placed { OnOk result (IsPlaced (built W.value self.new)) }
+    {
+        let state = self.read_first(kept, line, state)?;
+        let weight = read_weight::<W>(line, weight)?;
+        self.add_final(kept, state, weight)
+    }
+
+    /// Adds a line. An error says what the machine then is of no use for.
+    pub fn line(&mut self, options: &TextOptions, line: u64, text: &[u8]) -> Result<(), TextFault>
+        requires { IsPlaced (built W.value self.old) }
+        ensures read { Builds (built W.value self.new) result (after_line W.KIND options.now line (built W.value self.old) (fields_of text.now)) }
+        ensures placed { OnOk result (IsPlaced (built W.value self.new)) }
+    {
+        let kept = options.keep_state_numbering;
+        let Some((first, rest)) = next_field(text) else {
+            return Ok(());
+        };
+        let Some((second, rest)) = next_field(rest) else {
+            return self.final_line(kept, line, first, None);
+        };
+        let Some((third, rest)) = next_field(rest) else {
+            return self.final_line(kept, line, first, Some(second));
+        };
+        if options.acceptor {
+            return self.acceptor_arc(kept, line, first, second, third, rest);
+        }
+        self.transducer_arc(kept, line, first, second, third, rest)
+    }
+
+    /// Adds an arc line of an acceptor, with what stands behind its label.
+    fn acceptor_arc(
+        &mut self,
+        kept: bool,
+        line: u64,
+        source: &[u8],
+        dest: &[u8],
+        label: &[u8],
+        rest: &[u8],
+    ) -> Result<(), TextFault>
+        requires { IsPlaced (built W.value self.old) }
+        ensures read { Builds (built W.value self.new) result (with_read kept (built W.value self.old) (acceptor_line W.KIND line (room_of kept (built W.value self.old)) (source.now ∷ dest.now ∷ label.now ∷ fields_of rest.now))) }
+        ensures placed { OnOk result (IsPlaced (built W.value self.new)) }
+    {
+        let Some((weight, rest)) = next_field(rest) else {
+            return self.arc_line(kept, line, source, dest, label, label, None);
+        };
+        if next_field(rest).is_some() {
+            return Err(TextFault::BadColumns { line });
+        }
+        self.arc_line(kept, line, source, dest, label, label, Some(weight))
+    }
+
+    /// Adds an arc line of a transducer, with what stands behind its input label.
+    fn transducer_arc(
+        &mut self,
+        kept: bool,
+        line: u64,
+        source: &[u8],
+        dest: &[u8],
+        ilabel: &[u8],
+        rest: &[u8],
+    ) -> Result<(), TextFault>
+        requires { IsPlaced (built W.value self.old) }
+        ensures read { Builds (built W.value self.new) result (with_read kept (built W.value self.old) (transducer_line W.KIND line (room_of kept (built W.value self.old)) (source.now ∷ dest.now ∷ ilabel.now ∷ fields_of rest.now))) }
+        ensures placed { OnOk result (IsPlaced (built W.value self.new)) }
+    {
+        let Some((olabel, rest)) = next_field(rest) else {
+            return Err(TextFault::BadColumns { line });
+        };
+        let Some((weight, rest)) = next_field(rest) else {
+            return self.arc_line(kept, line, source, dest, ilabel, olabel, None);
+        };
+        if next_field(rest).is_some() {
+            return Err(TextFault::BadColumns { line });
+        }
+        self.arc_line(kept, line, source, dest, ilabel, olabel, Some(weight))
+    }
+}

@@ -1,0 +1,69 @@
+//! Why a text is not read, or a machine not printed.
+
+use fst_machine::GrowFault;
+use std::alloc::AllocError;
+
+/// Why a text is no machine: the first fault of the first faulty line. Lines count from 1, blank ones
+/// included. In a line the number of fields comes first, then the fields from left to right, then the
+/// number of arcs.
+#[derive(Clone, Copy, Debug, PartialEq, Eq)]
+pub enum TextFault {
+    /// A transducer's line has not 1, 2, 4 or 5 fields, or an acceptor's not 1 to 4.
+    BadColumns { line: u64 },
+    /// A state is not one to eighteen decimal digits.
+    BadState { line: u64 },
+    /// A label is not one to eighteen decimal digits, or is above 2,147,483,647.
+    BadLabel { line: u64 },
+    /// A weight is no weight text of the arc type, or an arc has weight Zero.
+    BadWeight { line: u64 },
+    /// A state would make more than 4,194,304 states.
+    TooManyStates { line: u64 },
+    /// The line is arc number 33,554,433.
+    TooManyArcs { line: u64 },
+    /// There is no memory.
+    Memory,
+}
+
+impl From<AllocError> for TextFault {
+    ghost use Rattle.std.specs.Prelude.{◌≡◌};
+    ghost use Rattle.fst_text.specs.declared.fault.TextFault.TheVariants as faults;
+
+    ghost from_gives = { λ _ e. e ≡ faults.Memory };
+
+    fn from(_e: AllocError) -> TextFault {
+        TextFault::Memory
+    }
+}
+
+impl From<GrowFault> for TextFault {
+    ghost use Rattle.std.specs.Prelude.{◌≡◌};
+    ghost use Rattle.fst_text.specs.declared.fault.TextFault.TheVariants as faults;
+
+    ghost from_gives = { λ _ e. e ≡ faults.Memory };
+
+    // Both limits are asked before a machine is made to grow, since their faults want the line.
+    fn from(_e: GrowFault) -> TextFault {
+        TextFault::Memory
+    }
+}
+
+/// Why a machine is not printed.
+#[derive(Clone, Copy, Debug, PartialEq, Eq)]
+pub enum PrintFault {
+    /// It is to be printed as an acceptor, and this arc is the first, by state and then by place, with two
+    /// different labels. Both numbers count from 0.
+    NotAcceptor { state: u32, place: u32 },
+    /// There is no memory.
+    Memory,
+}
+
+impl From<AllocError> for PrintFault {
+    ghost use Rattle.std.specs.Prelude.{◌≡◌};
+    ghost use Rattle.fst_text.specs.declared.fault.PrintFault.TheVariants as faults;
+
+    ghost from_gives = { λ _ e. e ≡ faults.Memory };
+
+    fn from(_e: AllocError) -> PrintFault {
+        PrintFault::Memory
+    }
+}

@@ -1,0 +1,22 @@
+//! The text form of a machine, both ways.
+//!
+//! A line of a text is an arc or a final state. `compile` reads a text, with each fault at its line;
+//! `print` writes one.
+#![tactic(auto)]
+
+mod builder;
+mod compiling;
+mod fault;
+mod laws;
+mod options;
+mod places;
+mod printing;
+
+pub use compiling::compile;
+pub use fault::{PrintFault, TextFault};
+pub use laws::printed_machine_compiles_back;
+pub use options::TextOptions;
+pub use printing::print;
+
+#[cfg(test)]
+mod tests;

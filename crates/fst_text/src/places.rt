@@ -1,0 +1,104 @@
+//! Where the state of each written number stands.
+
+ghost use Rattle.std.specs.Prelude.{◌≡◌, ◌<◌, ℕ, None, Some, OnOk, length, nat_eq};
+ghost use Rattle.std.specs.Option.{ForSome};
+ghost use Rattle.std.specs.HashMap.{get};
+ghost use Rattle.fst_text.specs.Slots.{found_among};
+
+use std::alloc::{AllocError, AllocFailed, Global};
+use std::collections::HashMap;
+
+/// The slot of a number that is not known.
+const ABSENT: u32 = u32::MAX;
+
+/// The places of the numbers that are known: those below a bound in a table by number, the others in a hash map.
+#[derive(Drop)]
+pub struct Places {
+    bound: usize,
+    dense: Vec<u32>,
+    sparse: HashMap<u64, u32>,
+    // The source of the line before, since the arcs of a state mostly come one after another.
+    recent: Option<(u64, u32)>,
+    ghost remembered: { ForSome recent (λ r. found_among bound dense.items (get nat_eq sparse) r.0 ≡ Some r.1) },
+}
+
+impl Places {
+    ghost use Rattle.fst_text.specs.Building.{found_in, with_place};
+
+    /// No number is known. The table takes no more than `bound` slots. Takes no memory.
+    pub fn new(alloc: Global, bound: usize) -> Places
+        ensures { (n : ℕ) → found_in result n ≡ None }
+    {
+        Places {
+            bound,
+            dense: Vec::new(alloc),
+            sparse: HashMap::new(alloc),
+            recent: None,
+        }
+    }
+
+    /// The place of a number; `None` exactly where it is not known. Takes no memory.
+    pub fn find(&self, number: u64) -> Option<u32>
+        ensures { result ≡ found_in self.now number }
+    {
+        if number >= self.bound as u64 {
+            return self.sparse.get(&number).copied();
+        }
+        match self.dense.get(number as usize) {
+            Some(place) => { if *place == ABSENT { None } else { Some(*place) } }
+            None => None,
+        }
+    }
+
+    /// The place of a number that is likely to be asked for again at once. Takes no memory.
+    pub fn find_again(&mut self, number: u64) -> Option<u32>
+        ensures place { result ≡ found_in self.old number }
+        ensures same { found_in self.new ≡ found_in self.old }
+    {
+        if let Some((recent, place)) = self.recent {
+            if recent == number {
+                return Some(place);
+            }
+        }
+        let found = self.find(number);
+        if let Some(place) = found {
+            self.recent = Some((number, place));
+        }
+        found
+    }
+
+    /// Makes the table long enough for a slot, at least doubling it.
+    fn grow(&mut self, slot: usize) -> Result<(), AllocError>
+        requires { slot < self.old.bound }
+        ensures ok { OnOk result (slot < length self.new.dense.items) }
+        ensures bound { self.new.bound ≡ self.old.bound }
+        ensures same { (n : ℕ) → found_in self.new n ≡ found_in self.old n }
+    {
+        let len = self.dense.len();
+        if slot >= len {
+            let mut wanted = slot + 1;
+            if wanted < 2 * len {
+                wanted = 2 * len;
+            }
+            self.dense.resize(wanted, ABSENT)?;
+        }
+        Ok(())
+    }
+
+    /// Adds a number with its place.
+    pub fn add(&mut self, number: u64, place: u32) -> Result<(), AllocError>
+        requires place { place < 4294967295 }
+        requires absent { found_in self.old number ≡ None }
+        ensures { OnOk result ((n : ℕ) → found_in self.new n ≡ with_place (found_in self.old) number place n) }
+    {
+        if number >= self.bound as u64 {
+            return match self.sparse.insert(number, place) {
+                Ok(_) => Ok(()),
+                Err(_) => Err(AllocError),
+            };
+        }
+        self.grow(number as usize)?;
+        self.dense[number as usize] = place;
+        Ok(())
+    }
+}

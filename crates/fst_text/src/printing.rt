@@ -1,0 +1,239 @@
+//! The text of a machine.
+
+ghost use Rattle.std.specs.Prelude.{◌≡◌, ◌<◌, ◌≤◌, ◌==◌, ◌∷◌, ◌++◌, if◌then◌else◌, [], length, map, None, Some, IfOk, OnOk, OnErr, MatchOption};
+ghost use Rattle.std.specs.Fmt.{decimal};
+ghost use Rattle.fst_machine.specs.Machine.{most_arcs, valued, valued_arc, valued_state};
+ghost use Rattle.fst_text.specs.Entries.{arc_entry};
+ghost use Rattle.fst_text.specs.Printed.{Prints, behind_tabs, entries_at, final_entries, is_one, label_fields, other_entries, split_arc, split_state, text_of_entries, text_of_machine, weight_fields};
+
+use crate::fault::PrintFault;
+use crate::options::TextOptions;
+use fst_machine::{Fst, FstArc};
+use fst_semiring::Weight;
+use itoa::Buffer;
+use std::alloc::{AllocError, Global};
+
+/// Whether a weight is One.
+fn is_one<W: Weight>(weight: W) -> bool
+    ensures { result ≡ is_one W.KIND (W.value weight) }
+{
+    W::key(weight.widen())
+        .cmp(&W::key(W::one().widen()))
+        .is_eq()
+}
+
+/// Appends a number.
+fn push_number(out: &mut Vec<u8>, number: u32) -> Result<(), AllocError>
+    ensures { OnOk result (out.new.items ≡ out.old.items ++ decimal number) }
+{
+    let mut buffer = Buffer::new();
+    out.extend_from_slice(buffer.format(number).as_bytes())
+}
+
+/// Appends a field that is a number.
+fn push_number_field(out: &mut Vec<u8>, number: u32) -> Result<(), AllocError>
+    ensures { OnOk result (out.new.items ≡ out.old.items ++ behind_tabs (decimal number ∷ [])) }
+{
+    out.push(b'\t')?;
+    push_number(out, number)
+}
+
+/// Appends the field of a weight, where it is not left out.
+fn push_weight<W: Weight>(
+    out: &mut Vec<u8>,
+    options: &TextOptions,
+    weight: W,
+) -> Result<(), AllocError>
+    ensures { OnOk result (out.new.items ≡ out.old.items ++ behind_tabs (weight_fields W.KIND options.now (W.value weight))) }
+{
+    if options.show_weight_one || !is_one::<W>(weight) {
+        out.push(b'\t')?;
+        return weight.push_text(out);
+    }
+    Ok(())
+}
+
+/// Appends the fields of the labels of an arc.
+fn push_labels<W: Weight>(
+    out: &mut Vec<u8>,
+    options: &TextOptions,
+    arc: &FstArc<W>,
+) -> Result<(), AllocError>
+    ensures { OnOk result (out.new.items ≡ out.old.items ++ behind_tabs (label_fields options.now (valued_arc W.value arc.now))) }
+{
+    push_number_field(out, arc.ilabel)?;
+    if !options.acceptor {
+        push_number_field(out, arc.olabel)?;
+    }
+    Ok(())
+}
+
+/// Appends the line of an arc.
+fn push_arc<W: Weight>(
+    out: &mut Vec<u8>,
+    options: &TextOptions,
+    state: u32,
+    arc: &FstArc<W>,
+) -> Result<(), AllocError>
+    ensures { OnOk result (out.new.items ≡ out.old.items ++ text_of_entries W.KIND options.now (arc_entry state (valued_arc W.value arc.now) ∷ [])) }
+{
+    push_number(out, state)?;
+    push_number_field(out, arc.next)?;
+    push_labels::<W>(out, options, arc)?;
+    push_weight::<W>(out, options, arc.weight)?;
+    out.push(b'\n')?;
+    Ok(())
+}
+
+/// Appends the lines of arcs of a state.
+fn push_arcs<W: Weight>(
+    out: &mut Vec<u8>,
+    options: &TextOptions,
+    state: u32,
+    arcs: &[FstArc<W>],
+) -> Result<(), AllocError>
+    ensures { OnOk result (out.new.items ≡ out.old.items ++ text_of_entries W.KIND options.now (map (arc_entry state) (map (valued_arc W.value) arcs.now))) }
+{
+    for arc in arcs {
+        push_arc::<W>(out, options, state, arc)?;
+    }
+    Ok(())
+}
+
+/// Appends the final line of a state.
+fn push_final<W: Weight>(
+    out: &mut Vec<u8>,
+    options: &TextOptions,
+    state: u32,
+    weight: W,
+    arcs: &[FstArc<W>],
+) -> Result<(), AllocError>
+    ensures { OnOk result (out.new.items ≡ out.old.items ++ text_of_entries W.KIND options.now (final_entries state (W.value weight) (map (valued_arc W.value) arcs.now))) }
+{
+    if !arcs.is_empty() && W::key(weight.widen()).class == 2 {
+        return Ok(());
+    }
+    push_number(out, state)?;
+    push_weight::<W>(out, options, weight)?;
+    out.push(b'\n')?;
+    Ok(())
+}
+
+/// Appends the lines of a state.
+fn push_state<W: Weight>(
+    out: &mut Vec<u8>,
+    options: &TextOptions,
+    fst: &Fst<W>,
+    state: u32,
+) -> Result<(), AllocError>
+    requires { state < length fst.now.states }
+    ensures { OnOk result (out.new.items ≡ out.old.items ++ text_of_entries W.KIND options.now (entries_at state (map (valued_state W.value) fst.now.states))) }
+{
+    let arcs = fst.arcs(state);
+    push_arcs::<W>(out, options, state, arcs)?;
+    push_final::<W>(out, options, state, fst.final_weight(state), arcs)?;
+    Ok(())
+}
+
+/// Appends the lines of a state that is not the start.
+fn push_other<W: Weight>(
+    out: &mut Vec<u8>,
+    options: &TextOptions,
+    fst: &Fst<W>,
+    start: u32,
+    state: u32,
+) -> Result<(), AllocError>
+    requires { state < length fst.now.states }
+    ensures { OnOk result (out.new.items ≡ out.old.items ++ text_of_entries W.KIND options.now (if state == start then [] else entries_at state (map (valued_state W.value) fst.now.states))) }
+{
+    if state == start {
+        return Ok(());
+    }
+    push_state::<W>(out, options, fst, state)
+}
+
+/// Appends the lines of the states but the start.
+fn push_others<W: Weight>(
+    out: &mut Vec<u8>,
+    options: &TextOptions,
+    fst: &Fst<W>,
+    start: u32,
+) -> Result<(), AllocError>
+    ensures { OnOk result (out.new.items ≡ out.old.items ++ text_of_entries W.KIND options.now (other_entries start 0 (map (valued_state W.value) fst.now.states))) }
+{
+    for state in 0..fst.states() {
+        push_other::<W>(out, options, fst, start, state)?;
+    }
+    Ok(())
+}
+
+/// The first of the arcs of a state with two different labels.
+fn split_arc<W: Weight>(state: u32, arcs: &[FstArc<W>]) -> Option<PrintFault>
+    requires { length arcs.now ≤ most_arcs }
+    ensures { result ≡ split_arc state 0 (map (valued_arc W.value) arcs.now) }
+{
+    for (place, arc) in arcs.iter().enumerate() {
+        if arc.ilabel != arc.olabel {
+            return Some(PrintFault::NotAcceptor {
+                state,
+                place: place as u32,
+            });
+        }
+    }
+    None
+}
+
+/// The first arc of a machine with two different labels.
+fn split_state<W: Weight>(fst: &Fst<W>) -> Option<PrintFault>
+    ensures { result ≡ split_state 0 (map (valued_state W.value) fst.now.states) }
+{
+    for state in 0..fst.states() {
+        match split_arc::<W>(state, fst.arcs(state)) {
+            Some(fault) => return Some(fault),
+            None => {}
+        }
+    }
+    None
+}
+
+/// The text of a machine with a start.
+fn print_from<W: Weight>(
+    alloc: Global,
+    fst: &Fst<W>,
+    options: &TextOptions,
+    start: u32,
+) -> Result<Vec<u8>, AllocError>
+    requires { start < length fst.now.states }
+    ensures { IfOk result (λ text. text.items ≡ text_of_entries W.KIND options.now (entries_at start (map (valued_state W.value) fst.now.states) ++ other_entries start 0 (map (valued_state W.value) fst.now.states))) }
+{
+    let mut out = Vec::new(alloc);
+    push_state::<W>(&mut out, options, fst, start)?;
+    push_others::<W>(&mut out, options, fst, start)?;
+    Ok(out)
+}
+
+/// The text of a machine: the lines of the start, then those of the other states by number. A state's lines
+/// are its arcs in order, then a final line where it is final; a state with no arcs that is not final has a
+/// final line with weight Zero. Fields are joined by one tab, and a line feed ends each line. A weight One
+/// is left out unless it is to be shown. A machine without a start has the empty text. `NotAcceptor` exactly
+/// where it is to be printed as an acceptor and an arc of any state has two different labels.
+pub fn print<W: Weight>(
+    alloc: Global,
+    fst: &Fst<W>,
+    options: &TextOptions,
+) -> Result<Vec<u8>, PrintFault>
+    ensures { Prints (λ text. text.items) result (text_of_machine W.KIND options.now (valued W.value fst.now)) }
+{
+    if options.acceptor {
+        if let Some(fault) = split_state::<W>(fst) {
+            return Err(fault);
+        }
+    }
+    let Some(start) = fst.start() else {
+        return Ok(Vec::new(alloc));
+    };
+    match print_from::<W>(alloc, fst, options, start) {
+        Ok(text) => Ok(text),
+        Err(_) => Err(PrintFault::Memory),
+    }
+}
