@@ -4,7 +4,7 @@ ghost use Rattle.std.specs.Prelude.{◌≡◌, ◌≤◌, ◌++◌, ◌+◌, ◌
 ghost use Rattle.std.specs.Option.{option_map};
 ghost use Rattle.std.specs.List.{list_all};
 ghost use Rattle.std.specs.Result.{result_map_both};
-ghost use Rattle.fst_semiring.specs.Cost.{Cost, best, finite, class_of, first_of, second_of};
+ghost use Rattle.fst_semiring.specs.Cost.{Cost, best, finite};
 ghost use Rattle.fst_semiring.specs.Keys.{key_of};
 ghost use Rattle.fst_binary.specs.Spelling.{HasField, weight_field};
 ghost use Rattle.fst_binary.specs.Reading.{cost_of_numbers, has_best, integer_at, integers_at, is_small, number_count, numbers_at, weight_at};
