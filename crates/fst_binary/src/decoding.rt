@@ -1,6 +1,6 @@
 //! Reading the binary form.
 
-ghost use Rattle.std.specs.Prelude.{◌≡◌, ◌≤◌, ◌<◌, ◌+◌, length, map, IfOk, IfSome, Ok, nat_le, nat_lt};
+ghost use Rattle.std.specs.Prelude.{◌≡◌, ◌≤◌, ◌<◌, ◌+◌, length, map, IfOk, OnOk, IfSome, Ok, nat_le, nat_lt};
 ghost use Rattle.std.specs.Result.{result_map_both};
 ghost use Rattle.fst_semiring.specs.Cost.{Cost};
 ghost use Rattle.fst_machine.specs.Machine.{Machine, arc_total, greatest_label, most_arcs, most_states, valued, valued_arc, valued_state};
@@ -105,36 +105,28 @@ fn read_arc<W: Weight>(
     Ok((arc, behind))
 }
 
-/// So many arcs of a machine with so many states, and the offset behind them. Space is reserved for no more
-/// than the bytes can hold.
+/// Puts so many arcs of a machine with so many states in place of those of a list, and gives the offset behind
+/// them. A refusal may leave some of them there.
 fn read_arcs<W: Weight>(
-    alloc: Global,
     bytes: &[u8],
     at: usize,
     states: u32,
     count: usize,
-) -> Result<(Vec<FstArc<W>>, usize), BinaryFault>
+    arcs: &mut Vec<FstArc<W>>,
+) -> Result<usize, BinaryFault>
     requires { at ≤ length bytes.now }
-    ensures value { Gives (λ x. (map (valued_arc W.value) x.0.items, x.1)) result (arcs_at W.KIND states count bytes.now at) }
-    ensures count { IfOk result (λ x. length x.0.items ≡ count) }
-    ensures behind { IfOk result (λ x. x.1 ≤ length bytes.now) }
+    ensures value { Gives (λ behind. (map (valued_arc W.value) arcs.new.items, behind)) result (arcs_at W.KIND states count bytes.now at) }
+    ensures count { OnOk result (length arcs.new.items ≡ count) }
+    ensures behind { IfOk result (λ behind. behind ≤ length bytes.now) }
 {
-    let mut arcs = Vec::with_capacity(alloc, min(count, (bytes.len() - at) / 13))?;
+    arcs.clear();
     let mut behind = at;
     for _ in 0..count {
         let (arc, after) = read_arc(bytes, behind, states)?;
         arcs.push(arc)?;
         behind = after;
     }
-    Ok((arcs, behind))
-}
-
-/// What is read of a state: its final weight, its arcs, and the offset behind them.
-#[derive(Drop)]
-struct StateRead<W> {
-    last: W,
-    arcs: Vec<FstArc<W>>,
-    behind: usize,
+    Ok(behind)
 }
 
 /// The number of arcs of a state, which with those of the states before are at most so many, and the offset
@@ -155,29 +147,30 @@ fn read_arc_count(
     read_count(bytes, at, u64::from(arcs - before))
 }
 
-/// A state of a machine with so many states and arcs, of which the states before have some.
+/// The final weight of a state, and the offset behind its arcs, which are put in place of those of a list. The
+/// states before have some of the header's arcs.
 #[tactic(auto, unfolding(crate::specs::Reading::state_at))]
 fn read_state<W: Weight>(
-    alloc: Global,
     bytes: &[u8],
     at: usize,
     header: Header,
     before: u32,
-) -> Result<StateRead<W>, BinaryFault>
+    arcs: &mut Vec<FstArc<W>>,
+) -> Result<(W, usize), BinaryFault>
     requires behind { at ≤ length bytes.now }
     requires before { before ≤ header.arcs }
-    ensures value { Gives (λ x. (record { final = W.value x.last; arcs = map (valued_arc W.value) x.arcs.items }, x.behind)) result (state_at W.KIND header.states header.arcs before bytes.now at) }
-    ensures most { IfOk result (λ x. before + length x.arcs.items ≤ header.arcs) }
-    ensures behind { IfOk result (λ x. x.behind ≤ length bytes.now) }
+    ensures value { Gives (λ x. (record { final = W.value x.0; arcs = map (valued_arc W.value) arcs.new.items }, x.1)) result (state_at W.KIND header.states header.arcs before bytes.now at) }
+    ensures most { OnOk result (before + length arcs.new.items ≤ header.arcs) }
+    ensures behind { IfOk result (λ x. x.1 ≤ length bytes.now) }
 {
     let (last, behind) = read_final(bytes, at)?;
     let (count, behind) = read_arc_count(bytes, behind, header.arcs, before)?;
-    let (arcs, behind) = read_arcs(alloc, bytes, behind, header.states, count as usize)?;
-    Ok(StateRead { last, arcs, behind })
+    let behind = read_arcs(bytes, behind, header.states, count as usize, arcs)?;
+    Ok((last, behind))
 }
 
-/// The states of a header, and the offset behind them. Space is reserved for no more than the bytes can
-/// hold.
+/// The states of a header, and the offset behind them. Space is reserved for no more than the bytes can hold:
+/// a state has at least nine bytes, and an arc thirteen.
 fn read_states<W: Weight>(
     alloc: Global,
     bytes: &[u8],
@@ -186,21 +179,21 @@ fn read_states<W: Weight>(
     requires behind { header.behind ≤ length bytes.now }
     requires few_arcs { header.arcs ≤ most_arcs }
     ensures value { Gives (λ x. (map (valued_state W.value) x.0, x.1)) result (states_at W.KIND header.states header.arcs 0 header.states bytes.now header.behind) }
+    ensures few_arcs { IfOk result (λ x. arc_total x.0 ≤ header.arcs) }
     ensures behind { IfOk result (λ x. x.1 ≤ length bytes.now) }
 {
     let left = bytes.len() - header.behind;
-    let mut states = StateList::with_capacity(
-        alloc,
-        min(header.states as usize, left / 9),
-        min(header.arcs as usize, left / 13),
-    )?;
+    let room = min(header.states as usize, left / 9);
+    let arc_room = min(header.arcs as usize, left / 13);
+    let mut states = StateList::with_capacity(alloc, room, arc_room)?;
+    let mut arcs = Vec::new(alloc);
     let mut before = 0;
     let mut behind = header.behind;
     for _ in 0..header.states {
-        let state = read_state(alloc, bytes, behind, header, before)?;
-        before += state.arcs.len() as u32;
-        states.push(state.last, state.arcs.as_slice())?;
-        behind = state.behind;
+        let (last, after) = read_state(bytes, behind, header, before, &mut arcs)?;
+        before += arcs.len() as u32;
+        states.push(last, &arcs)?;
+        behind = after;
     }
     Ok((states, behind))
 }

@@ -1,6 +1,6 @@
 //! Writing the binary form.
 
-ghost use Rattle.std.specs.Prelude.{◌≡◌, ◌≤◌, ◌++◌, ◌∷◌, [], ◌+◌, ◌*◌, ◌<◌, length, map, take, drop, vec_capacity, All, Contains, IfOk, Ok, sum_by};
+ghost use Rattle.std.specs.Prelude.{◌≡◌, ◌≤◌, ◌++◌, ◌+◌, ◌*◌, ◌<◌, length, map, take, vec_capacity, All, Contains, IfOk, Ok};
 ghost use Rattle.std.specs.List.{flat_map};
 ghost use Rattle.fst_machine.specs.Machine.{valued, valued_arc, valued_state};
 ghost use Rattle.fst_binary.specs.Reading.{arc_type_of_bytes, known, machine_of_bytes};

@@ -1,7 +1,7 @@
 //! The fields in front of the states.
 
 ghost use Rattle.std.specs.Prelude.{◌≡◌, ◌∷◌, [], ◌≤◌, ◌<◌, length, IfOk, IfSome, true, codes, ◌==◌, bytes_eq};
-ghost use Rattle.std.specs.List.{find, list_any};
+ghost use Rattle.std.specs.List.{find};
 ghost use Rattle.std.specs.Result.{result_map_both};
 ghost use Rattle.fst_machine.specs.Machine.{most_arcs, most_states};
 ghost use Rattle.fst_binary.specs.Spelling.{name_of};

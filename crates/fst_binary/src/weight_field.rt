@@ -4,7 +4,7 @@ ghost use Rattle.std.specs.Prelude.{◌≡◌, ◌≤◌, ◌++◌, ◌+◌, ◌
 ghost use Rattle.std.specs.Option.{option_map};
 ghost use Rattle.std.specs.List.{list_all};
 ghost use Rattle.std.specs.Result.{result_map_both};
-ghost use Rattle.fst_semiring.specs.Cost.{Cost, best, finite, class_of, first_of, second_of};
+ghost use Rattle.fst_semiring.specs.Cost.{Cost, best, finite};
 ghost use Rattle.fst_semiring.specs.Keys.{key_of};
 ghost use Rattle.fst_binary.specs.Spelling.{HasField, weight_field};
 ghost use Rattle.fst_binary.specs.Reading.{cost_of_numbers, has_best, integer_at, integers_at, is_small, number_count, numbers_at, weight_at};
@@ -15,11 +15,8 @@ use byteorder::{ByteOrder, LittleEndian};
 use fst_semiring::{ArcType, Key, Weight};
 use std::alloc::AllocError;
 
-/// The greatest absolute value of a number in a weight.
+/// The greatest absolute value of a number in a weight, 10 to the 18.
 const LIMIT: i64 = 1_000_000_000_000_000_000;
-
-/// The most bytes that a weight field takes.
-const LONGEST: usize = 17;
 
 /// Whether a number may stand in a weight.
 fn is_in_range(number: i128) -> bool
@@ -171,10 +168,10 @@ pub fn read_weight_field<W: Weight>(
     read_field(bytes, offset)
 }
 
-/// How many bytes the field of a weight takes.
+/// How many bytes the field of a weight takes, at most 17.
 pub(crate) fn weight_length<W: Weight>(weight: W) -> usize
     ensures value { result ≡ length (weight_field W.KIND (W.value weight)) }
-    ensures bound { result ≤ LONGEST }
+    ensures bound { result ≤ 17 }
     ensures fits { HasField W.KIND (W.value weight) }
 {
     let key = W::key(weight.widen());

@@ -9,7 +9,7 @@ use Rattle.fst_binary.proofs.decoding.read_arcs.Goals as goal
 
 pub returns-in_err-arc-clause-value : goal.returns-in_err-arc-clause-value
 returns-in_err-arc-clause-value g c =
-    let p = err_from_is_err_and c.from_residual-in_err-arc.result c.from_residual-in_err-arc.ensures.1 in
+    let p = err_from_is_err_and c.from_residual.result c.from_residual.ensures.1 in
     rw (p.1, p.2) (inr (arcs_end g.W.Weight.KIND c.args.states (map (valued_arc g.W.Weight.value) c.loop.arcs.items) c.args.count c.loop.counter c.args.bytes.now c.loop.behind c.in_err-arc.field-0.0 (arcs_at g.W.Weight.KIND c.args.states c.args.count c.args.bytes.now c.args.at) c.loop-test.true (sym c.in_err-arc.ensures.value) c.loop.invariant.so_far))
 
 pub loop-preserved : goal.loop-preserved
