@@ -2,14 +2,12 @@
 //! ends with the status of `fst_command::run`, which does all the work.
 #![tactic(auto)]
 
-use std::alloc::Global;
-use std::env;
-use std::io;
-use std::io::ErrorKind;
-use std::process::ExitCode;
-
 use fst_command::run;
 use fst_desk::RealDesk;
+use std::alloc::Global;
+use std::io::ErrorKind;
+use std::process::ExitCode;
+use std::{env, io};
 
 /// The words behind the program's name.
 fn words(rt: &HostRuntime, alloc: Global) -> io::Result<Vec<String>> {

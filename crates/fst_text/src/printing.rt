@@ -15,6 +15,7 @@ use std::alloc::{AllocError, Global};
 
 /// The bytes that are reserved for the line of an arc, and for the final line of a state.
 const ARC_ROOM: usize = 32;
+
 const STATE_ROOM: usize = 16;
 
 /// Whether a weight is One.
