@@ -1,10 +1,10 @@
 """Seeded random machines as text, for measuring.
 
 Every weight is a whole number below 1,000, so that a 32-bit float holds it exactly. The states are
-numbered in the order of first appearance, so that every program reads the same machine; `--spread`
-gives the same machine with its state numbers permuted and spread out with gaps.
+numbered in the order of first appearance, so that every program reads the same machine; with a gap the
+same machine has its state numbers permuted and spread out, as multiples of the gap.
 
-    machines.py PATH ARCS [--spread]
+    machines.py PATH ARCS [GAP]
 """
 import random
 import sys
@@ -26,13 +26,13 @@ def arcs_by_state(arcs, seed):
     return machine, states
 
 
-def write_text(path, arcs, seed=1, spread=False):
-    """Writes the machine as text, its states numbered by first appearance, or spread out with gaps."""
+def write_text(path, arcs, gap=None, seed=1):
+    """Writes the machine as text, its states numbered by first appearance, or spread out by the gap."""
     machine, states = arcs_by_state(arcs, seed)
     states = max(states, len(machine))
     number, names = {}, None
-    if spread:
-        names = list(range(0, 7 * states, 7))
+    if gap:
+        names = list(range(0, gap * states, gap))
         random.Random(seed + 1).shuffle(names)
 
     def name(state):
@@ -51,4 +51,4 @@ def write_text(path, arcs, seed=1, spread=False):
 
 
 if __name__ == "__main__":
-    write_text(sys.argv[1], int(sys.argv[2]), spread="--spread" in sys.argv)
+    write_text(sys.argv[1], *map(int, sys.argv[2:]))

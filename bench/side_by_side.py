@@ -46,18 +46,20 @@ def compared(ours, theirs, rounds, scratch):
 
 def cases(fst, size, scratch):
     """Each row: its name, our words, theirs, and the bounds on the ratios of time and of memory."""
-    text = os.path.join(scratch, f"dense.{size}.txt")
-    spread = os.path.join(scratch, f"spread.{size}.txt")
+    text, gaps, wide_gaps = (os.path.join(scratch, f"{name}.{size}.txt") for name in ("dense", "gaps", "wide_gaps"))
     ours, theirs = os.path.join(scratch, f"{size}.ours"), os.path.join(scratch, f"{size}.theirs")
     # Written by a process of its own: a peak includes what the forking process held.
     subprocess.run([sys.executable, MACHINES, text, str(size)], check=True)
-    subprocess.run([sys.executable, MACHINES, spread, str(size), "--spread"], check=True)
+    subprocess.run([sys.executable, MACHINES, gaps, str(size), "7"], check=True)
+    subprocess.run([sys.executable, MACHINES, wide_gaps, str(size), "1000"], check=True)
     subprocess.run([fst, "compile", text, ours], check=True)
     subprocess.run(["fstcompile", text, theirs], check=True)
     out = os.path.join(scratch, "out")
     return [
         ("compile", [fst, "compile", text, out + ".ours"], ["fstcompile", text, out + ".theirs"], 0.2, 1.5),
-        ("compile, shuffled numbers", [fst, "compile", spread, out + ".ours"], ["fstcompile", spread, out + ".theirs"], 0.2, 1.5),
+        # The bound of the dense row, half as much again.
+        ("compile, shuffled, gaps of 7", [fst, "compile", gaps, out + ".ours"], ["fstcompile", gaps, out + ".theirs"], 0.3, 1.5),
+        ("compile, shuffled, gaps of 1000", [fst, "compile", wide_gaps, out + ".ours"], ["fstcompile", wide_gaps, out + ".theirs"], 0.3, 1.5),
         ("print", [fst, "print", ours, out + ".ours"], ["fstprint", theirs, out + ".theirs"], 0.2, 1.5),
     ]
 
