@@ -23,7 +23,7 @@ fn read_lines<W: Weight>(
     ensures { Gives (built W.value) result (after_lines W.KIND options.now 1 nothing_built (map fields_of (lines_of text.now))) }
 {
     // The numbers of most machines are below this: a line of an arc has at least eight bytes.
-    let mut builder = Builder::new(alloc, text.len() / 8);
+    let mut builder = Builder::new(alloc, text.len() / 16);
     let mut rest = text;
     let mut line: u64 = 0;
     while let Some((first, behind)) = next_line(rest) {
@@ -40,8 +40,8 @@ fn read_lines<W: Weight>(
 /// The machine of a text, with states numbered in the order of first appearance, the source of an arc
 /// before its destination, or with the written numbers where `keep_state_numbering` is set. The first state
 /// of the text is the start; a text of blank lines is the machine with no states. Reads the text once, and
-/// takes memory by the machine, and at most half as much as the text for the numbers below an eighth of its
-/// length. A fault is the first one of the first faulty line; `Memory` where memory runs out.
+/// takes memory by the machine, and at most a quarter as much as the text for the numbers below a sixteenth
+/// of its length. A fault is the first one of the first faulty line; `Memory` where memory runs out.
 pub fn compile<W: Weight>(
     alloc: Global,
     bytes: &[u8],
