@@ -10,11 +10,14 @@ all:
 	cd crates/fst && rt run -- compile - - < stdin > /dev/null
 	cp crates/fst/out/fst $(FST)
 
-# The main job: a text that ships with the repository to a binary file, its bytes, and back to text.
+# The main job: texts that ship with the repository to binary files, and back to text; the second has names
+# for its labels and pairs as weights.
 example: all
 	$(FST) compile examples/first.txt out/first.fst
 	od -A d -t x1 out/first.fst
-	$(FST) print out/first.fst -
+	$(FST) print out/first.fst
+	$(FST) compile --arc_type=lexicographic --isymbols=examples/letters.txt --osymbols=examples/letters.txt examples/rule.txt out/rule.fst
+	$(FST) print --isymbols=examples/letters.txt --osymbols=examples/letters.txt out/rule.fst
 
 # The gate: every proof, every edit that must fail, every test and program, and the repository's own checks.
 test:
@@ -27,3 +30,5 @@ bench: all
 install: all
 	install -d $(DESTDIR)$(PREFIX)/bin
 	install -m 755 $(FST) $(DESTDIR)$(PREFIX)/bin/fst
+	install -d $(DESTDIR)$(PREFIX)/share/man/man1
+	install -m 644 man/fst.1 $(DESTDIR)$(PREFIX)/share/man/man1/fst.1

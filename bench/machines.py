@@ -5,6 +5,9 @@ numbered in the order of first appearance, so that every program reads the same 
 same machine has its state numbers permuted and spread out, as multiples of the gap.
 
     machines.py PATH ARCS [GAP]
+    machines.py --symbols TABLE COUNT [PATH ARCS]
+
+With --symbols the labels are written by their names in a table of so many symbols, which is written too.
 """
 import random
 import sys
@@ -26,7 +29,18 @@ def arcs_by_state(arcs, seed):
     return machine, states
 
 
-def write_text(path, arcs, gap=None, seed=1):
+def symbol(label):
+    """The name of a label: of 5 to 12 bytes, and epsilon's own."""
+    return f"w{label * 7919 % 1000003:04d}{'abcdefg'[: label % 8]}" if label else "<eps>"
+
+
+def write_symbols(path, count):
+    """Writes a table of so many symbols, numbered from 0, which is epsilon."""
+    with open(path, "w") as out:
+        out.writelines(f"{symbol(label)}\t{label}\n" for label in range(count))
+
+
+def write_text(path, arcs, gap=None, seed=1, label_text=str):
     """Writes the machine as text, its states numbered by first appearance, or spread out by the gap."""
     machine, states = arcs_by_state(arcs, seed)
     states = max(states, len(machine))
@@ -44,11 +58,16 @@ def write_text(path, arcs, gap=None, seed=1):
             source = name(state)
             lines = []
             for ilabel, olabel, weight, target in here:
-                lines.append(f"{source}\t{name(target)}\t{ilabel}\t{olabel}\t{weight}\n")
+                lines.append(f"{source}\t{name(target)}\t{label_text(ilabel)}\t{label_text(olabel)}\t{weight}\n")
             if state % 6 == 0:
                 lines.append(f"{source}\t{state % 1000}\n")
             out.write("".join(lines))
 
 
 if __name__ == "__main__":
-    write_text(sys.argv[1], *map(int, sys.argv[2:]))
+    if sys.argv[1] == "--symbols":
+        write_symbols(sys.argv[2], int(sys.argv[3]))
+        if len(sys.argv) > 4:
+            write_text(sys.argv[4], int(sys.argv[5]), label_text=symbol)
+    else:
+        write_text(sys.argv[1], *map(int, sys.argv[2:]))

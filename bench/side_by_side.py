@@ -52,6 +52,12 @@ def cases(fst, size, scratch):
     subprocess.run([sys.executable, MACHINES, text, str(size)], check=True)
     subprocess.run([sys.executable, MACHINES, gaps, str(size), "7"], check=True)
     subprocess.run([sys.executable, MACHINES, wide_gaps, str(size), "1000"], check=True)
+    named, table, long_table, bare = (os.path.join(scratch, f"{name}.{size}.txt") for name in ("named", "table", "long_table", "bare"))
+    subprocess.run([sys.executable, MACHINES, "--symbols", table, "5001", named, str(size)], check=True)
+    subprocess.run([sys.executable, MACHINES, "--symbols", long_table, str(size)], check=True)
+    with open(bare, "w") as out:
+        out.write("0\n")
+    tables = ["--isymbols=" + table, "--osymbols=" + table]
     subprocess.run([fst, "compile", text, ours], check=True)
     subprocess.run(["fstcompile", text, theirs], check=True)
     out = os.path.join(scratch, "out")
@@ -61,6 +67,10 @@ def cases(fst, size, scratch):
         ("compile, shuffled, gaps of 7", [fst, "compile", gaps, out + ".ours"], ["fstcompile", gaps, out + ".theirs"], 0.3, 1.5),
         ("compile, shuffled, gaps of 1000", [fst, "compile", wide_gaps, out + ".ours"], ["fstcompile", wide_gaps, out + ".theirs"], 0.3, 1.5),
         ("print", [fst, "print", ours, out + ".ours"], ["fstprint", theirs, out + ".theirs"], 0.2, 1.5),
+        ("compile, names of labels", [fst, "compile", *tables, named, out + ".ours"], ["fstcompile", *tables, named, out + ".theirs"], 1 / 3, 1.5),
+        ("print, names of labels", [fst, "print", *tables, ours, out + ".ours"], ["fstprint", *tables, theirs, out + ".theirs"], 1 / 3, 1.75),
+        # A table as long as the machine has arcs, and a text of one state.
+        ("a symbol table by itself", [fst, "compile", "--isymbols=" + long_table, bare, out + ".ours"], ["fstcompile", "--isymbols=" + long_table, bare, out + ".theirs"], 0.5, 1.5),
     ]
 
 
@@ -78,6 +88,25 @@ def read_alone(fst, size, rounds, scratch):
     if os.path.getsize(os.path.join(scratch, "silent.stdout")) != 0:
         sys.exit("a machine without a start is printed")
     return len(content) / 1e6, len(content) / 1e6 / statistics.median(times)
+
+
+def gaps_alone(fst, size, rounds, scratch):
+    """How much more texts with gaps cost than the dense one: medians of runs that alternate, so that they share slow minutes."""
+    names = ["dense", "gaps", "wide_gaps"]
+    times = {name: [] for name in names}
+    for _ in range(rounds):
+        for name in names:
+            words = [fst, "compile", os.path.join(scratch, f"{name}.{size}.txt"), os.path.join(scratch, "out.ours")]
+            times[name].append(measured(words, os.path.join(scratch, "ours.stdout"))[0])
+    dense = statistics.median(times["dense"])
+    return [statistics.median(times[name]) / dense for name in names[1:]]
+
+
+def call_alone(fst, scratch):
+    """Milliseconds of a whole call that has next to nothing to do but to read its words."""
+    words = [fst, "compile", "--arc_type=minmax", "--acceptor", "--keep_state_numbering", "-", os.path.join(scratch, "nothing")]
+    times = [measured(words, os.path.join(scratch, "nothing.stdout"))[0] for _ in range(100)]
+    return 1000 * statistics.mean(times)
 
 
 def main():
@@ -102,7 +131,11 @@ def main():
                 over = over or (size >= 1_000_000 and (s > most_time * t or k > most_memory * m))
         megabytes, rate = read_alone(words.fst, sizes[-1], words.rounds, scratch)
         print(f"\nReading a binary file of {megabytes:.1f} MB: {rate:.0f} MB/s")
-        over = over or rate < 300
+        gaps, wide_gaps = gaps_alone(words.fst, sizes[-1], 5 * words.rounds, scratch)
+        print(f"\nShuffled numbers against the dense text: gaps of 7 {gaps:.2f} times, gaps of 1000 {wide_gaps:.2f} times")
+        call = call_alone(words.fst, scratch)
+        print(f"\nA call with three options and an empty text: {call:.1f} ms")
+        over = over or rate < 300 or call > 5 or max(gaps, wide_gaps) > 1.5
     sys.exit(1 if over and words.gate else 0)
 
 

@@ -64,9 +64,9 @@ named_at name known kind bytes at = do
   found ← ok_or (find (λ x. bytes_eq (name x) part.0) known) (record { offset = at; kind = kind })
   Ok (found, part.1)
 
--- the arc types whose files are read
+-- the arc types
 abbrev pub known : List ArcType
-known = Tropical ∷ []
+known = Boolean ∷ Tropical ∷ MinMax ∷ Lexicographic ∷ []
 
 -- the fields up to the arc type, which is one of these
 unfoldable pub types_at : List ArcType → List ℕ → Result (ArcType × ℕ) BinaryFault

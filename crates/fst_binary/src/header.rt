@@ -1,7 +1,7 @@
 //! The fields in front of the states.
 
 ghost use Rattle.std.specs.Prelude.{◌≡◌, ◌∷◌, [], ◌≤◌, ◌<◌, length, IfOk, IfSome, true, codes, ◌==◌, bytes_eq};
-ghost use Rattle.std.specs.List.{find};
+ghost use Rattle.std.specs.List.{find, list_any};
 ghost use Rattle.std.specs.Result.{result_map_both};
 ghost use Rattle.fst_machine.specs.Machine.{most_arcs, most_states};
 ghost use Rattle.fst_binary.specs.Spelling.{name_of};
@@ -29,14 +29,26 @@ pub(crate) struct Header {
 
 /// The arc type with a name.
 fn arc_type_of_name(name: &[u8]) -> Option<ArcType>
-    ensures value { result ≡ find (λ kind. bytes_eq (name_of kind) name.now) known }
-    ensures built { IfSome result (λ kind. kind ≡ ArcType.Tropical) }
+    ensures { result ≡ find (λ kind. bytes_eq (name_of kind) name.now) known }
 {
-    if name == b"tropical".as_slice() {
+    if b"boolean".as_slice() == name {
+        Some(ArcType::Boolean)
+    } else if b"tropical".as_slice() == name {
         Some(ArcType::Tropical)
+    } else if b"minmax".as_slice() == name {
+        Some(ArcType::MinMax)
+    } else if b"lexicographic".as_slice() == name {
+        Some(ArcType::Lexicographic)
     } else {
         None
     }
+}
+
+/// Whether the name of an arc type has so many bytes.
+fn is_length_of_name(count: u32) -> bool
+    ensures { result ≡ list_any (λ kind. length (name_of kind) == count) known }
+{
+    count == 7 || count == 8 || count == 6 || count == 13
 }
 
 /// The offset behind the fst type, which has to be `vector`.
@@ -64,11 +76,10 @@ fn read_fst_type(bytes: &[u8], at: usize) -> Result<usize, BinaryFault>
 fn read_arc_type(bytes: &[u8], at: usize) -> Result<(ArcType, usize), BinaryFault>
     requires { at ≤ length bytes.now }
     ensures value { result ≡ named_at name_of known BinaryKind.UnknownArcType bytes.now at }
-    ensures built { IfOk result (λ x. x.0 ≡ ArcType.Tropical) }
     ensures behind { IfOk result (λ x. x.1 ≤ length bytes.now) }
 {
     let (count, behind) = read_word(bytes, at)?;
-    if count != 8 {
+    if !is_length_of_name(count) {
         return Err(fault_at(at, BinaryKind::UnknownArcType));
     }
     let (name, behind) = read_bytes(bytes, behind, count as usize)?;
@@ -82,7 +93,6 @@ fn read_arc_type(bytes: &[u8], at: usize) -> Result<(ArcType, usize), BinaryFaul
 #[tactic(auto, unfolding(crate::specs::Reading::types_at))]
 pub(crate) fn read_types(bytes: &[u8]) -> Result<(ArcType, usize), BinaryFault>
     ensures value { result ≡ types_at known bytes.now }
-    ensures built { IfOk result (λ x. x.0 ≡ ArcType.Tropical) }
     ensures behind { IfOk result (λ x. x.1 ≤ length bytes.now) }
 {
     let behind = expect_word(bytes, 0, 2_125_659_606, BinaryKind::BadMagic)?;
@@ -94,8 +104,6 @@ pub(crate) fn read_types(bytes: &[u8]) -> Result<(ArcType, usize), BinaryFault>
 #[tactic(auto, unfolding(crate::specs::Reading::arc_type_of_bytes))]
 pub fn arc_type(bytes: &[u8]) -> Result<ArcType, BinaryFault>
     ensures value { result ≡ arc_type_of_bytes bytes.now }
-    // The other arc types have no weights in code yet.
-    ensures built { IfOk result (λ kind. kind ≡ ArcType.Tropical) }
 {
     let (kind, _) = read_types(bytes)?;
     Ok(kind)

@@ -12,11 +12,8 @@ ghost use Rattle.fst_binary.specs.Reading.{cost_of_numbers, has_best, integer_at
 use crate::append::{append, append_signed};
 use crate::fault::WeightFieldFault;
 use byteorder::{ByteOrder, LittleEndian};
-use fst_semiring::{ArcType, Key, Weight};
+use fst_semiring::{ArcType, Key, LIMIT, Weight};
 use std::alloc::AllocError;
-
-/// The greatest absolute value of a number in a weight, 10 to the 18.
-const LIMIT: i64 = 1_000_000_000_000_000_000;
 
 /// Whether a number may stand in a weight.
 fn is_in_range(number: i128) -> bool

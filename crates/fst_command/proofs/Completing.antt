@@ -2,9 +2,10 @@
 use Rattle.std.proofs.Common.{◌≡◌, ◌⊎◌, ℕ, List, [], ◌∷◌, ◌++◌, length, Option, Some, refl, sym, ap, ◌∙◌, subst, inl, inr, arith}
 use Rattle.std.proofs.lemmas.List.{length-append}
 use Rattle.fst_desk.specs.Seen.{Files, Seen}
-use Rattle.fst_command.specs.Plans.{Plan}
+use Rattle.fst_words.specs.declared.plan.Plan.{Plan}
+use Rattle.fst_command.specs.Plans.{Input, inputs_of}
 use Rattle.fst_command.specs.Causes.{Cause, Answer, done, usage, refused, no_memory, unread, unwritten, status_of}
-use Rattle.fst_command.specs.Checks.{Input, Check, inputs_of, checks_of, AllPass, IsFirst}
+use Rattle.fst_command.specs.Checks.{Check, checks_of, AllPass, IsFirst}
 use Rattle.fst_command.specs.Outcome.{Agrees, Answers, Refuses, Runs, Completes}
 
 -- told contents are one list

@@ -1,22 +1,47 @@
--- From what the steps of a command with one input and one output give to its answer.
-use Rattle.std.proofs.Common.{◌≡◌, ◌⊎◌, ℕ, ◌<◌, List, [], ◌∷◌, ◌++◌, length, Option, Some, None, IfSome, Result, Ok, Err, refl, sym, ◌∙◌, subst, inl, inr, suc, arith}
+-- From what the steps of a command give to its answer.
+use Rattle.std.proofs.Common.{◌≡◌, ◌⊎◌, ℕ, ◌<◌, ◌≤◌, List, [], ◌∷◌, ◌++◌, length, Option, Some, None, IfSome, Result, Ok, Err, refl, sym, ap, ◌∙◌, subst, inl, inr, suc, arith, append_assoc}
 use Rattle.std.specs.Prelude.{replicate}
-use Rattle.std.proofs.lemmas.List.{length-replicate}
+use Rattle.std.proofs.lemmas.List.{append-nil, length-replicate}
 use Rattle.fst_desk.specs.Seen.{Files, Seen, Rises}
 use Rattle.fst_desk.specs.Desk.{content_of, ToldHolds}
+use Rattle.fst_words.specs.declared.plan.Plan.{Plan}
+use Rattle.fst_words.specs.Plans.{outputs_of}
 use Rattle.fst_command.specs.declared.refusal.Refusal.{Refusal}
-use Rattle.fst_command.specs.Plans.{Plan, compile, print, input_name}
-use Rattle.fst_command.specs.Causes.{Cause, too_long, bad_text, bad_binary, unprintable, done, refused, no_memory, unread, unwritten}
-use Rattle.fst_command.specs.Checks.{Input, text_form, binary_form, inputs_of, later_checks, checks_of, input_checks, read_limit, IsFirst}
-use Rattle.fst_command.specs.Outputs.{Writes}
+use Rattle.fst_command.specs.Plans.{Input, inputs_of}
+use Rattle.fst_command.specs.Causes.{Cause, too_long, bad_symbols, bad_text, bad_binary, kinds_differ, unprintable, done, refused, no_memory, unread, unwritten}
+use Rattle.fst_command.specs.Checks.{Check, Passes, AllPass, IsFirst, form_check, input_checks, later_checks, checks_of, length_check, read_limit}
+use Rattle.fst_command.specs.Outputs.{Writes, Makes, AreNamed}
 use Rattle.fst_command.specs.Outcome.{Agrees, Leaves, Prescribes, TakesMore}
 use Rattle.fst_command.specs.Told.{Tells}
-use Rattle.fst_command.specs.Steps.{NotRead, ReadsTooLong, Reads, NotWritten, WriteAnswer, WritesOutput, Decides, IsOfForm, Works}
+use Rattle.fst_command.specs.Steps.{NotRead, ReadsTooLong, Reads, NotWritten, WriteAnswer, WritesOutput, Declines, Decides, IsOfForm, Works}
+use Rattle.fst_command.proofs.Checking.{Agrees-append, AllPass-append, IsFirst-front, checks_from, contents_of, first_at, input_checks-append}
+use Rattle.fst_command.proofs.Deciding.{Passes-length}
 
--- a plan has one input
-pub one_input : (plan : Plan) → (i : Input) × (inputs_of plan ≡ i ∷ []) × (i.name ≡ input_name plan)
-one_input (compile text out) = (record { name = text; form = text_form }, refl, refl)
-one_input (print machine out) = (record { name = machine; form = binary_form }, refl, refl)
+-- The inputs in front are read: they have these contents, no question finds a cause in them, and nothing
+-- else has changed.
+pub record Progress (plan : Plan) (front : List Input) (contents : List (List ℕ)) (old now : Seen) : Type 0 where
+  pub agrees : Agrees old.filed.told front contents
+  pub passes : AllPass (input_checks plan [] front contents)
+  pub told : now.filed.told ≡ old.filed.told
+  pub write_faults : now.filed.write_faults ≡ old.filed.write_faults
+  pub missed : now.filed.missed ≡ old.filed.missed
+  pub showing : now.showing ≡ old.showing
+
+-- nothing is read
+pub Progress-none : (plan : Plan) (old : Seen) → Progress plan [] [] old old
+Progress-none plan old = record { agrees = tt; passes = tt; told = refl; write_faults = refl; missed = refl; showing = refl }
+
+-- one input more is read
+pub Progress-more : (plan : Plan) (front : List Input) (contents : List (List ℕ)) (old mid new : Seen) (i : Input) (content : List ℕ) → Progress plan front contents old mid → Reads i.name mid new (Ok content) → Passes (form_check plan contents i content) → Progress plan (front ++ i ∷ []) (contents ++ content ∷ []) old new
+Progress-more plan front contents old mid new i content p r form = record {
+  agrees = Agrees-append old.filed.told front (i ∷ []) contents (content ∷ []) p.agrees (subst (λ (t : Option Files). IfSome t (λ files. content ≡ content_of files i.name)) p.told r.answer.whole, tt);
+  passes = subst (λ (checks : List Check). AllPass checks) (sym (input_checks-append plan old.filed.told [] front (i ∷ []) contents (content ∷ []) p.agrees))
+      (AllPass-append (input_checks plan [] front contents) (length_check i.name content ∷ form_check plan contents i content ∷ []) p.passes (Passes-length i.name content r.answer.short, (form, tt)));
+  told = r.told ∙ p.told;
+  write_faults = r.write_faults ∙ p.write_faults;
+  missed = r.answer.missed ∙ p.missed;
+  showing = r.showing ∙ p.showing;
+}
 
 -- there is a longer list than any number
 longer_list : (n : ℕ) → (xs : List ℕ) × (n < length xs)
@@ -27,99 +52,126 @@ long_content : (told : Option Files) (name : List ℕ) → IfSome told (λ files
 long_content None name longer = let l = longer_list read_limit in (l.0, tt, l.1)
 long_content (Some files) name longer = (content_of files name, refl, longer)
 
--- the first question of a command with an input is its length
-first_is_long : (plan : Plan) (i : Input) (content : List ℕ) → inputs_of plan ≡ i ∷ [] → read_limit < length content → IsFirst (checks_of plan (content ∷ [])) (too_long i.name)
-first_is_long plan i content one longer =
-    subst (λ (is : List Input). IsFirst (input_checks is (content ∷ []) ++ later_checks plan (content ∷ [])) (too_long i.name)) (sym one) (inl (longer, refl))
+-- there was no memory
+pub Works-memory : (plan : Plan) (front : List Input) (contents : List (List ℕ)) (old new : Seen) (refusal : Refusal) → Progress plan front contents old new → Tells no_memory refusal → Works (Some plan) old new (Err refusal)
+Works-memory plan front contents old new refusal p tells = record { answer = no_memory; ends = tells; answers = inl p.told; showing = p.showing }
 
--- the content of the one input agrees
-agrees_one : (plan : Plan) (i : Input) (told : Option Files) (content : List ℕ) → inputs_of plan ≡ i ∷ [] → IfSome told (λ files. content ≡ content_of files i.name) → Agrees told (inputs_of plan) (content ∷ [])
-agrees_one plan i told content one whole = subst (λ (is : List Input). Agrees told is (content ∷ [])) (sym one) (whole, tt)
+-- an input was not read
+pub Works-unread : (plan : Plan) (front after : List Input) (contents : List (List ℕ)) (old mid new : Seen) (i : Input) (refusal : Refusal) → inputs_of plan ≡ front ++ i ∷ after → Progress plan front contents old mid → Reads i.name mid new (Err refusal) → Works (Some plan) old new (Err refusal)
+Works-unread plan front after contents old mid new i refusal one p r = go r.answer where
+  told : new.filed.told ≡ old.filed.told
+  told = r.told ∙ p.told
 
--- the input was not read
-works-unread : (plan : Plan) (i : Input) (old new : Seen) (refusal : Refusal) → inputs_of plan ≡ i ∷ [] → Reads i.name old new (Err refusal) → Works (Some plan) old new (Err refusal)
-works-unread plan i old new refusal one r = go r.answer where
-  unread_by : NotRead i.name old.filed new.filed refusal → Works (Some plan) old new (Err refusal)
+  showing : new.showing ≡ old.showing
+  showing = r.showing ∙ p.showing
+
+  unread_by : NotRead i.name mid.filed new.filed refusal → Works (Some plan) old new (Err refusal)
   unread_by n = record {
     answer = unread i.name;
     ends = n.tells;
-    answers = (record { missed = n.missed; before = []; input = i; after = []; inputs = one; named = refl; contents = []; agrees = tt; passes = tt }, r.told);
-    showing = r.showing;
+    answers = (record { missed = n.missed ∙ ap (λ names. names ++ i.name ∷ []) p.missed; before = front; input = i; after = after; inputs = one; named = refl; contents = contents; agrees = p.agrees; passes = p.passes }, told);
+    showing = showing;
   }
 
-  long_by : ReadsTooLong i.name old.filed new.filed refusal → Works (Some plan) old new (Err refusal)
+  long_by : ReadsTooLong i.name mid.filed new.filed refusal → Works (Some plan) old new (Err refusal)
   long_by n =
-      let l = long_content old.filed.told i.name n.longer in
+      let l = long_content old.filed.told i.name (subst (λ (t : Option Files). IfSome t (λ files. read_limit < length (content_of files i.name))) p.told n.longer) in
+      let rest = contents_of old.filed.told after in
       record {
         answer = refused (too_long i.name);
         ends = n.tells;
-        answers = (record { contents = l.0 ∷ []; agrees = agrees_one plan i old.filed.told l.0 one l.1; first = first_is_long plan i l.0 one l.2 }, n.taken, r.told);
-        showing = r.showing;
+        answers = (
+          record {
+            contents = contents ++ l.0 ∷ rest.0;
+            agrees = subst (λ (is : List Input). Agrees old.filed.told is (contents ++ l.0 ∷ rest.0)) (sym one) (Agrees-append old.filed.told front (i ∷ after) contents (l.0 ∷ rest.0) p.agrees (l.1, rest.1));
+            first = first_at plan old.filed.told front after i contents rest.0 l.0 (too_long i.name) one p.agrees p.passes (inl (l.2, refl));
+          },
+          n.taken,
+          told,
+        );
+        showing = showing;
       }
 
-  go : Tells no_memory refusal ⊎ (NotRead i.name old.filed new.filed refusal ⊎ ReadsTooLong i.name old.filed new.filed refusal) → Works (Some plan) old new (Err refusal)
-  go (inl tells) = record { answer = no_memory; ends = tells; answers = inl r.told; showing = r.showing }
+  go : Tells no_memory refusal ⊎ (NotRead i.name mid.filed new.filed refusal ⊎ ReadsTooLong i.name mid.filed new.filed refusal) → Works (Some plan) old new (Err refusal)
+  go (inl tells) = record { answer = no_memory; ends = tells; answers = inl told; showing = showing }
   go (inr (inl n)) = unread_by n
   go (inr (inr n)) = long_by n
 
 -- a cause of a form says nothing of what was taken
 takes_nothing : (cause : Cause) (taken : ℕ) → IsOfForm cause → TakesMore cause taken
 takes_nothing (too_long name) taken h = absurd h
+takes_nothing (bad_symbols name fault) taken h = tt
 takes_nothing (bad_text name fault) taken h = tt
 takes_nothing (bad_binary name fault) taken h = tt
+takes_nothing (kinds_differ first other) taken h = tt
 takes_nothing (unprintable fault) taken h = tt
 
--- the input was read, and the command refuses
-works-refused : (plan : Plan) (i : Input) (out : List ℕ) (old new : Seen) (content : List ℕ) (refusal : Refusal) → inputs_of plan ≡ i ∷ [] → Reads i.name old new (Ok content) → Decides plan out (content ∷ []) (Err refusal) → Works (Some plan) old new (Err refusal)
-works-refused plan i out old new content refusal one r decides = go decides where
-  go : Decides plan out (content ∷ []) (Err refusal) → Works (Some plan) old new (Err refusal)
-  go (inl tells) = record { answer = no_memory; ends = tells; answers = inl r.told; showing = r.showing }
-  go (inr (cause, first, form, tells)) = record {
-    answer = refused cause;
-    ends = tells;
-    answers = (record { contents = content ∷ []; agrees = agrees_one plan i old.filed.told content one r.answer.whole; first = first }, takes_nothing cause new.filed.taken form, r.told);
-    showing = r.showing;
-  }
+-- an input was read, and the first cause is found from it on
+works-refused : (plan : Plan) (front after : List Input) (contents rest : List (List ℕ)) (old mid new : Seen) (i : Input) (content : List ℕ) (cause : Cause) (refusal : Refusal) → inputs_of plan ≡ front ++ i ∷ after → Progress plan front contents old mid → Reads i.name mid new (Ok content) → Agrees old.filed.told after rest → IsFirst (checks_from plan contents i after content rest) cause → IsOfForm cause → Tells (refused cause) refusal → Works (Some plan) old new (Err refusal)
+works-refused plan front after contents rest old mid new i content cause refusal one p r others first form tells =
+    let whole = subst (λ (t : Option Files). IfSome t (λ files. content ≡ content_of files i.name)) p.told r.answer.whole in
+    record {
+      answer = refused cause;
+      ends = tells;
+      answers = (
+        record {
+          contents = contents ++ content ∷ rest;
+          agrees = subst (λ (is : List Input). Agrees old.filed.told is (contents ++ content ∷ rest)) (sym one) (Agrees-append old.filed.told front (i ∷ after) contents (content ∷ rest) p.agrees (whole, others));
+          first = first_at plan old.filed.told front after i contents rest content cause one p.agrees p.passes (inr (Passes-length i.name content r.answer.short, first));
+        },
+        takes_nothing cause new.filed.taken form,
+        r.told ∙ p.told,
+      );
+      showing = r.showing ∙ p.showing;
+    }
 
--- the input was read, the command decided on an output, and this was handed to the desk
-works-written : (plan : Plan) (i : Input) (out bytes : List ℕ) (old mid new : Seen) (content : List ℕ) (result : Result (Unit {0}) Refusal) → inputs_of plan ≡ i ∷ [] → Reads i.name old mid (Ok content) → Decides plan out (content ∷ []) (Ok bytes) → WritesOutput out bytes mid new result → Works (Some plan) old new result
-works-written plan i out bytes old mid new content result one r decides w = go result w.answer where
+-- an input was read, and it has not its form
+pub Works-declined : (plan : Plan) (front after : List Input) (contents : List (List ℕ)) (old mid new : Seen) (i : Input) (content : List ℕ) (refusal : Refusal) → inputs_of plan ≡ front ++ i ∷ after → Progress plan front contents old mid → Reads i.name mid new (Ok content) → Declines (form_check plan contents i content ∷ []) refusal → Works (Some plan) old new (Err refusal)
+Works-declined plan front after contents old mid new i content refusal one p r (inl tells) = record { answer = no_memory; ends = tells; answers = inl (r.told ∙ p.told); showing = r.showing ∙ p.showing }
+Works-declined plan front after contents old mid new i content refusal one p r (inr (cause, first, form, tells)) =
+    let rest = contents_of old.filed.told after in
+    let more = input_checks plan (contents ++ content ∷ []) after rest.0 ++ later_checks plan (contents ++ content ∷ rest.0) in
+    works-refused plan front after contents rest.0 old mid new i content cause refusal one p r rest.1 (IsFirst-front (form_check plan contents i content ∷ []) more cause first) form tells
+
+-- the last input was read, and the command refuses
+pub Works-refused : (plan : Plan) (front : List Input) (contents : List (List ℕ)) (old mid new : Seen) (i : Input) (content : List ℕ) (refusal : Refusal) → inputs_of plan ≡ front ++ i ∷ [] → Progress plan front contents old mid → Reads i.name mid new (Ok content) → Decides plan contents i content (Err refusal) → Works (Some plan) old new (Err refusal)
+Works-refused plan front contents old mid new i content refusal one p r (inl tells) = record { answer = no_memory; ends = tells; answers = inl (r.told ∙ p.told); showing = r.showing ∙ p.showing }
+Works-refused plan front contents old mid new i content refusal one p r (inr (cause, first, form, tells)) = works-refused plan front [] contents [] old mid new i content cause refusal one p r tt first form tells
+
+-- the last input was read, the command decided on an output, and this was handed to the desk
+pub Works-written : (plan : Plan) (front : List Input) (contents : List (List ℕ)) (out bytes : List ℕ) (old mid read new : Seen) (i : Input) (content : List ℕ) (result : Result (Unit {0}) Refusal) → inputs_of plan ≡ front ++ i ∷ [] → outputs_of plan ≡ out ∷ [] → Progress plan front contents old mid → Reads i.name mid read (Ok content) → Decides plan contents i content (Ok bytes) → WritesOutput out bytes read new result → Works (Some plan) old new result
+Works-written plan front contents out bytes old mid read new i content result one single p r decides w = go result w.answer where
+  all : Progress plan (front ++ i ∷ []) (contents ++ content ∷ []) old read
+  all = Progress-more plan front contents old mid read i content p r decides.0.0
+
   showing : new.showing ≡ old.showing
-  showing = w.showing ∙ r.showing
+  showing = w.showing ∙ all.showing
 
   prescribes : (bs : List ℕ) → bytes ≡ bs → Prescribes plan old.filed.told ((out, bs) ∷ [])
   prescribes bs e = record {
-    contents = content ∷ [];
-    agrees = agrees_one plan i old.filed.told content one r.answer.whole;
-    passes = decides.0;
-    writes = subst (λ (b : List ℕ). Writes plan (content ∷ []) ((out, b) ∷ [])) e decides.1;
+    contents = contents ++ content ∷ [];
+    agrees = subst (λ (is : List Input). Agrees old.filed.told is (contents ++ content ∷ [])) (sym one) all.agrees;
+    passes = AllPass-append (input_checks plan [] (inputs_of plan) (contents ++ content ∷ [])) (later_checks plan (contents ++ content ∷ []))
+        (subst (λ (is : List Input). AllPass (input_checks plan [] is (contents ++ content ∷ []))) (sym one) all.passes) decides.0.1;
+    writes = record {
+      made = bs ∷ [];
+      makes = subst (λ (b : List ℕ). Makes plan (contents ++ content ∷ []) (b ∷ [])) e decides.1;
+      named = subst (λ (names : List (List ℕ)). AreNamed names (bs ∷ []) ((out, bs) ∷ [])) (sym single) ([], refl, refl);
+    };
   }
 
-  holds : (bs : List ℕ) → ToldHolds out bs mid.filed.told new.filed.told → Leaves ((out, bs) ∷ []) old.filed.told new.filed.told
-  holds bs h = (new.filed.told, subst (λ (t : Option Files). ToldHolds out bs t new.filed.told) r.told h, refl)
+  holds : (bs : List ℕ) → ToldHolds out bs read.filed.told new.filed.told → Leaves ((out, bs) ∷ []) old.filed.told new.filed.told
+  holds bs h = (new.filed.told, subst (λ (t : Option Files). ToldHolds out bs t new.filed.told) all.told h, refl)
 
-  failed : (refusal : Refusal) → NotWritten out bytes mid.filed new.filed refusal → Works (Some plan) old new (Err refusal)
+  failed : (refusal : Refusal) → NotWritten out bytes read.filed new.filed refusal → Works (Some plan) old new (Err refusal)
   failed refusal n = record {
     answer = unwritten out;
     ends = n.tells;
-    answers = record { rises = subst (λ (k : ℕ). Rises k new.filed.write_faults) r.write_faults n.rises; before = []; front = n.front; rest = n.rest; after = []; prescribes = prescribes (n.front ++ n.rest) n.splits; leaves = holds n.front n.told };
+    answers = record { rises = subst (λ (k : ℕ). Rises k new.filed.write_faults) all.write_faults n.rises; before = []; front = n.front; rest = n.rest; after = []; prescribes = prescribes (n.front ++ n.rest) n.splits; leaves = holds n.front n.told };
     showing = showing;
   }
 
-  go : (result : Result (Unit {0}) Refusal) → WriteAnswer out bytes mid.filed new.filed result → Works (Some plan) old new result
+  go : (result : Result (Unit {0}) Refusal) → WriteAnswer out bytes read.filed new.filed result → Works (Some plan) old new result
   go (Ok u) h = record { answer = done; ends = refl; answers = ((out, bytes) ∷ [], prescribes bytes refl, holds bytes h); showing = showing }
-  go (Err refusal) (inl n) = record { answer = no_memory; ends = n.tells; answers = inl (n.told ∙ r.told); showing = showing }
+  go (Err refusal) (inl n) = record { answer = no_memory; ends = n.tells; answers = inl (n.told ∙ all.told); showing = showing }
   go (Err refusal) (inr n) = failed refusal n
-
--- the same by the name of the input of the plan
-named : (plan : Plan) (old new : Seen) (result : Result (List ℕ) Refusal) → Reads (input_name plan) old new result → Reads (one_input plan).0.name old new result
-named plan old new result r = subst (λ (name : List ℕ). Reads name old new result) (sym (one_input plan).2) r
-
-pub Works-unread : (plan : Plan) (old new : Seen) (refusal : Refusal) → Reads (input_name plan) old new (Err refusal) → Works (Some plan) old new (Err refusal)
-Works-unread plan old new refusal r = works-unread plan (one_input plan).0 old new refusal (one_input plan).1 (named plan old new (Err refusal) r)
-
-pub Works-refused : (plan : Plan) (out : List ℕ) (old new : Seen) (content : List ℕ) (refusal : Refusal) → Reads (input_name plan) old new (Ok content) → Decides plan out (content ∷ []) (Err refusal) → Works (Some plan) old new (Err refusal)
-Works-refused plan out old new content refusal r decides = works-refused plan (one_input plan).0 out old new content refusal (one_input plan).1 (named plan old new (Ok content) r) decides
-
-pub Works-written : (plan : Plan) (out bytes : List ℕ) (old mid new : Seen) (content : List ℕ) (result : Result (Unit {0}) Refusal) → Reads (input_name plan) old mid (Ok content) → Decides plan out (content ∷ []) (Ok bytes) → WritesOutput out bytes mid new result → Works (Some plan) old new result
-Works-written plan out bytes old mid new content result r decides w = works-written plan (one_input plan).0 out bytes old mid new content result (one_input plan).1 (named plan old mid (Ok content) r) decides w

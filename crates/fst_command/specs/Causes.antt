@@ -2,6 +2,9 @@
 use Rattle.std.specs.Prelude.{ℕ, List, [], ◌∷◌, ◌++◌, Option, Some, None, codes}
 use Rattle.std.specs.Fmt.{decimal}
 use Rattle.std.specs.List.{concat}
+use Rattle.fst_semiring.specs.declared.arc_type.ArcType.{ArcType}
+use Rattle.fst_symbols.specs.declared.fault.SymbolsFault.{SymbolsFault}
+use Rattle.fst_symbols.specs.declared.fault.SymbolsFault.TheVariants as symbols
 use Rattle.fst_text.specs.declared.fault.TextFault.{TextFault}
 use Rattle.fst_text.specs.declared.fault.TextFault.TheVariants as text
 use Rattle.fst_text.specs.declared.fault.PrintFault.{PrintFault}
@@ -9,15 +12,20 @@ use Rattle.fst_text.specs.declared.fault.PrintFault.TheVariants as printing
 use Rattle.fst_binary.specs.declared.fault.BinaryFault.{BinaryFault}
 use Rattle.fst_binary.specs.declared.fault.BinaryKind.{BinaryKind}
 use Rattle.fst_binary.specs.declared.fault.BinaryKind.TheVariants as binary
+use Rattle.fst_binary.specs.Spelling.{name_of}
 
 -- the causes of a refusal that words and contents decide, with the name of the input where it is its own
 pub data Cause : Type 0 where
   -- the content is longer than what is read
   too_long : List ℕ → Cause
+  -- the content is no symbol table
+  bad_symbols : List ℕ → SymbolsFault → Cause
   -- the content is no text form of a machine
   bad_text : List ℕ → TextFault → Cause
   -- the content is no binary form of a machine
   bad_binary : List ℕ → BinaryFault → Cause
+  -- a machine has another arc type than the first one
+  kinds_differ : ArcType → ArcType → Cause
   -- the machine has no text form with these options
   unprintable : PrintFault → Cause
 
@@ -45,11 +53,28 @@ status_of no_memory = 3
 status_of (unread name) = 4
 status_of (unwritten name) = 5
 
+-- the line of a fault of a symbol table
+abbrev pub symbols_line_at : SymbolsFault → ℕ
+symbols_line_at (symbols.BadColumns line) = line
+symbols_line_at (symbols.BadNumber line) = line
+symbols_line_at (symbols.DuplicateSymbol line) = line
+symbols_line_at (symbols.DuplicateNumber line) = line
+symbols_line_at symbols.Memory = 0
+
+-- what is wrong with a line of a symbol table
+abbrev pub symbols_reason : SymbolsFault → List ℕ
+symbols_reason (symbols.BadColumns line) = codes "wrong number of columns"
+symbols_reason (symbols.BadNumber line) = codes "bad number"
+symbols_reason (symbols.DuplicateSymbol line) = codes "symbol given twice"
+symbols_reason (symbols.DuplicateNumber line) = codes "number given twice"
+symbols_reason symbols.Memory = codes "out of memory"
+
 -- the line of a fault of a text form
 abbrev pub line_at : TextFault → ℕ
 line_at (text.BadColumns line) = line
 line_at (text.BadState line) = line
 line_at (text.BadLabel line) = line
+line_at (text.UnknownSymbol line) = line
 line_at (text.BadWeight line) = line
 line_at (text.TooManyStates line) = line
 line_at (text.TooManyArcs line) = line
@@ -60,6 +85,7 @@ abbrev pub text_reason : TextFault → List ℕ
 text_reason (text.BadColumns line) = codes "wrong number of columns"
 text_reason (text.BadState line) = codes "bad state"
 text_reason (text.BadLabel line) = codes "bad label"
+text_reason (text.UnknownSymbol line) = codes "unknown symbol"
 text_reason (text.BadWeight line) = codes "bad weight"
 text_reason (text.TooManyStates line) = codes "too many states"
 text_reason (text.TooManyArcs line) = codes "too many arcs"
@@ -89,16 +115,27 @@ placed_line name unit place reason = concat (codes "fst: " ∷ name ∷ codes ":
 abbrev pub two_labels_line : ℕ → ℕ → List ℕ
 two_labels_line state place = concat (codes "fst: not an acceptor at state " ∷ decimal state ∷ codes " arc " ∷ decimal place ∷ codes "\n" ∷ [])
 
+-- the line of a label without a name
+abbrev pub no_symbol_line : ℕ → List ℕ
+no_symbol_line label = concat (codes "fst: no symbol for label " ∷ decimal label ∷ codes "\n" ∷ [])
+
+-- the line of machines of two arc types
+abbrev pub kinds_line : ArcType → ArcType → List ℕ
+kinds_line first other = concat (codes "fst: arc types differ: " ∷ name_of first ∷ codes " and " ∷ name_of other ∷ codes "\n" ∷ [])
+
 -- the line of a machine that has no text form
 abbrev pub print_line : PrintFault → List ℕ
 print_line (printing.NotAcceptor state place) = two_labels_line state place
+print_line (printing.UnknownSymbol label) = no_symbol_line label
 print_line printing.Memory = codes "fst: out of memory\n"
 
 -- the line of a cause
 abbrev pub cause_line : Cause → List ℕ
 cause_line (too_long name) = codes "fst: " ++ name ++ codes " is longer than 1342177280 bytes\n"
+cause_line (bad_symbols name fault) = placed_line name (codes "line") (symbols_line_at fault) (symbols_reason fault)
 cause_line (bad_text name fault) = placed_line name (codes "line") (line_at fault) (text_reason fault)
 cause_line (bad_binary name fault) = placed_line name (codes "byte") fault.offset (binary_reason fault.kind)
+cause_line (kinds_differ first other) = kinds_line first other
 cause_line (unprintable fault) = print_line fault
 
 -- the line that a run shows, if it shows one

@@ -1,83 +1,76 @@
 -- What is asked of the inputs of a command, in which order, and what each question finds.
-use Rattle.std.specs.Prelude.{◌≡◌, ◌⊎◌, ℕ, ◌<◌, List, [], ◌∷◌, ◌++◌, length, Result, Ok, Err, false}
+use Rattle.std.specs.Prelude.{◌≡◌, ◌⊎◌, ℕ, ◌<◌, List, [], ◌∷◌, ◌++◌, length, Result, Ok, Err}
 use Rattle.fst_semiring.specs.declared.arc_type.ArcType.{ArcType}
-use Rattle.fst_semiring.specs.declared.arc_type.ArcType.TheVariants.{Tropical}
-use Rattle.fst_semiring.specs.Cost.{Cost}
-use Rattle.fst_machine.specs.Machine.{Machine}
-use Rattle.fst_text.specs.declared.options.TextOptions.{TextOptions}
 use Rattle.fst_text.specs.declared.fault.PrintFault.{PrintFault}
 use Rattle.fst_text.specs.Grammar.{machine_of_text}
 use Rattle.fst_text.specs.Printed.{text_of_machine}
-use Rattle.fst_binary.specs.Reading.{arc_type_of_bytes, machine_of_bytes}
-use Rattle.fst_binary.specs.declared.fault.BinaryFault.{BinaryFault}
-use Rattle.fst_command.specs.Plans.{Plan, compile, print}
-use Rattle.fst_command.specs.Causes.{Cause, too_long, bad_text, bad_binary, unprintable}
+use Rattle.fst_symbols.specs.Reading.{table_of_text}
+use Rattle.fst_words.specs.declared.options.Options.{Options}
+use Rattle.fst_words.specs.declared.plan.Plan.{Plan}
+use Rattle.fst_words.specs.declared.verb.Verb.{Verb}
+use Rattle.fst_words.specs.declared.verb.Verb.TheVariants.{Print, Invert, Project, Connect}
+use Rattle.fst_command.specs.Plans.{Form, symbols_form, text_form, binary_form, Input, inputs_of, arc_type_of}
+use Rattle.fst_command.specs.Contents.{Choices, Typed, machine_of_file, choices_of, own_contents}
+use Rattle.fst_command.specs.Causes.{Cause, too_long, bad_symbols, bad_text, bad_binary, kinds_differ, unprintable}
 
 -- the most bytes that are read of an input: the largest machine of every arc type fits
 abbrev pub read_limit : ℕ
 read_limit = 1342177280
 
--- no option stands
-abbrev pub plain : TextOptions
-plain = record { acceptor = false; keep_state_numbering = false; show_weight_one = false }
-
--- a machine with its arc type
-pub record Typed : Type 0 where
-  pub kind : ArcType
-  pub machine : Machine Cost
-
--- the machine of a kind, as read
-abbrev pub typed : ArcType → Result (Machine Cost) BinaryFault → Result Typed BinaryFault
-typed kind (Ok m) = Ok (record { kind = kind; machine = m })
-typed kind (Err fault) = Err fault
-
--- the machine that a binary form names the kind of
-abbrev pub typed_by : List ℕ → Result ArcType BinaryFault → Result Typed BinaryFault
-typed_by bytes (Ok kind) = typed kind (machine_of_bytes kind bytes)
-typed_by bytes (Err fault) = Err fault
-
--- the machine of a file, or the first fault of its form
-abbrev pub machine_of_file : List ℕ → Result Typed BinaryFault
-machine_of_file bytes = typed_by bytes (arc_type_of_bytes bytes)
-
--- the forms that inputs have
-pub data Form : Type 0 where
-  text_form : Form
-  binary_form : Form
-
--- an input of a command
-pub record Input : Type 0 where
-  pub name : List ℕ
-  pub form : Form
-
--- the inputs of a command, in the order in which they are read
-abbrev pub inputs_of : Plan → List Input
-inputs_of (compile text out) = record { name = text; form = text_form } ∷ []
-inputs_of (print machine out) = record { name = machine; form = binary_form } ∷ []
-
 -- a question, with the contents that it is asked of
 pub data Check : Type 0 where
-  -- is the input short enough
+  -- is the input of this name short enough
   length_check : List ℕ → List ℕ → Check
-  -- has the input its form
-  form_check : Form → List ℕ → List ℕ → Check
-  -- has the machine of the file a text form
-  print_check : List ℕ → Check
+  -- is the content of the input of this name a symbol table
+  symbols_check : List ℕ → List ℕ → Check
+  -- is it the text form of a machine of the arc type, read so
+  text_check : ArcType → Choices → List ℕ → List ℕ → Check
+  -- is it the binary form of a machine
+  binary_check : List ℕ → List ℕ → Check
+  -- have the machines of the files one arc type
+  kinds_check : List (List ℕ) → Check
+  -- has the machine of the file a text form, printed so
+  print_check : Choices → List ℕ → Check
+
+-- the machine of the file has another arc type than the first
+pub record IsOther (first : Typed) (file : List ℕ) (cause : Cause) : Type 0 where
+  pub other : Typed
+  pub reads : machine_of_file file ≡ Ok other
+  pub differs : first.kind ≡ other.kind → ⊥
+  pub is : cause ≡ kinds_differ first.kind other.kind
+
+-- the machine of the file has the arc type of the first
+pub record IsAlike (first : Typed) (file : List ℕ) : Type 0 where
+  pub other : Typed
+  pub reads : machine_of_file file ≡ Ok other
+  pub same : first.kind ≡ other.kind
+
+-- the first of the files whose arc type is another one gives the cause
+abbrev pub HasOther : Typed → List (List ℕ) → Cause → Type 0
+HasOther first [] cause = ⊥
+HasOther first (file ∷ files) cause = IsOther first file cause ⊎ (IsAlike first file × HasOther first files cause)
+
+-- the machines of the files have not one arc type
+abbrev pub KindsDiffer : List (List ℕ) → Cause → Type 0
+KindsDiffer [] cause = ⊥
+KindsDiffer (file ∷ files) cause = (first : Typed) × (machine_of_file file ≡ Ok first) × HasOther first files cause
 
 -- the machine of the file has no text form
-pub record IsUnprintable (file : List ℕ) (cause : Cause) : Type 0 where
+pub record IsUnprintable (choices : Choices) (file : List ℕ) (cause : Cause) : Type 0 where
   pub machine : Typed
   pub fault : PrintFault
   pub reads : machine_of_file file ≡ Ok machine
-  pub prints : text_of_machine machine.kind plain machine.machine ≡ Err fault
+  pub prints : text_of_machine machine.kind choices machine.machine ≡ Err fault
   pub is : cause ≡ unprintable fault
 
 -- the question finds the cause
 abbrev pub Finds : Check → Cause → Type 0
 Finds (length_check name content) cause = (read_limit < length content) × (cause ≡ too_long name)
-Finds (form_check text_form name content) cause = (fault : _) × (machine_of_text Tropical plain content ≡ Err fault) × (cause ≡ bad_text name fault)
-Finds (form_check binary_form name content) cause = (fault : _) × (machine_of_file content ≡ Err fault) × (cause ≡ bad_binary name fault)
-Finds (print_check file) cause = IsUnprintable file cause
+Finds (symbols_check name content) cause = (fault : _) × (table_of_text content ≡ Err fault) × (cause ≡ bad_symbols name fault)
+Finds (text_check kind choices name content) cause = (fault : _) × (machine_of_text kind choices content ≡ Err fault) × (cause ≡ bad_text name fault)
+Finds (binary_check name content) cause = (fault : _) × (machine_of_file content ≡ Err fault) × (cause ≡ bad_binary name fault)
+Finds (kinds_check files) cause = KindsDiffer files cause
+Finds (print_check choices file) cause = IsUnprintable choices file cause
 
 -- the question finds none
 abbrev pub Passes : Check → Type 0
@@ -92,18 +85,33 @@ abbrev pub IsFirst : List Check → Cause → Type 0
 IsFirst [] cause = ⊥
 IsFirst (check ∷ checks) cause = Finds check cause ⊎ (Passes check × IsFirst checks cause)
 
--- each input is asked for its length, then for its form, before the next is read
-abbrev pub input_checks : List Input → List (List ℕ) → List Check
-input_checks [] contents = []
-input_checks (i ∷ is) [] = []
-input_checks (i ∷ is) (c ∷ cs) = length_check i.name c ∷ form_check i.form i.name c ∷ input_checks is cs
+-- has the content of an input its form, where these contents were read before
+abbrev pub check_of : Form → Options → Choices → List ℕ → List ℕ → Check
+check_of symbols_form options choices name content = symbols_check name content
+check_of text_form options choices name content = text_check (arc_type_of options) choices name content
+check_of binary_form options choices name content = binary_check name content
 
--- what is asked behind the inputs, of this command
+abbrev pub form_check : Plan → List (List ℕ) → Input → List ℕ → Check
+form_check plan before i content = check_of i.form plan.options (choices_of plan.options before) i.name content
+
+-- each input is asked for its length, then for its form, before the next is read
+abbrev pub input_checks : Plan → List (List ℕ) → List Input → List (List ℕ) → List Check
+input_checks plan before [] contents = []
+input_checks plan before (i ∷ is) [] = []
+input_checks plan before (i ∷ is) (c ∷ cs) = length_check i.name c ∷ form_check plan before i c ∷ input_checks plan (before ++ c ∷ []) is cs
+
+-- what is asked of the machines of the files before the work on them
+abbrev pub machine_checks : Verb → Choices → List (List ℕ) → List Check
+machine_checks Print choices (file ∷ files) = kinds_check (file ∷ files) ∷ print_check choices file ∷ []
+machine_checks Invert choices files = kinds_check files ∷ []
+machine_checks Project choices files = kinds_check files ∷ []
+machine_checks Connect choices files = kinds_check files ∷ []
+machine_checks _ choices files = []
+
+-- what is asked behind the inputs
 abbrev pub later_checks : Plan → List (List ℕ) → List Check
-later_checks plan [] = []
-later_checks (compile text out) (content ∷ contents) = []
-later_checks (print machine out) (content ∷ contents) = print_check content ∷ []
+later_checks plan contents = machine_checks plan.command (choices_of plan.options contents) (own_contents plan.options contents)
 
 -- all that is asked of a command, in order
 abbrev pub checks_of : Plan → List (List ℕ) → List Check
-checks_of plan contents = input_checks (inputs_of plan) contents ++ later_checks plan contents
+checks_of plan contents = input_checks plan [] (inputs_of plan) contents ++ later_checks plan contents

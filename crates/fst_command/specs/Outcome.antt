@@ -2,9 +2,10 @@
 use Rattle.std.specs.Prelude.{◌≡◌, ◌⊎◌, ℕ, ◌<◌, List, [], ◌∷◌, ◌++◌, Option, Some, None, IfSome}
 use Rattle.fst_desk.specs.Seen.{Files, Filed, Showing, Seen, Rises}
 use Rattle.fst_desk.specs.Desk.{content_of, ToldHolds, ToldAppends}
-use Rattle.fst_command.specs.Plans.{Plan, plan_of}
-use Rattle.fst_command.specs.Causes.{Cause, too_long, bad_text, bad_binary, unprintable, Answer, done, usage, refused, no_memory, unread, unwritten, status_of, line_of}
-use Rattle.fst_command.specs.Checks.{Input, inputs_of, read_limit, AllPass, IsFirst, input_checks, checks_of}
+use Rattle.fst_words.specs.declared.plan.Plan.{Plan}
+use Rattle.fst_command.specs.Plans.{Input, inputs_of, plan_of}
+use Rattle.fst_command.specs.Causes.{Cause, too_long, bad_symbols, bad_text, bad_binary, kinds_differ, unprintable, Answer, done, usage, refused, no_memory, unread, unwritten, status_of, line_of}
+use Rattle.fst_command.specs.Checks.{read_limit, AllPass, IsFirst, input_checks, checks_of}
 use Rattle.fst_command.specs.Outputs.{Output, Writes}
 
 -- the contents are those that are told under the names of the inputs
@@ -35,8 +36,10 @@ pub record Refuses (plan : Plan) (told : Option Files) (cause : Cause) : Type 0 
 -- an input past the limit was taken past it
 abbrev pub TakesMore : Cause → ℕ → Type 0
 TakesMore (too_long name) taken = read_limit < taken
+TakesMore (bad_symbols name fault) taken = Unit {0}
 TakesMore (bad_text name fault) taken = Unit {0}
 TakesMore (bad_binary name fault) taken = Unit {0}
+TakesMore (kinds_differ first other) taken = Unit {0}
 TakesMore (unprintable fault) taken = Unit {0}
 
 -- a read fault: the name is that of an input, it alone was missed, and no input before it has a cause
@@ -49,7 +52,7 @@ pub record IsUnread (plan : Plan) (old new : Filed) (name : List ℕ) : Type 0 w
   pub named : input.name ≡ name
   pub contents : List (List ℕ)
   pub agrees : Agrees old.told before contents
-  pub passes : AllPass (input_checks before contents)
+  pub passes : AllPass (input_checks plan [] before contents)
 
 -- a write fault: the outcome is Ok, the name is that of an output, the outputs before it stand whole, and
 -- of it a prefix; the count of write faults rose

@@ -1,11 +1,25 @@
 -- What the steps of a command promise: reading an input, writing an output, and the whole command.
-use Rattle.std.specs.Prelude.{◌≡◌, ◌⊎◌, ℕ, ◌<◌, ◌≤◌, List, [], ◌∷◌, ◌++◌, length, Option, IfSome, Result, Ok, Err}
+use Rattle.std.specs.Prelude.{◌≡◌, ◌⊎◌, ℕ, ◌<◌, ◌≤◌, List, [], ◌∷◌, ◌++◌, length, Option, Some, None, IfSome, Result, Ok, Err}
 use Rattle.fst_desk.specs.Seen.{Filed, Seen, Rises}
 use Rattle.fst_desk.specs.Desk.{content_of, ToldHolds}
-use Rattle.fst_command.specs.Plans.{Plan}
-use Rattle.fst_command.specs.Causes.{Cause, too_long, bad_text, bad_binary, unprintable, Answer, done, refused, no_memory, unread, unwritten}
-use Rattle.fst_command.specs.Checks.{read_limit, AllPass, IsFirst, checks_of}
-use Rattle.fst_command.specs.Outputs.{Writes}
+use Rattle.fst_semiring.specs.declared.arc_type.ArcType.{ArcType}
+use Rattle.fst_semiring.specs.Cost.{Cost}
+use Rattle.fst_machine.specs.Machine.{Machine}
+use Rattle.fst_symbols.specs.Symbols.{Symbol}
+use Rattle.fst_symbols.specs.Reading.{table_of_text}
+use Rattle.fst_text.specs.Grammar.{machine_of_text}
+use Rattle.fst_text.specs.Printed.{text_of_machine}
+use Rattle.fst_binary.specs.Spelling.{spelling}
+use Rattle.fst_words.specs.declared.options.Options.{Options}
+use Rattle.fst_words.specs.declared.plan.Plan.{Plan}
+use Rattle.fst_words.specs.declared.verb.Verb.{Verb}
+use Rattle.fst_words.specs.declared.verb.Verb.TheVariants.{Compile, Print, Invert, Project, Connect}
+use Rattle.fst_command.specs.Plans.{Input, arc_type_of}
+use Rattle.fst_command.specs.Contents.{Choices, Typed, machine_of_file}
+use Rattle.fst_command.specs.Causes.{Cause, too_long, bad_symbols, bad_text, bad_binary, kinds_differ, unprintable, Answer, done, refused, no_memory, unread, unwritten}
+use Rattle.fst_command.specs.Checks.{Check, symbols_check, text_check, binary_check, kinds_check, print_check, read_limit, AllPass, IsFirst, form_check, later_checks}
+use Rattle.fst_command.specs.Operations.{Operates}
+use Rattle.fst_command.specs.Outputs.{Makes}
 use Rattle.fst_command.specs.Outcome.{Answers}
 use Rattle.fst_command.specs.declared.refusal.Refusal.{Refusal}
 use Rattle.fst_command.specs.Told.{Tells}
@@ -66,15 +80,35 @@ pub record WritesOutput (name bytes : List ℕ) (old new : Seen) (result : Resul
 -- the cause is not that an input is too long
 abbrev pub IsOfForm : Cause → Type 0
 IsOfForm (too_long name) = ⊥
+IsOfForm (bad_symbols name fault) = Unit {0}
 IsOfForm (bad_text name fault) = Unit {0}
 IsOfForm (bad_binary name fault) = Unit {0}
+IsOfForm (kinds_differ first other) = Unit {0}
 IsOfForm (unprintable fault) = Unit {0}
 
--- What a command makes of the contents of its inputs, for one output of this name: the bytes that it is to
--- write, where no question finds a cause; else the refusal tells the first cause, or there was no memory.
-abbrev pub Decides : Plan → List ℕ → List (List ℕ) → Result (List ℕ) Refusal → Type 0
-Decides plan out contents (Ok bytes) = AllPass (checks_of plan contents) × Writes plan contents ((out, bytes) ∷ [])
-Decides plan out contents (Err refusal) = Tells no_memory refusal ⊎ ((cause : Cause) × IsFirst (checks_of plan contents) cause × IsOfForm cause × Tells (refused cause) refusal)
+-- the refusal tells want of memory, or the first cause that the questions find
+abbrev pub Declines : List Check → Refusal → Type 0
+Declines checks refusal = Tells no_memory refusal ⊎ ((cause : Cause) × IsFirst checks cause × IsOfForm cause × Tells (refused cause) refusal)
+
+-- the table of an input of this name was read, or why not
+abbrev pub TableAnswer : List ℕ → Seen → Seen → Result (List Symbol) Refusal → Type 0
+TableAnswer name old new (Ok table) = (content : List ℕ) × Reads name old new (Ok content) × (table_of_text content ≡ Ok table)
+TableAnswer name old new (Err refusal) = Reads name old new (Err refusal) ⊎ ((content : List ℕ) × Reads name old new (Ok content) × Declines (symbols_check name content ∷ []) refusal)
+
+-- reading the table of an option: without the option there is none, and nothing is done
+abbrev pub ReadsTable : Option (List ℕ) → Seen → Seen → Result (Option (List Symbol)) Refusal → Type 0
+ReadsTable None old new (Ok None) = new ≡ old
+ReadsTable None old new (Ok (Some table)) = ⊥
+ReadsTable None old new (Err refusal) = ⊥
+ReadsTable (Some name) old new (Ok None) = ⊥
+ReadsTable (Some name) old new (Ok (Some table)) = TableAnswer name old new (Ok table)
+ReadsTable (Some name) old new (Err refusal) = TableAnswer name old new (Err refusal)
+
+-- What a command makes of the content of its last input, where these contents were read before, for its one
+-- output: bytes, where no question finds a cause; else the refusal tells the first cause, or want of memory.
+abbrev pub Decides : Plan → List (List ℕ) → Input → List ℕ → Result (List ℕ) Refusal → Type 0
+Decides plan before i content (Ok bytes) = AllPass (form_check plan before i content ∷ later_checks plan (before ++ content ∷ [])) × Makes plan (before ++ content ∷ []) (bytes ∷ [])
+Decides plan before i content (Err refusal) = Declines (form_check plan before i content ∷ later_checks plan (before ++ content ∷ [])) refusal
 
 -- the answer of a command that ended so
 abbrev pub Ends : Answer → Result Unit Refusal → Type 0
@@ -87,3 +121,27 @@ pub record Works (plan : Option Plan) (old new : Seen) (result : Result Unit Ref
   pub ends : Ends answer result
   pub answers : Answers plan old.filed new.filed answer
   pub showing : new.showing ≡ old.showing
+
+-- the bytes of the binary form of the machine of a text, or why there are none
+abbrev pub CompilesTo : ArcType → Choices → List ℕ → List ℕ → Result (List ℕ) Refusal → Type 0
+CompilesTo kind choices name content (Ok bytes) = (m : Machine Cost) × (machine_of_text kind choices content ≡ Ok m) × (bytes ≡ spelling kind m)
+CompilesTo kind choices name content (Err refusal) = Declines (text_check kind choices name content ∷ []) refusal
+
+-- the text of the machine of a file, or why there is none
+abbrev pub PrintsTo : Choices → List ℕ → List ℕ → Result (List ℕ) Refusal → Type 0
+PrintsTo choices name content (Ok text) = (m : Typed) × (machine_of_file content ≡ Ok m) × (text_of_machine m.kind choices m.machine ≡ Ok text)
+PrintsTo choices name content (Err refusal) = Declines (binary_check name content ∷ kinds_check (content ∷ []) ∷ print_check choices content ∷ []) refusal
+
+-- the binary form of the machine that is made of the machine of a file, or why there is none
+abbrev pub OperatesTo : Verb → Options → List ℕ → List ℕ → Result (List ℕ) Refusal → Type 0
+OperatesTo verb options name content (Ok bytes) = (m : Typed) × (machine_of_file content ≡ Ok m) × (result : Machine Cost) × Operates verb options m.machine result × (bytes ≡ spelling m.kind result)
+OperatesTo verb options name content (Err refusal) = Declines (binary_check name content ∷ kinds_check (content ∷ []) ∷ []) refusal
+
+-- what a command with one input of its own makes of its content
+abbrev pub MakesTo : Verb → Options → Choices → List ℕ → List ℕ → Result (List ℕ) Refusal → Type 0
+MakesTo Compile options choices name content result = CompilesTo (arc_type_of options) choices name content result
+MakesTo Print options choices name content result = PrintsTo choices name content result
+MakesTo Invert options choices name content result = OperatesTo Invert options name content result
+MakesTo Project options choices name content result = OperatesTo Project options name content result
+MakesTo Connect options choices name content result = OperatesTo Connect options name content result
+MakesTo _ options choices name content result = ⊥

@@ -7,9 +7,10 @@
 
 mod files;
 mod forms;
+mod operations;
 mod refusal;
+mod tables;
 mod top;
-mod words;
 
 pub use top::run;
 

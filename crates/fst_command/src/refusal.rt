@@ -1,10 +1,11 @@
 //! Why a command ended without its outputs: the status and the line that follow.
 
 ghost use Rattle.std.specs.Prelude.{◌≡◌, ◌↔◌, IsTrue, IfOk, string_bytes};
-ghost use Rattle.fst_command.specs.Causes.{refused, too_long, bad_text, bad_binary, unprintable, unread, unwritten, line_at, placed_line, two_labels_line, text_reason, binary_reason};
+ghost use Rattle.fst_command.specs.Causes.{refused, too_long, bad_symbols, bad_text, bad_binary, unprintable, unread, unwritten, line_at, placed_line, no_symbol_line, two_labels_line, symbols_line_at, symbols_reason, text_reason, binary_reason};
 ghost use Rattle.fst_command.specs.Told.{IsMade, MakesLine, told_line, told_status};
 
 use fst_binary::{BinaryFault, BinaryKind};
+use fst_symbols::SymbolsFault;
 use fst_text::{PrintFault, TextFault};
 use std::alloc::{AllocError, Global};
 
@@ -97,6 +98,45 @@ fn fault_line(
     format!(in alloc; "fst: {name}: {unit} {place}: {reason}\n")
 }
 
+/// What is wrong with a line of a symbol table.
+fn reason_of_symbols(fault: SymbolsFault) -> &'static str
+    ensures { result.now ≡ symbols_reason fault }
+{
+    match fault {
+        SymbolsFault::BadColumns { line: _ } => "wrong number of columns",
+        SymbolsFault::BadNumber { line: _ } => "bad number",
+        SymbolsFault::DuplicateSymbol { line: _ } => "symbol given twice",
+        SymbolsFault::DuplicateNumber { line: _ } => "number given twice",
+        SymbolsFault::Memory => "out of memory",
+    }
+}
+
+/// The line of a fault of a symbol table.
+fn line_of_symbols(fault: SymbolsFault) -> u64
+    ensures { result ≡ symbols_line_at fault }
+{
+    match fault {
+        SymbolsFault::BadColumns { line }
+        | SymbolsFault::BadNumber { line }
+        | SymbolsFault::DuplicateSymbol { line }
+        | SymbolsFault::DuplicateNumber { line } => line,
+        SymbolsFault::Memory => 0,
+    }
+}
+
+/// The content under the name is no symbol table.
+pub fn not_symbols(alloc: Global, name: &str, fault: SymbolsFault) -> Refusal
+    ensures made { IsMade (refused (bad_symbols name.now fault)) result }
+    ensures memory { fault ≡ SymbolsFault.Memory → result ≡ Refusal.Memory }
+{
+    if matches!(fault, SymbolsFault::Memory) {
+        return Refusal::Memory;
+    }
+    let place = line_of_symbols(fault);
+    let reason = reason_of_symbols(fault);
+    made(1, fault_line(alloc, name, "line", place, reason))
+}
+
 /// What is wrong with a line of a text form.
 fn reason_of_text(fault: TextFault) -> &'static str
     ensures { result.now ≡ text_reason fault }
@@ -105,6 +145,7 @@ fn reason_of_text(fault: TextFault) -> &'static str
         TextFault::BadColumns { line: _ } => "wrong number of columns",
         TextFault::BadState { line: _ } => "bad state",
         TextFault::BadLabel { line: _ } => "bad label",
+        TextFault::UnknownSymbol { line: _ } => "unknown symbol",
         TextFault::BadWeight { line: _ } => "bad weight",
         TextFault::TooManyStates { line: _ } => "too many states",
         TextFault::TooManyArcs { line: _ } => "too many arcs",
@@ -120,6 +161,7 @@ fn line_of_text(fault: TextFault) -> u64
         TextFault::BadColumns { line }
         | TextFault::BadState { line }
         | TextFault::BadLabel { line }
+        | TextFault::UnknownSymbol { line }
         | TextFault::BadWeight { line }
         | TextFault::TooManyStates { line }
         | TextFault::TooManyArcs { line } => line,
@@ -180,6 +222,13 @@ fn arc_line(alloc: Global, state: u32, place: u32) -> Result<String, AllocError>
     format!(in alloc; "fst: not an acceptor at state {state} arc {place}\n")
 }
 
+/// The line of a label without a name.
+fn label_line(alloc: Global, label: u32) -> Result<String, AllocError>
+    ensures { IfOk result (λ line. string_bytes line ≡ no_symbol_line label) }
+{
+    format!(in alloc; "fst: no symbol for label {label}\n")
+}
+
 /// The machine has no text form with these options.
 pub fn not_printable(alloc: Global, fault: PrintFault) -> Refusal
     ensures made { IsMade (refused (unprintable fault)) result }
@@ -187,6 +236,7 @@ pub fn not_printable(alloc: Global, fault: PrintFault) -> Refusal
 {
     match fault {
         PrintFault::NotAcceptor { state, place } => made(1, arc_line(alloc, state, place)),
+        PrintFault::UnknownSymbol { label } => made(1, label_line(alloc, label)),
         PrintFault::Memory => Refusal::Memory,
     }
 }

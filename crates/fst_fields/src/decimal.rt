@@ -1,7 +1,10 @@
 //! Whole numbers in decimal digits.
 
 ghost use Rattle.std.specs.Prelude.{◌≡◌, ◌<◌, ◌≤◌, ◌^◌, IfSome, length};
-ghost use Rattle.fst_fields.specs.Decimal.{natural_of_text, digits_after};
+ghost use Rattle.fst_fields.specs.Decimal.{digits_after, greatest_label, label_of_text, natural_of_text};
+
+/// The greatest label.
+pub const MOST_LABEL: u32 = 2_147_483_647;
 
 /// The number that the bytes stand for, where they are all decimal digits. Leading zeros are read.
 fn digits(field: &[u8]) -> Option<u64>
@@ -30,4 +33,22 @@ pub fn read_decimal(field: &[u8], most: usize) -> Option<u64>
         return None;
     }
     digits(field)
+}
+
+/// The label that a field stands for: one to eighteen decimal digits, at most 2,147,483,647; leading zeros
+/// are read. `None` exactly where the field is no such number. Takes no memory.
+pub fn read_label(field: &[u8]) -> Option<u32>
+    ensures value { result ≡ label_of_text field.now }
+    ensures small { IfSome result (λ n. n ≤ greatest_label) }
+{
+    match read_decimal(field, 18) {
+        Some(n) => {
+            if n <= u64::from(MOST_LABEL) {
+                Some(n as u32)
+            } else {
+                None
+            }
+        }
+        None => None,
+    }
 }

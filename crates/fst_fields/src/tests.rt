@@ -1,6 +1,6 @@
 //! Worked examples of the forms, written out by hand.
 
-use super::{next_field, next_line, read_decimal};
+use super::{next_field, next_line, read_decimal, read_label};
 
 #[test]
 fn reads_decimal_fields(rt: HostRuntime) {
@@ -25,6 +25,22 @@ fn reads_decimal_fields(rt: HostRuntime) {
         (b"12a".as_slice(), 19, None),
     ] {
         assert_eq!(rt; read_decimal(field, most), want, "at {field:?}");
+    }
+}
+
+#[test]
+fn reads_label_fields(rt: HostRuntime) {
+    for (field, want) in [
+        (b"0".as_slice(), Some(0u32)),
+        (b"000000000000000007".as_slice(), Some(7)),
+        (b"2147483647".as_slice(), Some(2147483647)),
+        (b"2147483648".as_slice(), None),
+        (b"999999999999999999".as_slice(), None),
+        (b"0000000000000000007".as_slice(), None),
+        (b"".as_slice(), None),
+        (b"-1".as_slice(), None),
+    ] {
+        assert_eq!(rt; read_label(field), want, "at {field:?}");
     }
 }
 

@@ -15,13 +15,13 @@ use Rattle.fst_machine.proofs.Letters.{letters-append, input-append, output-appe
 use Rattle.fst_machine.proofs.Renaming.{moved-letters}
 
 -- a final name has the epsilon arc, in the first place of those that leave
-leaving_has : {M : Type 0} (w : Cost) (c : M) → (w ≡ infinite → ⊥) → slice_get (leaving w c) 0 ≡ Some (epsilon_arc w c)
+pub leaving_has : {M : Type 0} (w : Cost) (c : M) → (w ≡ infinite → ⊥) → slice_get (leaving w c) 0 ≡ Some (epsilon_arc w c)
 leaving_has best c final = refl
 leaving_has (finite a b) c final = refl
 leaving_has infinite c final = absurd (final refl)
 
 -- what leaves is the epsilon arc, and the name is final
-leaving_only : {M : Type 0} (w : Cost) (c : M) (k : ℕ) (a : Arc Cost M) → slice_get (leaving w c) k ≡ Some a → (w ≡ infinite → ⊥) × (epsilon_arc w c ≡ a)
+pub leaving_only : {M : Type 0} (w : Cost) (c : M) (k : ℕ) (a : Arc Cost M) → slice_get (leaving w c) k ≡ Some a → (w ≡ infinite → ⊥) × (epsilon_arc w c ≡ a)
 leaving_only best c zero a e = ((λ no_weight. absurd (cc)), cc)
 leaving_only best c (suc k) a e = absurd (cc)
 leaving_only (finite x y) c zero a e = ((λ no_weight. absurd (cc)), cc)

@@ -1,9 +1,13 @@
 -- Strings and products of lists put together, and of lists turned round.
-use Rattle.std.proofs.Common.{◌≡◌, ℕ, zero, suc, List, [], ◌∷◌, ◌++◌, reverse, sym, refl, ap, ◌∙◌, append-nil}
+use Rattle.std.proofs.Common.{◌≡◌, ℕ, zero, suc, ◌+◌, ◌*◌, List, [], ◌∷◌, ◌++◌, length, reverse, sym, refl, ap, ◌∙◌, append-nil, arith}
+use Rattle.std.specs.List.{All}
+use Rattle.std.proofs.lemmas.List.Elements.{All-head, All-tail}
 use Rattle.std.proofs.lemmas.List.{map-append, reverse-append}
 use Rattle.fst_semiring.specs.declared.arc_type.ArcType.{ArcType}
-use Rattle.fst_semiring.specs.Semiring.{one_of, times}
+use Rattle.fst_semiring.specs.Semiring.{one_of, times, IsCost, Within}
 use Rattle.fst_semiring.proofs.Laws.{times_assoc, times_comm, one_times, times_one}
+use Rattle.fst_semiring.proofs.OfKind.{IsCost-one, IsCost-times}
+use Rattle.fst_semiring.proofs.Ranges.{Within-one, Within-more, Within-times}
 use Rattle.fst_machine.specs.Letters.{Letter, before, input, output, label_word, product}
 use Rattle.fst_machine.specs.Paths.{Transition, letters}
 
@@ -59,3 +63,15 @@ output-turned (l ∷ ls) = ap output (reverse-append (l ∷ []) ls) ∙ (output-
 pub product-turned : (kind : ArcType) (ls : List Letter) → product kind (reverse ls) ≡ product kind ls
 product-turned kind [] = refl
 product-turned kind (l ∷ ls) = ap (product kind) (reverse-append (l ∷ []) ls) ∙ (product-append kind (reverse ls) (l ∷ []) ∙ (ap (λ z. times kind z (times kind l.weight (one_of kind))) (product-turned kind ls) ∙ (ap (λ z. times kind (product kind ls) z) (times_one kind l.weight) ∙ times_comm kind (product kind ls) l.weight)))
+
+-- the product of values of the arc type is one
+pub IsCost-product : (kind : ArcType) (ls : List Letter) → All (λ l. IsCost kind l.weight) ls → IsCost kind (product kind ls)
+IsCost-product kind [] h = IsCost-one kind
+IsCost-product kind (l ∷ ls) h = IsCost-times kind l.weight (product kind ls) (All-head (λ m. IsCost kind m.weight) l ls h) (IsCost-product kind ls (All-tail (λ m. IsCost kind m.weight) l ls h))
+
+-- the numbers of a product are within as many times the bound of its factors as there are factors
+pub Within-product : (kind : ArcType) (n : ℕ) (ls : List Letter) → All (λ l. Within n l.weight) ls → Within (length ls * n) (product kind ls)
+Within-product kind n [] h = Within-one (length {A = Letter} [] * n) kind
+Within-product kind n (l ∷ ls) h =
+    Within-more (n + length ls * n) (length (l ∷ ls) * n) (times kind l.weight (product kind ls)) (omega arith)
+    (Within-times kind n (length ls * n) l.weight (product kind ls) (All-head (λ m. Within n m.weight) l ls h) (Within-product kind n ls (All-tail (λ m. Within n m.weight) l ls h)))

@@ -20,7 +20,6 @@ pub mod PathLaws
 pub mod GraphLaws
 pub mod WeightLaws
 pub mod ListLaws
-pub mod ValueLaws
 pub mod Steps
 pub mod Marks
 pub mod Walking

@@ -11,8 +11,8 @@ use crate::fst::Fst;
 use fst_semiring::Weight;
 use std::alloc::{AllocError, Global};
 
-/// Adds a state behind those that were found, if it is not among them.
-fn find(names: &mut Vec<u32>, seen: &mut Vec<bool>, next: u32) -> Result<(), AllocError>
+/// Adds a state behind those that were found, if it is not among them. The marks say which those are.
+pub fn find(names: &mut Vec<u32>, seen: &mut Vec<bool>, next: u32) -> Result<(), AllocError>
     requires marks { Marks seen.old.items names.old.items }
     requires within { next < length seen.old.items }
     ensures grows { OnOk result (Grows names.old.items (next ∷ []) names.new.items) }

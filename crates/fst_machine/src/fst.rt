@@ -21,9 +21,6 @@ pub const MOST_STATES: usize = 4_194_304;
 /// The greatest number of arcs of a machine.
 pub const MOST_ARCS: u32 = 33_554_432;
 
-/// The greatest label.
-pub const MOST_LABEL: u32 = 2_147_483_647;
-
 /// Why a machine does not grow. It is then as before.
 #[derive(Clone, Copy, Debug, PartialEq, Eq)]
 pub enum GrowFault {

@@ -1,5 +1,6 @@
-//! The laws of values, graphs, weights and lists. Each stands on the contract of a function with nothing to do,
-//! so that it is proved; the statements are in `specs`, and crates above cite the lemmas in `proofs`.
+//! The laws of paths, graphs, weights and lists. Each stands on the contract of a function with nothing to do, so
+//! that it is proved; the statements are in `specs`, and crates above cite the lemmas in `proofs`. The laws of
+//! values, on which these stand, are those of `fst_semiring::value_laws`.
 
 ghost use Rattle.std.specs.Prelude.{ℕ, List};
 ghost use Rattle.fst_semiring.specs.Cost.{Cost};
@@ -8,7 +9,6 @@ ghost use Rattle.fst_machine.specs.Machine.{Machine};
 ghost use Rattle.fst_machine.specs.Graph.{Graph};
 ghost use Rattle.fst_machine.specs.Paths.{Transition};
 ghost use Rattle.fst_machine.specs.Cycles.{HasCycle};
-ghost use Rattle.fst_machine.specs.ValueLaws.{PlusLaws, TimesLaws};
 ghost use Rattle.fst_machine.specs.PathLaws.{PathLaws, LetterLaws};
 ghost use Rattle.fst_machine.specs.GraphLaws.{RenamingLaws, ServingLaws, ContinuingLaws, TurningLaw, MachineLaws};
 ghost use Rattle.fst_machine.specs.WeightLaws.{CycleLaws, MachineWeightLaws, WeightLaws};
@@ -23,12 +23,6 @@ pub trait Names<M> {
     /// Which names of the other kind a name is tied to.
     ghost tied: { Self → M → Type 0 };
 }
-
-/// The laws of Plus and Times, for every arc type and all values.
-pub fn value_laws()
-    ensures plus { (a b c : Cost) → PlusLaws a b c }
-    ensures times { (kind : ArcType) (a b c d : Cost) → TimesLaws kind a b c d }
-{}
 
 /// The laws of letters and of paths in any graph.
 pub fn path_laws<N>()

@@ -16,8 +16,9 @@ mod path;
 mod slot;
 
 pub use arc::FstArc;
-pub use breadth_first::walk;
-pub use fst::{Fst, GrowFault, MOST_ARCS, MOST_LABEL, MOST_STATES, StateList};
+pub use breadth_first::{find, walk};
+pub use fst::{Fst, GrowFault, MOST_ARCS, MOST_STATES, StateList};
+pub use fst_fields::MOST_LABEL;
 pub use path::{Path, Paths, Step};
 
 #[cfg(test)]

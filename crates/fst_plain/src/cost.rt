@@ -3,8 +3,8 @@
 ghost use Rattle.std.specs.Prelude.{◌≡◌, ◌+ℤ◌, IfNone, IfSome, pos};
 ghost use Rattle.std.specs.Ordering.{int_cmp};
 ghost use Rattle.fst_semiring.specs.Cost.{cost_cmp, finite, plus, worse};
-ghost use Rattle.fst_semiring.specs.Semiring.{IsSmall, one_of, sum_of, times};
-ghost use Rattle.fst_plain.specs.Plain.{cost_of, Fits, IsWithin, SumFits};
+ghost use Rattle.fst_semiring.specs.Semiring.{IsSmall, IsWithin, one_of, sum_of, times};
+ghost use Rattle.fst_plain.specs.Plain.{cost_of, Fits, SumFits};
 
 use fst_semiring::{ArcType, Key, Tropical, Weight};
 use std::cmp::Ordering;
@@ -82,7 +82,7 @@ pub fn plus_costs(a: PlainCost, b: PlainCost) -> PlainCost
 
 /// The sum of two numbers.
 fn add_numbers(a: i128, b: i128) -> i128
-    requires { IsWithin 100000000000000000000 (a +ℤ b) }
+    requires { IsWithin 100000000000000000000000000000000000000 (a +ℤ b) }
     ensures { result ≡ a +ℤ b }
 {
     a + b

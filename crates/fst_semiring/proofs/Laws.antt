@@ -12,7 +12,7 @@ use Rattle.fst_semiring.specs.Semiring.{one_of, sum_of, times}
 use Rattle.fst_semiring.proofs.Order.{worse_comm, worse_assoc, worse-plus, worse_best, worse_infinite, worse_picks}
 
 -- pairs with equal parts are equal
-pair_eq : {a b c d : ℤ} → a ≡ c → b ≡ d → finite a b ≡ finite c d
+pub pair_eq : {a b c d : ℤ} → a ≡ c → b ≡ d → finite a b ≡ finite c d
 pair_eq e f = ap₂ finite e f
 
 sum_assoc : (a b c : Cost) → sum_of (sum_of a b) c ≡ sum_of a (sum_of b c)

@@ -1,6 +1,6 @@
 -- The four semirings over weight values, by their arc type. (Mohri 2009, section 2; OpenFst Quick Tour,
 -- "FST Weights". That the numbers are whole, and the four arc types, are this project's own profile.)
-use Rattle.std.specs.Prelude.{◌≡◌, ℤ, pos, neg_ℤ, ◌+ℤ◌, ◌≤ℤ◌}
+use Rattle.std.specs.Prelude.{◌≡◌, ℕ, ℤ, pos, neg_ℤ, ◌+ℤ◌, ◌≤ℤ◌, Bool, true, false}
 use Rattle.fst_semiring.specs.declared.arc_type.ArcType.{ArcType}
 use Rattle.fst_semiring.specs.declared.arc_type.ArcType.TheVariants.{Boolean, Tropical, MinMax, Lexicographic}
 use Rattle.fst_semiring.specs.Cost.{Cost, best, finite, infinite, worse}
@@ -29,6 +29,13 @@ times Tropical a b = sum_of a b
 times MinMax a b = worse a b
 times Lexicographic a b = sum_of a b
 
+-- whether a factor that is not Zero can be cancelled: in each arc type but min-max
+abbrev pub cancels : ArcType → Bool
+cancels Boolean = true
+cancels Tropical = true
+cancels MinMax = false
+cancels Lexicographic = true
+
 -- the values that an arc type has
 abbrev pub IsCost : ArcType → Cost → Type 0
 IsCost kind infinite = Unit {0}
@@ -41,12 +48,24 @@ IsCost Tropical (finite a b) = b ≡ pos 0
 IsCost MinMax (finite a b) = b ≡ pos 0
 IsCost Lexicographic (finite a b) = Unit {0}
 
+-- the number has absolute value at most n
+abbrev pub IsWithin : ℕ → ℤ → Type 0
+IsWithin n a = (neg_ℤ (pos n) ≤ℤ a) × (a ≤ℤ pos n)
+
+-- each number of the value has absolute value at most n
+abbrev pub Within : ℕ → Cost → Type 0
+Within n best = Unit {0}
+Within n (finite a b) = IsWithin n a × IsWithin n b
+Within n infinite = Unit {0}
+
 -- a number of a weight in memory and in a file has absolute value at most 10 to the 18
 abbrev pub IsSmall : ℤ → Type 0
-IsSmall n = (neg_ℤ (pos 1000000000000000000) ≤ℤ n) × (n ≤ℤ pos 1000000000000000000)
+IsSmall n = IsWithin 1000000000000000000 n
 
 -- each number of the value is small
 abbrev pub InRange : Cost → Type 0
-InRange best = Unit {0}
-InRange (finite a b) = IsSmall a × IsSmall b
-InRange infinite = Unit {0}
+InRange v = Within 1000000000000000000 v
+
+-- each number of the value has absolute value below 2 to the 120, so that it can be computed with
+abbrev pub IsWide : Cost → Type 0
+IsWide v = Within 1329227995784915872903807060280344575 v

@@ -1,14 +1,14 @@
 //! The tropical weights: whole numbers with minimum and sum.
 
-ghost use Rattle.std.specs.Prelude.{◌≡◌};
+ghost use Rattle.std.specs.Prelude.{◌≡◌, true, refl};
 ghost use Rattle.fst_semiring.specs.Cost.{Cost};
 
 use crate::arc_type::ArcType;
 use crate::key::Key;
-use crate::number::{LIMIT, read_number};
+use crate::number::{LIMIT, narrow_number, push_number, read_number};
 use crate::weight::{BadWeight, Weight};
-use itoa::Buffer;
 use std::alloc::AllocError;
+use std::cmp::Ordering;
 use std::marker::Model;
 
 /// A whole number of absolute value at most 10 to the 18, or infinity. It takes 8 bytes: the number past
@@ -61,6 +61,10 @@ impl Weight for Tropical {
 
     const KIND: ArcType = ArcType::Tropical;
 
+    ghost CANCELS = { true };
+
+    const CANCELS: bool = true;
+
     ghost value = { λ t. t };
 
     ghost wide_value = { λ t. t };
@@ -79,6 +83,40 @@ impl Weight for Tropical {
         } else {
             WideTropical {
                 number: i128::from(self.number),
+            }
+        }
+    }
+
+    fn narrow(wide: WideTropical) -> Option<Tropical> {
+        if wide.number == i128::MAX {
+            return Some(Tropical::zero());
+        }
+        let number = narrow_number(wide.number)?;
+        Some(Tropical { number })
+    }
+
+    fn wide_compare(a: WideTropical, b: WideTropical) -> Ordering {
+        a.number.cmp(&b.number)
+    }
+
+    fn wide_times(a: WideTropical, b: WideTropical) -> WideTropical {
+        if a.number == i128::MAX {
+            a
+        } else if b.number == i128::MAX {
+            b
+        } else {
+            WideTropical {
+                number: a.number + b.number,
+            }
+        }
+    }
+
+    fn wide_divide(a: WideTropical, by: WideTropical) -> WideTropical {
+        if a.number == i128::MAX {
+            a
+        } else {
+            WideTropical {
+                number: a.number - by.number,
             }
         }
     }
@@ -121,13 +159,8 @@ impl Weight for Tropical {
                 first,
                 second: 0,
             } => {
-                if -i128::from(LIMIT) <= first && first <= i128::from(LIMIT) {
-                    Some(Tropical {
-                        number: first as i64,
-                    })
-                } else {
-                    None
-                }
+                let number = narrow_number(first)?;
+                Some(Tropical { number })
             }
             _ => None,
         }
@@ -137,9 +170,10 @@ impl Weight for Tropical {
         if self.number > LIMIT {
             return out.extend_from_slice(b"Infinity");
         }
-        let mut buffer = Buffer::new();
-        out.extend_from_slice(buffer.format(self.number).as_bytes())
+        push_number(out, self.number)
     }
+
+    ghost cancels_by_kind = { refl };
 
     ghost value_apart = { λ a b e. e };
 }

@@ -1,14 +1,16 @@
 //! What generic code knows of a weight.
 
-ghost use Rattle.std.specs.Prelude.{◌≡◌, ◌++◌, OnOk, OnErr, IfOk, IfSome, IfNone};
-ghost use Rattle.fst_semiring.specs.Cost.{Cost, infinite};
-ghost use Rattle.fst_semiring.specs.Semiring.{one_of, InRange, IsCost};
+ghost use Rattle.std.specs.Prelude.{◌≡◌, ◌≢◌, ◌++◌, Bool, OnOk, OnErr, IfOk, IfSome, IfNone};
+ghost use Rattle.fst_semiring.specs.Cost.{Cost, infinite, cost_cmp, plus};
+ghost use Rattle.fst_semiring.specs.Semiring.{cancels, one_of, times, InRange, IsCost, IsWide, Within};
+ghost use Rattle.fst_semiring.specs.Division.{quotient};
 ghost use Rattle.fst_semiring.specs.Keys.{key_of};
 ghost use Rattle.fst_semiring.specs.WeightText.{cost_of_text, text_of_cost, ReadsAs};
 
 use crate::arc_type::ArcType;
 use crate::key::Key;
 use std::alloc::{AllocError, Global};
+use std::cmp::Ordering;
 
 /// The bytes are no weight text of the arc type.
 #[derive(Clone, Copy, Debug, PartialEq, Eq)]
@@ -26,6 +28,11 @@ pub trait Weight: Copy + Eq + Send + Sync {
 
     /// The arc type.
     const KIND: ArcType;
+
+    ghost CANCELS: { Bool };
+
+    /// Whether a factor that is not Zero can be cancelled. False for min-max alone.
+    const CANCELS: bool;
 
     /// The value of a weight.
     ghost value: { Self → Cost };
@@ -46,6 +53,72 @@ pub trait Weight: Copy + Eq + Send + Sync {
         ensures same { wide_value result ≡ value self }
         ensures range { InRange (value self) }
         ensures kind { IsCost KIND (value self) };
+
+    /// The weight with the same value. `None` exactly where a number of `wide` has absolute value above 10 to the
+    /// 18. Takes no memory.
+    fn narrow(wide: Self::Wide) -> Option<Self>
+        ensures found { IfSome result (λ w. value w ≡ wide_value wide) }
+        ensures range { IfSome result (λ w. InRange (value w)) }
+        ensures none { IfNone result (InRange (wide_value wide) → ⊥) };
+
+    /// How two weights compare in the natural order: Less is better.
+    fn compare(self, other: Self) -> Ordering
+        ensures { result ≡ cost_cmp (value self) (value other) }
+    {
+        Self::wide_compare(self.widen(), other.widen())
+    }
+
+    /// Plus: the better of two weights.
+    fn plus(self, other: Self) -> Self
+        ensures { value result ≡ plus (value self) (value other) }
+    {
+        match self.compare(other) {
+            Ordering::Greater => other,
+            _ => self,
+        }
+    }
+
+    /// Times, in the wide form; its numbers have absolute value at most 2 times 10 to the 18.
+    fn times(self, other: Self) -> Self::Wide
+        ensures product { wide_value result ≡ times KIND (value self) (value other) }
+        ensures range { Within 2000000000000000000 (wide_value result) }
+        ensures kind { IsCost KIND (wide_value result) }
+    {
+        Self::wide_times(self.widen(), other.widen())
+    }
+
+    /// How two wide weights compare in the natural order: Less is better.
+    fn wide_compare(a: Self::Wide, b: Self::Wide) -> Ordering
+        ensures order { result ≡ cost_cmp (wide_value a) (wide_value b) }
+        ensures kinds { IsCost KIND (wide_value a) × IsCost KIND (wide_value b) };
+
+    /// Plus: the better of two wide weights.
+    fn wide_plus(a: Self::Wide, b: Self::Wide) -> Self::Wide
+        ensures sum { wide_value result ≡ plus (wide_value a) (wide_value b) }
+        ensures kind { IsCost KIND (wide_value result) }
+    {
+        match Self::wide_compare(a, b) {
+            Ordering::Greater => b,
+            _ => a,
+        }
+    }
+
+    /// Times of two wide weights, whose numbers have absolute value below 2 to the 120.
+    fn wide_times(a: Self::Wide, b: Self::Wide) -> Self::Wide
+        requires a_wide { IsWide (wide_value a) }
+        requires b_wide { IsWide (wide_value b) }
+        ensures product { wide_value result ≡ times KIND (wide_value a) (wide_value b) }
+        ensures kind { IsCost KIND (wide_value result) };
+
+    /// Subset division of a wide weight by a better or equal one that is not Zero. The numbers of both have
+    /// absolute value below 2 to the 120.
+    fn wide_divide(a: Self::Wide, by: Self::Wide) -> Self::Wide
+        requires by_not_zero { wide_value by ≢ infinite }
+        requires by_no_worse { plus (wide_value by) (wide_value a) ≡ wide_value by }
+        requires a_wide { IsWide (wide_value a) }
+        requires by_wide { IsWide (wide_value by) }
+        ensures quotient { wide_value result ≡ quotient KIND (wide_value a) (wide_value by) }
+        ensures kind { IsCost KIND (wide_value result) };
 
     /// The key of a wide weight. Keys compare as the weights do.
     fn key(wide: Self::Wide) -> Key
@@ -76,6 +149,9 @@ pub trait Weight: Copy + Eq + Send + Sync {
         self.push_text(&mut text)?;
         Ok(text)
     }
+
+    // The arc type says whether factors cancel.
+    ghost cancels_by_kind: { CANCELS ≡ cancels KIND };
 
     // Weights with one value are one weight.
     ghost value_apart: { (a b : Self) → value a ≡ value b → a ≡ b };

@@ -11,24 +11,25 @@ use Rattle.fst_semiring.specs.declared.arc_type.ArcType.{ArcType}
 use Rattle.fst_semiring.specs.Cost.{Cost, infinite}
 use Rattle.fst_machine.specs.Machine.{Arc, IsArc, Machine, State, arc_total, bare_state, most_arcs, most_states}
 use Rattle.fst_text.specs.declared.fault.PrintFault.{PrintFault}
-use Rattle.fst_text.specs.declared.fault.PrintFault.TheVariants.{NotAcceptor}
+use Rattle.fst_text.specs.declared.fault.PrintFault.TheVariants.{NotAcceptor, UnknownSymbol}
 use Rattle.fst_text.specs.declared.fault.TextFault.{TextFault}
-use Rattle.fst_text.specs.declared.options.TextOptions.{TextOptions}
+use Rattle.fst_text.specs.Options.{HasTables, Options}
 use Rattle.fst_text.specs.Entries.{Entry, above, arc_count, arc_entry, arcs_from, final_entry, first_in, from_zero, machine_of_entries, machine_over, place_in, placed, state_of, states_named}
 use Rattle.fst_text.specs.Grammar.{◌>>=◌, entries_of_lines, machine_of_text}
 use Rattle.fst_text.specs.Laws.{CompilesBack, IsWeight}
-use Rattle.fst_text.specs.Printed.{entries_at, entries_of_machine, fields_of_entry, final_entries, is_zero, other_entries, refusal, split_arc, split_state, state_entries, text_of_entries, text_of_machine}
+use Rattle.fst_text.specs.Printed.{entries_at, entries_of_machine, fields_of_entry, final_entries, is_zero, other_entries, refusal, split_arc, split_machine, split_state, state_entries, text_of_entries, text_of_machine, unnamed_label}
 use Rattle.fst_text.proofs.Numbers.{equal_is, place_in-from_zero}
-use Rattle.fst_text.proofs.EntryTexts.{GoodArc, GoodEntry, fields-good}
-use Rattle.fst_text.proofs.TextLines.{IsField, lines-read}
+use Rattle.fst_text.proofs.EntryTexts.{GoodArc, GoodEntry, IsNamed, fields-good}
+use Rattle.fst_text.proofs.Naming.{all-named}
+use Rattle.fst_text.proofs.TextLines.{IsWord, lines-read}
 use Rattle.fst_text.proofs.Rereading.{above-append, arc_count-append, entries-read, named-append}
 use Rattle.fst_text.proofs.MachineEntries.{machine-says, map-from_zero}
 
 -- a state that may be printed
-abbrev GoodState : ArcType → TextOptions → ℕ → State Cost → Type 0
+abbrev GoodState : ArcType → Options → ℕ → State Cost → Type 0
 GoodState kind options states s = AllByRecursion (GoodArc kind options states) s.arcs × IsWeight kind s.final
 
-arcs-good : (kind : ArcType) (options : TextOptions) (states q place : ℕ) (arcs : List (Arc Cost ℕ)) → AllByRecursion (IsArc (λ v. v) states) arcs → AllByRecursion (λ a. IsWeight kind a.weight) arcs → (options.acceptor ≡ true → split_arc q place arcs ≡ None) → AllByRecursion (GoodArc kind options states) arcs
+arcs-good : (kind : ArcType) (options : Options) (states q place : ℕ) (arcs : List (Arc Cost ℕ)) → AllByRecursion (IsArc (λ v. v) states) arcs → AllByRecursion (λ a. IsWeight kind a.weight) arcs → (options.acceptor ≡ true → split_arc q place arcs ≡ None) → AllByRecursion (GoodArc kind options states) arcs
 arcs-good kind options states q place [] h w one = tt
 arcs-good kind options states q place (a ∷ arcs) h w one =
     let labels : (acceptor : options.acceptor ≡ true) → (a.ilabel ≡ a.olabel) × (split_arc q (place + 1) arcs ≡ None) = λ acceptor. go (a.ilabel == a.olabel) refl (one acceptor) in
@@ -40,7 +41,7 @@ arcs-good kind options states q place (a ∷ arcs) h w one =
       go true e none = (equal_is a.ilabel a.olabel e, none)
       go false e none = absurd (cc)
 
-states-good : (kind : ArcType) (options : TextOptions) (count q : ℕ) (states : List (State Cost)) → AllByRecursion (λ s. All (IsArc (λ v. v) count) s.arcs) states → AllByRecursion (λ s. All (λ a. IsWeight kind a.weight) s.arcs) states → AllByRecursion (λ s. IsWeight kind s.final) states → (options.acceptor ≡ true → split_state q states ≡ None) → AllByRecursion (GoodState kind options count) states
+states-good : (kind : ArcType) (options : Options) (count q : ℕ) (states : List (State Cost)) → AllByRecursion (λ s. All (IsArc (λ v. v) count) s.arcs) states → AllByRecursion (λ s. All (λ a. IsWeight kind a.weight) s.arcs) states → AllByRecursion (λ s. IsWeight kind s.final) states → (options.acceptor ≡ true → split_state q states ≡ None) → AllByRecursion (GoodState kind options count) states
 states-good kind options count q [] h w f one = tt
 states-good kind options count q (s ∷ states) h w f one =
     let split : (acceptor : options.acceptor ≡ true) → (split_arc q 0 s.arcs ≡ None) × (split_state (q + 1) states ≡ None) = λ acceptor. go (split_arc q 0 s.arcs) (one acceptor) in (
@@ -55,21 +56,21 @@ all-append : {X : Type 0} (P : X → Type 0) (xs ys : List X) → AllByRecursion
 all-append P [] ys h g = g
 all-append P (x ∷ xs) ys h g = (h.0, all-append P xs ys h.1 g)
 
-arc-entries-good : (kind : ArcType) (options : TextOptions) (count q : ℕ) (arcs : List (Arc Cost ℕ)) → q < count → AllByRecursion (GoodArc kind options count) arcs → AllByRecursion (GoodEntry kind options count) (map (arc_entry q) arcs)
+arc-entries-good : (kind : ArcType) (options : Options) (count q : ℕ) (arcs : List (Arc Cost ℕ)) → q < count → AllByRecursion (GoodArc kind options count) arcs → AllByRecursion (GoodEntry kind options count) (map (arc_entry q) arcs)
 arc-entries-good kind options count q [] low h = tt
 arc-entries-good kind options count q (a ∷ arcs) low h = ((low, h.0), arc-entries-good kind options count q arcs low h.1)
 
-final-entries-good : (kind : ArcType) (options : TextOptions) (count q : ℕ) (w : Cost) (arcs : List (Arc Cost ℕ)) → q < count → IsWeight kind w → AllByRecursion (GoodEntry kind options count) (final_entries q w arcs)
+final-entries-good : (kind : ArcType) (options : Options) (count q : ℕ) (w : Cost) (arcs : List (Arc Cost ℕ)) → q < count → IsWeight kind w → AllByRecursion (GoodEntry kind options count) (final_entries q w arcs)
 final-entries-good kind options count q w [] low h = ((low, h), tt)
 final-entries-good kind options count q w (a ∷ arcs) low h = go (is_zero w) where
   go : (zero_is : Bool) → AllByRecursion (GoodEntry kind options count) (cond zero_is [] (final_entry q w ∷ []))
   go true = tt
   go false = ((low, h), tt)
 
-state-entries-good : (kind : ArcType) (options : TextOptions) (count q : ℕ) (s : State Cost) → q < count → GoodState kind options count s → AllByRecursion (GoodEntry kind options count) (state_entries q s)
+state-entries-good : (kind : ArcType) (options : Options) (count q : ℕ) (s : State Cost) → q < count → GoodState kind options count s → AllByRecursion (GoodEntry kind options count) (state_entries q s)
 state-entries-good kind options count q s low h = all-append (GoodEntry kind options count) (map (arc_entry q) s.arcs) (final_entries q s.final s.arcs) (arc-entries-good kind options count q s.arcs low h.0) (final-entries-good kind options count q s.final s.arcs low h.1)
 
-others-good : (kind : ArcType) (options : TextOptions) (count start k : ℕ) (states : List (State Cost)) → k + length states ≤ count → AllByRecursion (GoodState kind options count) states → AllByRecursion (GoodEntry kind options count) (other_entries start k states)
+others-good : (kind : ArcType) (options : Options) (count start k : ℕ) (states : List (State Cost)) → k + length states ≤ count → AllByRecursion (GoodState kind options count) states → AllByRecursion (GoodEntry kind options count) (other_entries start k states)
 others-good kind options count start k [] low h = tt
 others-good kind options count start k (s ∷ states) low h = all-append (GoodEntry kind options count) (cond (k == start) [] (state_entries k s)) (other_entries start (k + 1) states) (go (k == start)) (others-good kind options count start (k + 1) states (omega arith) h.1) where
   go : (skip : Bool) → AllByRecursion (GoodEntry kind options count) (cond skip [] (state_entries k s))
@@ -135,7 +136,7 @@ count-with start k (suc i) (t ∷ states) s h at =
       go false = let e = count-state k t in omega arith
 
 -- which states are named
-named-below : (kind : ArcType) (options : TextOptions) (count : ℕ) (es : List Entry) → AllByRecursion (GoodEntry kind options count) es → above (flat_map states_named es) ≤ count
+named-below : (kind : ArcType) (options : Options) (count : ℕ) (es : List Entry) → AllByRecursion (GoodEntry kind options count) es → above (flat_map states_named es) ≤ count
 named-below kind options count [] h = omega arith
 named-below kind options count (arc_entry s a ∷ es) h = let rest = named-below kind options count es h.1 in let low = h.0.0 in let next = h.0.1.next in omega arith
 named-below kind options count (final_entry s w ∷ es) h = let rest = named-below kind options count es h.1 in let low = h.0.0 in omega arith
@@ -176,14 +177,14 @@ first-state : (q : ℕ) (w : Cost) (arcs : List (Arc Cost ℕ)) (es : List Entry
 first-state q w [] es = refl
 first-state q w (a ∷ arcs) es = refl
 
-arcs-placed : (kind : ArcType) (options : TextOptions) (count : ℕ) (arcs : List (Arc Cost ℕ)) → AllByRecursion (GoodArc kind options count) arcs → map (placed (from_zero count)) arcs ≡ arcs
+arcs-placed : (kind : ArcType) (options : Options) (count : ℕ) (arcs : List (Arc Cost ℕ)) → AllByRecursion (GoodArc kind options count) arcs → map (placed (from_zero count)) arcs ≡ arcs
 arcs-placed kind options count [] h = refl
 arcs-placed kind options count (a ∷ arcs) h =
     let good = h.0 in
     ap (λ (p : ℕ). record { ilabel = a.ilabel; olabel = a.olabel; weight = a.weight; next = p } ∷ map (placed (from_zero count)) arcs) (place_in-from_zero count a.next good.next) ∙ ap (λ xs. a ∷ xs) (arcs-placed kind options count arcs h.1)
 
 -- the entries of a machine with a start make the machine
-machine-back : (kind : ArcType) (options : TextOptions) (start : ℕ) (states : List (State Cost)) (first : State Cost) → slice_get states start ≡ Some first → AllByRecursion (GoodState kind options (length states)) states → machine_of_entries true (state_entries start first ++ other_entries start 0 states) ≡ record { start = Some start; states = states }
+machine-back : (kind : ArcType) (options : Options) (start : ℕ) (states : List (State Cost)) (first : State Cost) → slice_get states start ≡ Some first → AllByRecursion (GoodState kind options (length states)) states → machine_of_entries true (state_entries start first ++ other_entries start 0 states) ≡ record { start = Some start; states = states }
 machine-back kind options start states first h good =
     let es = state_entries start first ++ other_entries start 0 states in
     let count = length states in
@@ -206,22 +207,33 @@ machine-back kind options start states first h good =
     ∙ ap (λ (ss : List (State Cost)). record { start = Some start; states = ss }) (map-from_zero (state_of ns es) states first each)
 
 -- a text is that of the entries, where nothing is refused
-printed : (kind : ArcType) (options : TextOptions) (m : Machine Cost) (text : List ℕ) → text_of_machine kind options m ≡ Ok text → (refusal options m ≡ None) × (text ≡ text_of_entries kind options (entries_of_machine m))
+printed : (kind : ArcType) (options : Options) (m : Machine Cost) (text : List ℕ) → text_of_machine kind options m ≡ Ok text → (refusal options m ≡ None) × (text ≡ text_of_entries kind options (entries_of_machine m))
 printed kind options m text h = go (refusal options m) h where
   go : (o : Option PrintFault) → ◌≡◌ {A = Result (List ℕ) PrintFault} (elim o [ None ↦ Ok (text_of_entries kind options (entries_of_machine m)) | Some fault ↦ Err fault ]) (Ok text) → (o ≡ None) × (text ≡ text_of_entries kind options (entries_of_machine m))
   go None e = (refl, cc)
   go (Some fault) e = absurd (cc)
 
-accepts : (options : TextOptions) (states : List (State Cost)) → cond options.acceptor (split_state 0 states) None ≡ None → options.acceptor ≡ true → split_state 0 states ≡ None
+-- and then no arc is split and no label is without a name
+unrefused : (options : Options) (m : Machine Cost) → refusal options m ≡ None → (split_machine options m ≡ None) × (unnamed_label options (entries_of_machine m) ≡ None)
+unrefused options m h = go (split_machine options m) h where
+  named : (o : Option ℕ) → option_map UnknownSymbol o ≡ None → o ≡ None
+  named None e = refl
+  named (Some label) e = absurd (cc)
+
+  go : (o : Option PrintFault) → ◌≡◌ {A = Option PrintFault} (elim o [ None ↦ option_map UnknownSymbol (unnamed_label options (entries_of_machine m)) | Some fault ↦ Some fault ]) None → (o ≡ None) × (unnamed_label options (entries_of_machine m) ≡ None)
+  go None e = (refl, named (unnamed_label options (entries_of_machine m)) e)
+  go (Some fault) e = absurd (cc)
+
+accepts : (options : Options) (states : List (State Cost)) → cond options.acceptor (split_state 0 states) None ≡ None → options.acceptor ≡ true → split_state 0 states ≡ None
 accepts options states h e = sym (ap (λ b. cond b (split_state 0 states) None) e) ∙ h
 
-fields-all : (kind : ArcType) (options : TextOptions) (count : ℕ) (es : List Entry) → count ≤ most_states → AllByRecursion (GoodEntry kind options count) es → AllByRecursion (λ e. AllByRecursion IsField (fields_of_entry kind options e)) es
-fields-all kind options count [] few h = tt
-fields-all kind options count (e ∷ es) few h = (fields-good kind options count e few h.0, fields-all kind options count es few h.1)
+fields-all : (kind : ArcType) (options : Options) (count : ℕ) (es : List Entry) → HasTables options → count ≤ most_states → AllByRecursion (GoodEntry kind options count) es → AllByRecursion (IsNamed options) es → AllByRecursion (λ e. AllByRecursion IsWord (fields_of_entry kind options e)) es
+fields-all kind options count [] tables few h named = tt
+fields-all kind options count (e ∷ es) tables few h named = (fields-good kind options count e tables few h.0 named.0, fields-all kind options count es tables few h.1 named.1)
 
 -- the text of a machine with this start
-back-from : (kind : ArcType) (options : TextOptions) (start : ℕ) (states : List (State Cost)) (first : State Cost) → slice_get states start ≡ Some first → length states ≤ most_states → arc_total states ≤ most_arcs → AllByRecursion (GoodState kind options (length states)) states → options.keep_state_numbering ≡ true → machine_of_text kind options (text_of_entries kind options (state_entries start first ++ other_entries start 0 states)) ≡ Ok (record { start = Some start; states = states })
-back-from kind options start states first h few arcs good kept =
+back-from : (kind : ArcType) (options : Options) (start : ℕ) (states : List (State Cost)) (first : State Cost) → slice_get states start ≡ Some first → HasTables options → length states ≤ most_states → arc_total states ≤ most_arcs → AllByRecursion (GoodState kind options (length states)) states → AllByRecursion (IsNamed options) (state_entries start first ++ other_entries start 0 states) → options.keep_state_numbering ≡ true → machine_of_text kind options (text_of_entries kind options (state_entries start first ++ other_entries start 0 states)) ≡ Ok (record { start = Some start; states = states })
+back-from kind options start states first h tables few arcs good named kept =
     let es = state_entries start first ++ other_entries start 0 states in
     let count = length states in
     let low = slice_get_within states start first h in
@@ -231,26 +243,27 @@ back-from kind options start states first h few arcs good kept =
     let own = count-state start first in
     let both = arc_count-append (state_entries start first) (other_entries start 0 states) in
     let counted : arc_count [] + arc_count es ≤ most_arcs = omega arith in
-    ap (λ (ls : List (List (List ℕ))). entries_of_lines kind options 1 [] ls >>= λ es. Ok (machine_of_entries options.keep_state_numbering es)) (lines-read (fields_of_entry kind options) es (fields-all kind options count es few all))
-    ∙ ap (λ (r : Result (List Entry) TextFault). r >>= λ es. Ok (machine_of_entries options.keep_state_numbering es)) (entries-read kind options count 1 [] es kept few (omega arith) counted all)
+    ap (λ (ls : List (List (List ℕ))). entries_of_lines kind options 1 [] ls >>= λ es. Ok (machine_of_entries options.keep_state_numbering es)) (lines-read (fields_of_entry kind options) es (fields-all kind options count es tables few all named))
+    ∙ ap (λ (r : Result (List Entry) TextFault). r >>= λ es. Ok (machine_of_entries options.keep_state_numbering es)) (entries-read kind options count 1 [] es tables kept few (omega arith) counted all named)
     ∙ ap (λ (k : Bool). Ok (machine_of_entries k es)) kept
     ∙ ap Ok (machine-back kind options start states first h good)
 
 -- printing and compiling with numbers kept gives the machine
-pub compiles-back : (kind : ArcType) (options : TextOptions) (m : Machine Cost) → CompilesBack kind options m
-compiles-back kind options m text machine weights some kept h = go m.start refl some machine.start where
+pub compiles-back : (kind : ArcType) (options : Options) (m : Machine Cost) → CompilesBack kind options m
+compiles-back kind options m text tables machine weights some kept h = go m.start refl some machine.start where
   go : (o : Option ℕ) → m.start ≡ o → IsSome o → IfSome o (λ s. s < length m.states) → machine_of_text kind options text ≡ Ok m
   go None e some low = absurd (cc)
   go (Some start) e some low =
       let out = printed kind options m text h in
+      let free = unrefused options m out.0 in
       let states = m.states in
       let bare : State Cost = bare_state infinite in
       let there = slice_get-get_or states start bare low in
       let first = get_or states start bare in
-      let good = states-good kind options (length states) 0 states (recursion_from_All (λ s. All (IsArc (λ v. v) (length states)) s.arcs) states machine.arcs) (recursion_from_All (λ s. All (λ a. IsWeight kind a.weight) s.arcs) states weights.arcs) (recursion_from_All (λ s. IsWeight kind s.final) states weights.final) (accepts options states out.0) in
+      let good = states-good kind options (length states) 0 states (recursion_from_All (λ s. All (IsArc (λ v. v) (length states)) s.arcs) states machine.arcs) (recursion_from_All (λ s. All (λ a. IsWeight kind a.weight) s.arcs) states weights.arcs) (recursion_from_All (λ s. IsWeight kind s.final) states weights.final) (accepts options states free.0) in
       let entries : entries_of_machine m ≡ state_entries start first ++ other_entries start 0 states =
       ap (λ (o : Option ℕ). elim o [ None ↦ [] | Some start ↦ entries_at start states ++ other_entries start 0 states ]) e
       ∙ ap (λ (o : Option (State Cost)). elim o [ None ↦ [] | Some s ↦ state_entries start s ] ++ other_entries start 0 states) there in
       ap (machine_of_text kind options) (out.1 ∙ ap (text_of_entries kind options) entries)
-      ∙ back-from kind options start states first there machine.few_states machine.few_arcs good kept
+      ∙ back-from kind options start states first there tables machine.few_states machine.few_arcs good (all-named options (state_entries start first ++ other_entries start 0 states) (sym (ap (unnamed_label options) entries) ∙ free.1)) kept
       ∙ ap (λ (o : Option ℕ). Ok (record { start = o; states = states })) (sym e)

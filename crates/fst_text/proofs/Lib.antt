@@ -7,12 +7,13 @@ pub mod Held
 pub mod Holding
 pub mod Lines
 pub mod MachineEntries
+pub mod Naming
 pub mod Numbers
-pub mod Numerals
 pub mod Prints
 pub mod Reading
 pub mod Rereading
 pub mod Rooms
 pub mod Slots
+pub mod SymbolTables
 pub mod TextLines
 pub mod WeightTexts

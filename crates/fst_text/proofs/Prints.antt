@@ -1,5 +1,5 @@
 -- The states of a machine one after another, as they are printed.
-use Rattle.std.proofs.Common.{◌≡◌, ℕ, ◌+◌, ◌<◌, ◌≤◌, ◌==◌, zero, suc, cond, List, [], ◌∷◌, ◌++◌, length, map, drop, get_or, Option, Some, None, refl, sym, ap, ◌∙◌, arith, append_assoc}
+use Rattle.std.proofs.Common.{◌≡◌, ℕ, ◌+◌, ◌<◌, ◌≤◌, ◌==◌, zero, suc, Bool, true, false, cond, List, [], ◌∷◌, ◌++◌, length, map, drop, get_or, Option, Some, None, refl, sym, ap, ◌∙◌, arith, append_assoc}
 use Rattle.std.specs.List.{slice_get, drop-map}
 use Rattle.std.specs.Option.{option_map}
 use Rattle.std.proofs.lemmas.Grind.{flat_map-append}
@@ -10,9 +10,10 @@ use Rattle.fst_semiring.specs.declared.arc_type.ArcType.{ArcType}
 use Rattle.fst_semiring.specs.Cost.{Cost}
 use Rattle.fst_machine.specs.Machine.{Arc, State, arc_total, most_arcs, valued_arc, valued_state}
 use Rattle.fst_text.specs.declared.fault.PrintFault.{PrintFault}
-use Rattle.fst_text.specs.declared.options.TextOptions.{TextOptions}
-use Rattle.fst_text.specs.Entries.{Entry, arc_entry}
-use Rattle.fst_text.specs.Printed.{entries_at, fields_of_entry, final_entries, other_entries, split_arc, split_state, state_entries, text_of_entries, text_of_line}
+use Rattle.fst_text.specs.Options.{Options}
+use Rattle.fst_text.specs.Entries.{Entry, arc_entry, final_entry}
+use Rattle.fst_text.specs.Printed.{LacksName, entries_at, fields_of_entry, final_entries, is_zero, other_entries, split_arc, split_state, state_entries, text_of_entries, text_of_line, unnamed_label}
+use Rattle.fst_text.proofs.Naming.{entries-front, fault-as}
 
 -- what is read of a state is of the one that stands there
 state-there : {V : Type 0} (states : List (State V)) (q : ℕ) (arcs : List (Arc V ℕ)) → option_map (λ s. s.arcs) (slice_get states q) ≡ Some arcs → (s : State V) × (slice_get states q ≡ Some s) × (s.arcs ≡ arcs)
@@ -42,8 +43,17 @@ entries-read {V} value states q arcs w ha hw =
     ∙ ap (λ (as_read : List (Arc V ℕ)). state_entries q (record { final = value s.final; arcs = map (valued_arc value) as_read })) there.2
     ∙ ap (λ (u : V). state_entries q (record { final = value u; arcs = map (valued_arc value) arcs })) (final-there states q s w there.1 hw)
 
+-- a fault of the arcs of a state is one of the state
+pub arcs-fault : {V : Type 0} (value : V → Cost) (options : Options) (fault : PrintFault) (states : List (State V)) (q : ℕ) (arcs : List (Arc V ℕ)) → option_map (λ s. s.arcs) (slice_get states q) ≡ Some arcs → LacksName fault (unnamed_label options (map (arc_entry q) (map (valued_arc value) arcs))) → LacksName fault (unnamed_label options (entries_at q (map (valued_state value) states)))
+arcs-fault {V} value options fault states q arcs ha h =
+    let there = state-there states q arcs ha in
+    let s : State V = there.0 in
+    let first = map (arc_entry q) (map (valued_arc value) arcs) in
+    let last = final_entries q (value s.final) (map (valued_arc value) arcs) in
+    fault-as fault (unnamed_label options (first ++ last)) (unnamed_label options (entries_at q (map (valued_state value) states))) (ap (unnamed_label options) (sym (entries-read value states q arcs s.final ha (ap (option_map (λ (s : State V). s.final)) there.1)))) (entries-front fault options first last h)
+
 -- texts one behind the other
-pub texts-append : (kind : ArcType) (options : TextOptions) (old a b : List ℕ) (first second : List Entry) → a ≡ old ++ text_of_entries kind options first → b ≡ a ++ text_of_entries kind options second → b ≡ old ++ text_of_entries kind options (first ++ second)
+pub texts-append : (kind : ArcType) (options : Options) (old a b : List ℕ) (first second : List Entry) → a ≡ old ++ text_of_entries kind options first → b ≡ a ++ text_of_entries kind options second → b ≡ old ++ text_of_entries kind options (first ++ second)
 texts-append kind options old a b first second ea eb =
     let text = text_of_entries kind options in
     eb ∙ ap (λ (x : List ℕ). x ++ text second) ea ∙ append_assoc old (text first) (text second) ∙ ap (λ (x : List ℕ). old ++ x) (sym (flat_map-append (λ e. text_of_line (fields_of_entry kind options e)) first second))
@@ -56,17 +66,29 @@ other-step start n (s ∷ states) (suc q) h =
     let next : suc (q + 1) ≡ suc q + 1 = omega arith in
     other-step start n states q (omega arith) ∙ ap (λ (k : ℕ). cond (n == start) [] (elim (slice_get states q) [ None ↦ [] | Some s ↦ state_entries n s ]) ++ other_entries start (n + 1) (drop k (s ∷ states))) next
 
--- the text of the states that are left, after that of the next one
-pub others-pushed : {V : Type 0} (value : V → Cost) (kind : ArcType) (options : TextOptions) (start q : ℕ) (states : List (State V)) (old out more : List ℕ) → q < length states → more ≡ out ++ text_of_entries kind options (cond (q == start) [] (entries_at q (map (valued_state value) states))) → out ++ text_of_entries kind options (other_entries start q (map (valued_state value) (drop q states))) ≡ old → more ++ text_of_entries kind options (other_entries start (q + 1) (map (valued_state value) (drop (q + 1) states))) ≡ old
-others-pushed value kind options start q states old out more low e h =
-    let text = text_of_entries kind options in
+-- the entries of the states that are left are those of the next one and of those behind it
+pub others-step : {V : Type 0} (value : V → Cost) (start q : ℕ) (states : List (State V)) → q < length states → other_entries start q (map (valued_state value) (drop q states)) ≡ cond (q == start) [] (entries_at q (map (valued_state value) states)) ++ other_entries start (q + 1) (map (valued_state value) (drop (q + 1) states))
+others-step value start q states low =
     let mapped = map (valued_state value) states in
     let first = cond (q == start) [] (entries_at q mapped) in
-    let behind = other_entries start (q + 1) (map (valued_state value) (drop (q + 1) states)) in
     let many : q < length mapped = rw (length-map states (valued_state value)) low in
-    let step : other_entries start q (map (valued_state value) (drop q states)) ≡ first ++ behind =
-    ap (other_entries start q) (sym (drop-map (valued_state value) q states)) ∙ other-step start q mapped q many ∙ ap (λ (ss : List (State Cost)). first ++ other_entries start (q + 1) ss) (drop-map (valued_state value) (q + 1) states) in
-    texts-append kind options out more (more ++ text behind) first behind e refl ∙ ap (λ (es : List Entry). out ++ text es) (sym step) ∙ h
+    ap (other_entries start q) (sym (drop-map (valued_state value) q states)) ∙ other-step start q mapped q many ∙ ap (λ (ss : List (State Cost)). first ++ other_entries start (q + 1) ss) (drop-map (valued_state value) (q + 1) states)
+
+-- the text of the states that are left, after that of the next one
+pub others-pushed : {V : Type 0} (value : V → Cost) (kind : ArcType) (options : Options) (start q : ℕ) (states : List (State V)) (old out more : List ℕ) → q < length states → more ≡ out ++ text_of_entries kind options (cond (q == start) [] (entries_at q (map (valued_state value) states))) → out ++ text_of_entries kind options (other_entries start q (map (valued_state value) (drop q states))) ≡ old → more ++ text_of_entries kind options (other_entries start (q + 1) (map (valued_state value) (drop (q + 1) states))) ≡ old
+others-pushed value kind options start q states old out more low e h =
+    let text = text_of_entries kind options in
+    let first = cond (q == start) [] (entries_at q (map (valued_state value) states)) in
+    let behind = other_entries start (q + 1) (map (valued_state value) (drop (q + 1) states)) in
+    texts-append kind options out more (more ++ text behind) first behind e refl ∙ ap (λ (es : List Entry). out ++ text es) (sym (others-step value start q states low)) ∙ h
+
+-- a final entry has no labels
+pub final-unnamed : (options : Options) (state : ℕ) (w : Cost) (arcs : List (Arc Cost ℕ)) → unnamed_label options (final_entries state w arcs) ≡ None
+final-unnamed options state w [] = refl
+final-unnamed options state w (a ∷ arcs) = go (is_zero w) where
+  go : (zero_is : Bool) → unnamed_label options (cond zero_is [] (final_entry state w ∷ [])) ≡ None
+  go true = refl
+  go false = refl
 
 -- the first arc with two labels is in the next state or behind it
 split-step : {V : Type 0} (value : V → Cost) (states : List (State V)) (q : ℕ) (arcs : List (Arc V ℕ)) → option_map (λ s. s.arcs) (slice_get states q) ≡ Some arcs → split_state q (map (valued_state value) (drop q states)) ≡ elim (split_arc q 0 (map (valued_arc value) arcs)) [ None ↦ split_state (q + 1) (map (valued_state value) (drop (q + 1) states)) | Some fault ↦ Some fault ]

@@ -1,11 +1,10 @@
 -- A machine that is being built line by line.
-use Rattle.std.specs.Prelude.{◌≡◌, ℕ, ◌+◌, ◌-◌, ◌<◌, ◌==◌, Bool, List, [], ◌∷◌, ◌++◌, length, replicate, nat_le, nat_lt, nat_eq, Option, Some, None, IfSome, Result, Ok, Err, if◌then◌else◌}
-use Rattle.std.specs.HashMap.{get}
+use Rattle.std.specs.Prelude.{◌≡◌, ℕ, ◌+◌, ◌-◌, ◌<◌, ◌==◌, Bool, List, [], ◌∷◌, ◌++◌, length, replicate, nat_le, nat_lt, Option, Some, None, IfSome, Result, Ok, Err, if◌then◌else◌}
 use Rattle.fst_semiring.specs.declared.arc_type.ArcType.{ArcType}
 use Rattle.fst_semiring.specs.Cost.{Cost, infinite}
 use Rattle.fst_machine.specs.Machine.{Machine, State, arc_total, bare_state, changed, most_arcs, most_states, no_states, valued, with_arc, with_final}
 use Rattle.fst_text.specs.declared.fault.TextFault.{TextFault}
-use Rattle.fst_text.specs.declared.options.TextOptions.{TextOptions}
+use Rattle.fst_text.specs.Options.{Options}
 use Rattle.fst_text.specs.declared.places.Places.{Places}
 use Rattle.fst_text.specs.declared.builder.Builder.{Builder}
 use Rattle.fst_text.specs.Slots.{found_among}
@@ -19,7 +18,7 @@ pub record Building : Type 0 where
 
 -- what is known of a number
 abbrev pub found_in : Places → ℕ → Option ℕ
-found_in places n = found_among places.bound places.dense.items (get nat_eq places.sparse) n
+found_in places n = found_among places.bound places.dense.items places.sparse.slots.items n
 
 -- one more number with its place
 abbrev pub with_place : (ℕ → Option ℕ) → ℕ → ℕ → ℕ → Option ℕ
@@ -88,12 +87,12 @@ abbrev pub with_read : Bool → Building → Result Entry TextFault → Result B
 with_read kept b read = read >>= λ e. Ok (with_entry kept b e)
 
 -- with a line of these fields; a blank one adds nothing
-abbrev pub after_line : ArcType → TextOptions → ℕ → Building → List (List ℕ) → Result Building TextFault
+abbrev pub after_line : ArcType → Options → ℕ → Building → List (List ℕ) → Result Building TextFault
 after_line kind options line b [] = Ok b
-after_line kind options line b (f ∷ fs) = with_read options.keep_state_numbering b (entry_of_fields kind options.acceptor line (room_of options.keep_state_numbering b) (f ∷ fs))
+after_line kind options line b (f ∷ fs) = with_read options.keep_state_numbering b (entry_of_fields kind options line (room_of options.keep_state_numbering b) (f ∷ fs))
 
 -- with lines, of which the first has this number
-abbrev pub after_lines : ArcType → TextOptions → ℕ → Building → List (List (List ℕ)) → Result Building TextFault
+abbrev pub after_lines : ArcType → Options → ℕ → Building → List (List (List ℕ)) → Result Building TextFault
 after_lines kind options line b [] = Ok b
 after_lines kind options line b (fields ∷ lines) = after_line kind options line b fields >>= λ c. after_lines kind options (line + 1) c lines
 

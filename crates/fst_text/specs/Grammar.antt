@@ -3,15 +3,16 @@
 use Rattle.std.specs.Prelude.{◌≡◌, ℕ, ◌+◌, Bool, List, [], ◌∷◌, ◌++◌, length, map, nat_le, nat_lt, Option, Some, None, Result, Ok, Err, if◌then◌else◌}
 use Rattle.std.specs.List.{flat_map}
 use Rattle.fst_fields.specs.Lines.{lines_of, fields_of}
-use Rattle.fst_fields.specs.Decimal.{natural_of_text}
+use Rattle.fst_fields.specs.Decimal.{label_of_text, natural_of_text}
+use Rattle.fst_symbols.specs.Symbols.{Symbol, number_of}
 use Rattle.fst_semiring.specs.declared.arc_type.ArcType.{ArcType}
 use Rattle.fst_semiring.specs.Cost.{Cost, best, finite, infinite}
 use Rattle.fst_semiring.specs.Semiring.{one_of}
 use Rattle.fst_semiring.specs.WeightText.{cost_of_text}
-use Rattle.fst_machine.specs.Machine.{Machine, greatest_label, most_arcs, most_states}
+use Rattle.fst_machine.specs.Machine.{Machine, most_arcs, most_states}
 use Rattle.fst_text.specs.declared.fault.TextFault.{TextFault}
-use Rattle.fst_text.specs.declared.fault.TextFault.TheVariants.{BadColumns, BadState, BadLabel, BadWeight, TooManyStates, TooManyArcs, Memory}
-use Rattle.fst_text.specs.declared.options.TextOptions.{TextOptions}
+use Rattle.fst_text.specs.declared.fault.TextFault.TheVariants.{BadColumns, BadState, BadLabel, UnknownSymbol, BadWeight, TooManyStates, TooManyArcs, Memory}
+use Rattle.fst_text.specs.Options.{Options}
 use Rattle.fst_text.specs.Entries.{Entry, arc_count, arc_entry, final_entry, states_named, state_numbers, machine_of_entries}
 
 infixl 10 ◌>>=◌
@@ -30,9 +31,15 @@ pub record Room : Type 0 where
 abbrev pub state_of_field : ℕ → (ℕ → Bool) → List ℕ → Result ℕ TextFault
 state_of_field line room field = elim (natural_of_text 18 field) [ None ↦ Err (BadState line) | Some n ↦ if room n then Ok n else Err (TooManyStates line) ]
 
--- a label field is a number of one to eighteen digits that is at most the greatest label
-abbrev pub label_of_field : ℕ → List ℕ → Result ℕ TextFault
-label_of_field line field = elim (natural_of_text 18 field) [ None ↦ Err (BadLabel line) | Some n ↦ if nat_le n greatest_label then Ok n else Err (BadLabel line) ]
+-- a label field is a name of its side's symbol table where there is one, and else a label number
+abbrev pub label_of_field : Option (List Symbol) → ℕ → List ℕ → Result ℕ TextFault
+label_of_field None line field = elim (label_of_text field) [ None ↦ Err (BadLabel line) | Some n ↦ Ok n ]
+label_of_field (Some symbols) line field = elim (number_of symbols field) [ None ↦ Err (UnknownSymbol line) | Some n ↦ Ok n ]
+
+-- the output label of an arc, behind its input label; where it has no field of its own, the arc has one label
+abbrev pub output_label : Option (List Symbol) → ℕ → ℕ → Option (List ℕ) → Result ℕ TextFault
+output_label symbols line label None = Ok label
+output_label symbols line label (Some field) = label_of_field symbols line field
 
 -- a weight field is a weight text of the arc type; a missing one is One
 abbrev pub weight_of_field : ArcType → ℕ → Option (List ℕ) → Result Cost TextFault
@@ -50,12 +57,12 @@ abbrev pub arc_weight_of_field : ArcType → ℕ → Option (List ℕ) → Resul
 arc_weight_of_field kind line field = weight_of_field kind line field >>= not_zero line
 
 -- an arc line by its fields
-unfoldable pub arc_line : ArcType → ℕ → Room → (source dest ilabel olabel : List ℕ) → Option (List ℕ) → Result Entry TextFault
-arc_line kind line room source dest ilabel olabel weight = do
+unfoldable pub arc_line : ArcType → Options → ℕ → Room → (source dest ilabel : List ℕ) → (olabel weight : Option (List ℕ)) → Result Entry TextFault
+arc_line kind options line room source dest ilabel olabel weight = do
   s ← state_of_field line room.state source
   d ← state_of_field line (room.states s) dest
-  i ← label_of_field line ilabel
-  o ← label_of_field line olabel
+  i ← label_of_field options.isymbols line ilabel
+  o ← output_label options.osymbols line i olabel
   w ← arc_weight_of_field kind line weight
   if room.arc then Ok (arc_entry s (record { ilabel = i; olabel = o; weight = w; next = d })) else Err (TooManyArcs line)
 
@@ -67,23 +74,23 @@ final_line kind line room state weight = do
   Ok (final_entry s w)
 
 -- a line of a transducer that is not blank
-abbrev pub transducer_line : ArcType → ℕ → Room → List (List ℕ) → Result Entry TextFault
-transducer_line kind line room (s ∷ []) = final_line kind line room s None
-transducer_line kind line room (s ∷ w ∷ []) = final_line kind line room s (Some w)
-transducer_line kind line room (s ∷ d ∷ i ∷ o ∷ []) = arc_line kind line room s d i o None
-transducer_line kind line room (s ∷ d ∷ i ∷ o ∷ w ∷ []) = arc_line kind line room s d i o (Some w)
-transducer_line kind line room _ = Err (BadColumns line)
+abbrev pub transducer_line : ArcType → Options → ℕ → Room → List (List ℕ) → Result Entry TextFault
+transducer_line kind options line room (s ∷ []) = final_line kind line room s None
+transducer_line kind options line room (s ∷ w ∷ []) = final_line kind line room s (Some w)
+transducer_line kind options line room (s ∷ d ∷ i ∷ o ∷ []) = arc_line kind options line room s d i (Some o) None
+transducer_line kind options line room (s ∷ d ∷ i ∷ o ∷ w ∷ []) = arc_line kind options line room s d i (Some o) (Some w)
+transducer_line kind options line room _ = Err (BadColumns line)
 
--- a line of an acceptor that is not blank; its label is both labels
-abbrev pub acceptor_line : ArcType → ℕ → Room → List (List ℕ) → Result Entry TextFault
-acceptor_line kind line room (s ∷ []) = final_line kind line room s None
-acceptor_line kind line room (s ∷ w ∷ []) = final_line kind line room s (Some w)
-acceptor_line kind line room (s ∷ d ∷ l ∷ []) = arc_line kind line room s d l l None
-acceptor_line kind line room (s ∷ d ∷ l ∷ w ∷ []) = arc_line kind line room s d l l (Some w)
-acceptor_line kind line room _ = Err (BadColumns line)
+-- a line of an acceptor that is not blank; its label, a symbol of the input's table, is both labels
+abbrev pub acceptor_line : ArcType → Options → ℕ → Room → List (List ℕ) → Result Entry TextFault
+acceptor_line kind options line room (s ∷ []) = final_line kind line room s None
+acceptor_line kind options line room (s ∷ w ∷ []) = final_line kind line room s (Some w)
+acceptor_line kind options line room (s ∷ d ∷ l ∷ []) = arc_line kind options line room s d l None None
+acceptor_line kind options line room (s ∷ d ∷ l ∷ w ∷ []) = arc_line kind options line room s d l None (Some w)
+acceptor_line kind options line room _ = Err (BadColumns line)
 
-abbrev pub entry_of_fields : ArcType → Bool → ℕ → Room → List (List ℕ) → Result Entry TextFault
-entry_of_fields kind acceptor line room fields = if acceptor then acceptor_line kind line room fields else transducer_line kind line room fields
+abbrev pub entry_of_fields : ArcType → Options → ℕ → Room → List (List ℕ) → Result Entry TextFault
+entry_of_fields kind options line room fields = if options.acceptor then acceptor_line kind options line room fields else transducer_line kind options line room fields
 
 -- no more than 4,194,304 states, where the entries before and then these numbers are named
 abbrev pub fits : Bool → List Entry → List ℕ → Bool
@@ -98,13 +105,13 @@ room_behind kept before = record {
 }
 
 -- the entries before, and behind them those of lines of which the first has this number; blank lines say nothing
-abbrev pub entries_of_lines : ArcType → TextOptions → ℕ → List Entry → List (List (List ℕ)) → Result (List Entry) TextFault
+abbrev pub entries_of_lines : ArcType → Options → ℕ → List Entry → List (List (List ℕ)) → Result (List Entry) TextFault
 entries_of_lines kind options line before [] = Ok before
 entries_of_lines kind options line before ([] ∷ lines) = entries_of_lines kind options (line + 1) before lines
-entries_of_lines kind options line before ((f ∷ fs) ∷ lines) = entry_of_fields kind options.acceptor line (room_behind options.keep_state_numbering before) (f ∷ fs) >>= λ e. entries_of_lines kind options (line + 1) (before ++ e ∷ []) lines
+entries_of_lines kind options line before ((f ∷ fs) ∷ lines) = entry_of_fields kind options line (room_behind options.keep_state_numbering before) (f ∷ fs) >>= λ e. entries_of_lines kind options (line + 1) (before ++ e ∷ []) lines
 
 -- the machine of a text, or the first fault of its first faulty line
-abbrev pub machine_of_text : ArcType → TextOptions → List ℕ → Result (Machine Cost) TextFault
+abbrev pub machine_of_text : ArcType → Options → List ℕ → Result (Machine Cost) TextFault
 machine_of_text kind options text = entries_of_lines kind options 1 [] (map fields_of (lines_of text)) >>= λ es. Ok (machine_of_entries options.keep_state_numbering es)
 
 -- a fault is the one that reading gives, unless memory ran out
@@ -113,6 +120,7 @@ Fails Memory read = Unit {0}
 Fails (BadColumns line) read = read ≡ Err (BadColumns line)
 Fails (BadState line) read = read ≡ Err (BadState line)
 Fails (BadLabel line) read = read ≡ Err (BadLabel line)
+Fails (UnknownSymbol line) read = read ≡ Err (UnknownSymbol line)
 Fails (BadWeight line) read = read ≡ Err (BadWeight line)
 Fails (TooManyStates line) read = read ≡ Err (TooManyStates line)
 Fails (TooManyArcs line) read = read ≡ Err (TooManyArcs line)

@@ -2,5 +2,6 @@ pub mod Building
 pub mod Entries
 pub mod Grammar
 pub mod Laws
+pub mod Options
 pub mod Printed
 pub mod Slots

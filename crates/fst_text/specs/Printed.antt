@@ -1,5 +1,6 @@
 -- The printed text of a machine. (OpenFst manual, `fstprint`.)
 use Rattle.std.specs.Prelude.{◌≡◌, ℕ, ◌+◌, ◌==◌, Bool, List, [], ◌∷◌, ◌++◌, map, slice_get, Option, Some, None, Result, Ok, Err, if◌then◌else◌}
+use Rattle.std.specs.Option.{option_map}
 use Rattle.std.specs.List.{flat_map}
 use Rattle.std.specs.Fmt.{decimal}
 use Rattle.std.specs.Ordering.{is_eq}
@@ -7,11 +8,12 @@ use Rattle.fst_semiring.specs.declared.arc_type.ArcType.{ArcType}
 use Rattle.fst_semiring.specs.Cost.{Cost, class_of, cost_cmp}
 use Rattle.fst_semiring.specs.Semiring.{one_of}
 use Rattle.fst_semiring.specs.WeightText.{text_of_cost}
+use Rattle.fst_symbols.specs.Symbols.{Symbol, name_of}
 use Rattle.fst_machine.specs.Machine.{Arc, State, Machine}
 use Rattle.fst_text.specs.Entries.{Entry, arc_entry, final_entry}
 use Rattle.fst_text.specs.declared.fault.PrintFault.{PrintFault}
-use Rattle.fst_text.specs.declared.fault.PrintFault.TheVariants.{NotAcceptor, Memory}
-use Rattle.fst_text.specs.declared.options.TextOptions.{TextOptions}
+use Rattle.fst_text.specs.declared.fault.PrintFault.TheVariants.{NotAcceptor, UnknownSymbol, Memory}
+use Rattle.fst_text.specs.Options.{Options}
 
 -- each field with a tab in front of it
 abbrev pub behind_tabs : List (List ℕ) → List ℕ
@@ -31,20 +33,37 @@ abbrev pub is_one : ArcType → Cost → Bool
 is_one kind w = is_eq (cost_cmp w (one_of kind))
 
 -- the field of a weight; One is left out unless it is to be shown
-abbrev pub weight_fields : ArcType → TextOptions → Cost → List (List ℕ)
+abbrev pub weight_fields : ArcType → Options → Cost → List (List ℕ)
 weight_fields kind options w = if options.show_weight_one then text_of_cost kind w ∷ [] else (if is_one kind w then [] else text_of_cost kind w ∷ [])
 
--- the labels of an arc; an acceptor's arc has one
-abbrev pub label_fields : TextOptions → Arc Cost ℕ → List (List ℕ)
-label_fields options a = if options.acceptor then decimal a.ilabel ∷ [] else decimal a.ilabel ∷ decimal a.olabel ∷ []
+-- A label that is printed, with the symbol table of its side.
+pub record Label : Type 0 where
+  pub symbols : Option (List Symbol)
+  pub number : ℕ
+
+-- the printed form of a label: its number, or where its side has a table its name, if it has one
+abbrev pub text_of_label : Label → Option (List ℕ)
+text_of_label label = elim label.symbols [ None ↦ Some (decimal label.number) | Some symbols ↦ name_of symbols label.number ]
+
+-- the labels of an arc that are printed; an acceptor's arc has one
+abbrev pub labels_of_arc : Options → Arc Cost ℕ → List Label
+labels_of_arc options a = if options.acceptor then record { symbols = options.isymbols; number = a.ilabel } ∷ [] else record { symbols = options.isymbols; number = a.ilabel } ∷ record { symbols = options.osymbols; number = a.olabel } ∷ []
+
+-- the field of a label; one without a name is not printed
+abbrev pub field_of_label : Label → List ℕ
+field_of_label label = elim (text_of_label label) [ None ↦ [] | Some text ↦ text ]
+
+-- the labels of an arc as fields
+abbrev pub label_fields : Options → Arc Cost ℕ → List (List ℕ)
+label_fields options a = map field_of_label (labels_of_arc options a)
 
 -- the fields of an entry, states by their numbers
-abbrev pub fields_of_entry : ArcType → TextOptions → Entry → List (List ℕ)
+abbrev pub fields_of_entry : ArcType → Options → Entry → List (List ℕ)
 fields_of_entry kind options (arc_entry source a) = decimal source ∷ decimal a.next ∷ label_fields options a ++ weight_fields kind options a.weight
 fields_of_entry kind options (final_entry state w) = decimal state ∷ weight_fields kind options w
 
 -- the text of entries, a line each
-abbrev pub text_of_entries : ArcType → TextOptions → List Entry → List ℕ
+abbrev pub text_of_entries : ArcType → Options → List Entry → List ℕ
 text_of_entries kind options es = flat_map (λ e. text_of_line (fields_of_entry kind options e)) es
 
 -- a state has a final entry where it is final, and where it has no arcs
@@ -79,12 +98,31 @@ abbrev pub split_state : ℕ → List (State Cost) → Option PrintFault
 split_state state [] = None
 split_state state (s ∷ states) = elim (split_arc state 0 s.arcs) [ None ↦ split_state (state + 1) states | Some fault ↦ Some fault ]
 
--- why a machine is not printed: an acceptor has no arc with two different labels
-abbrev pub refusal : TextOptions → Machine Cost → Option PrintFault
-refusal options m = if options.acceptor then split_state 0 m.states else None
+-- the labels of an entry that are printed
+abbrev pub labels_of_entry : Options → Entry → List Label
+labels_of_entry options (arc_entry source a) = labels_of_arc options a
+labels_of_entry options (final_entry state w) = []
+
+-- the number of the first of these labels that has no name in its table
+abbrev pub first_unnamed : List Label → Option ℕ
+first_unnamed [] = None
+first_unnamed (label ∷ labels) = elim (text_of_label label) [ None ↦ Some label.number | Some text ↦ first_unnamed labels ]
+
+-- the first label of entries without a name, in the order of printing
+abbrev pub unnamed_label : Options → List Entry → Option ℕ
+unnamed_label options es = first_unnamed (flat_map (labels_of_entry options) es)
+
+-- the first arc with two different labels of a machine that is to be printed as an acceptor
+abbrev pub split_machine : Options → Machine Cost → Option PrintFault
+split_machine options m = if options.acceptor then split_state 0 m.states else None
+
+-- why a machine is not printed: an acceptor has no arc with two different labels, and every label that is
+-- printed has a name where its side has a table
+abbrev pub refusal : Options → Machine Cost → Option PrintFault
+refusal options m = elim (split_machine options m) [ None ↦ option_map UnknownSymbol (unnamed_label options (entries_of_machine m)) | Some fault ↦ Some fault ]
 
 -- the printed text of a machine, or why there is none
-abbrev pub text_of_machine : ArcType → TextOptions → Machine Cost → Result (List ℕ) PrintFault
+abbrev pub text_of_machine : ArcType → Options → Machine Cost → Result (List ℕ) PrintFault
 text_of_machine kind options m = elim (refusal options m) [ None ↦ Ok (text_of_entries kind options (entries_of_machine m)) | Some fault ↦ Err fault ]
 
 -- what was returned, seen by view, is this text or this refusal, unless memory ran out
@@ -92,3 +130,16 @@ abbrev pub Prints : {X : Type 0} → (X → List ℕ) → Result X PrintFault �
 Prints view (Ok x) text = text ≡ Ok (view x)
 Prints view (Err Memory) text = Unit {0}
 Prints view (Err (NotAcceptor state place)) text = text ≡ Err (NotAcceptor state place)
+Prints view (Err (UnknownSymbol label)) text = text ≡ Err (UnknownSymbol label)
+
+-- a fault is that this label has no name, unless memory ran out
+abbrev pub LacksName : PrintFault → Option ℕ → Type 0
+LacksName Memory unnamed = Unit {0}
+LacksName (UnknownSymbol label) unnamed = unnamed ≡ Some label
+LacksName (NotAcceptor state place) unnamed = ⊥
+
+-- a call has printed where every label has a name, and else refuses the first that has none, unless memory
+-- ran out
+abbrev pub Names : {X : Type 0} → Result X PrintFault → Option ℕ → Type 0
+Names (Ok x) unnamed = unnamed ≡ None
+Names (Err fault) unnamed = LacksName fault unnamed

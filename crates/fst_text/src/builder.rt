@@ -6,15 +6,16 @@ ghost use Rattle.fst_fields.specs.Lines.{fields_of};
 ghost use Rattle.fst_semiring.specs.Cost.{infinite};
 ghost use Rattle.fst_machine.specs.Machine.{arc_total, greatest_label, most_arcs, most_states};
 ghost use Rattle.fst_text.specs.Entries.{arc_entry, final_entry};
-ghost use Rattle.fst_text.specs.Grammar.{Gives, arc_line, final_line, label_of_field, state_of_field, weight_of_field, acceptor_line, arc_weight_of_field, transducer_line};
+ghost use Rattle.fst_text.specs.Grammar.{Gives, arc_line, final_line, label_of_field, output_label, state_of_field, weight_of_field, acceptor_line, arc_weight_of_field, transducer_line};
 ghost use Rattle.fst_text.specs.Building.{Builds, IsPlaced, after_line, built, nothing_built, or_start, place_of, room_of, with_entry, with_number, with_state, with_read};
 
 use crate::fault::TextFault;
 use crate::options::TextOptions;
 use crate::places::Places;
 use fst_fields::{next_field, read_decimal};
-use fst_machine::{Fst, FstArc, MOST_ARCS, MOST_LABEL, MOST_STATES};
+use fst_machine::{Fst, FstArc, MOST_ARCS, MOST_STATES};
 use fst_semiring::Weight;
+use fst_symbols::SymbolTable;
 use std::alloc::Global;
 
 /// The machine of the lines so far.
@@ -24,20 +25,37 @@ pub struct Builder<W: Weight> {
     fst: Fst<W>,
 }
 
-/// The number of a label field.
-fn read_label(line: u64, field: &[u8]) -> Result<u32, TextFault>
-    ensures read { Gives (λ n. n) result (label_of_field line field.now) }
+/// The label of a field: the number of a name where its side has a symbol table, else a label number.
+fn read_label(symbols: Option<&SymbolTable>, line: u64, field: &[u8]) -> Result<u32, TextFault>
+    ensures read { Gives (λ n. n) result (label_of_field (option_map (λ t. t.now) symbols.entry) line field.now) }
     ensures small { IfOk result (λ n. n ≤ greatest_label) }
 {
-    match read_decimal(field, 18) {
-        Some(n) => {
-            if n <= u64::from(MOST_LABEL) {
-                Ok(n as u32)
-            } else {
-                Err(TextFault::BadLabel { line })
-            }
-        }
-        None => Err(TextFault::BadLabel { line }),
+    match symbols {
+        None => match fst_fields::read_label(field) {
+            Some(label) => Ok(label),
+            None => Err(TextFault::BadLabel { line }),
+        },
+        Some(symbols) => match symbols.find(field) {
+            Some(label) => Ok(label),
+            None => Err(TextFault::UnknownSymbol { line }),
+        },
+    }
+}
+
+/// The output label of an arc with this input label, which is both labels where there is no other field.
+fn read_output_label(
+    symbols: Option<&SymbolTable>,
+    line: u64,
+    label: u32,
+    field: Option<&[u8]>,
+) -> Result<u32, TextFault>
+    requires { label ≤ greatest_label }
+    ensures read { Gives (λ n. n) result (output_label (option_map (λ t. t.now) symbols.entry) line label (option_map (λ f. f.now) field.entry)) }
+    ensures small { IfOk result (λ n. n ≤ greatest_label) }
+{
+    match field {
+        None => Ok(label),
+        Some(field) => read_label(symbols, line, field),
     }
 }
 
@@ -281,22 +299,23 @@ impl<W: Weight> Builder<W> {
     #[tactic(auto, unfolding(crate::specs::Grammar::arc_line))]
     fn arc_line(
         &mut self,
-        kept: bool,
+        options: &TextOptions,
         line: u64,
         source: &[u8],
         dest: &[u8],
         ilabel: &[u8],
-        olabel: &[u8],
+        olabel: Option<&[u8]>,
         weight: Option<&[u8]>,
     ) -> Result<(), TextFault>
         requires { IsPlaced (built W.value self.old) }
-        ensures read { Builds (built W.value self.new) result (with_read kept (built W.value self.old) (arc_line W.KIND line (room_of kept (built W.value self.old)) source.now dest.now ilabel.now olabel.now (option_map (λ f. f.now) weight.entry))) }
+        ensures read { Builds (built W.value self.new) result (with_read options.now.keep_state_numbering (built W.value self.old) (arc_line W.KIND options.now line (room_of options.now.keep_state_numbering (built W.value self.old)) source.now dest.now ilabel.now (option_map (λ f. f.now) olabel.entry) (option_map (λ f. f.now) weight.entry))) }
         ensures placed { OnOk result (IsPlaced (built W.value self.new)) }
     {
+        let kept = options.keep_state_numbering;
         let source = self.read_first(kept, line, source)?;
         let dest = self.read_second(kept, line, source, dest)?;
-        let ilabel = read_label(line, ilabel)?;
-        let olabel = read_label(line, olabel)?;
+        let ilabel = read_label(options.isymbols, line, ilabel)?;
+        let olabel = read_output_label(options.osymbols, line, ilabel, olabel)?;
         let weight = read_arc_weight::<W>(line, weight)?;
         if !self.has_room_for_arc() {
             return Err(TextFault::TooManyArcs { line });
@@ -308,15 +327,16 @@ impl<W: Weight> Builder<W> {
     #[tactic(auto, unfolding(crate::specs::Grammar::final_line))]
     fn final_line(
         &mut self,
-        kept: bool,
+        options: &TextOptions,
         line: u64,
         state: &[u8],
         weight: Option<&[u8]>,
     ) -> Result<(), TextFault>
         requires { IsPlaced (built W.value self.old) }
-        ensures read { Builds (built W.value self.new) result (with_read kept (built W.value self.old) (final_line W.KIND line (room_of kept (built W.value self.old)) state.now (option_map (λ f. f.now) weight.entry))) }
+        ensures read { Builds (built W.value self.new) result (with_read options.now.keep_state_numbering (built W.value self.old) (final_line W.KIND line (room_of options.now.keep_state_numbering (built W.value self.old)) state.now (option_map (λ f. f.now) weight.entry))) }
         ensures placed { OnOk result (IsPlaced (built W.value self.new)) }
     {
+        let kept = options.keep_state_numbering;
         let state = self.read_first(kept, line, state)?;
         let weight = read_weight::<W>(line, weight)?;
         self.add_final(kept, state, weight)
@@ -328,26 +348,25 @@ impl<W: Weight> Builder<W> {
         ensures read { Builds (built W.value self.new) result (after_line W.KIND options.now line (built W.value self.old) (fields_of text.now)) }
         ensures placed { OnOk result (IsPlaced (built W.value self.new)) }
     {
-        let kept = options.keep_state_numbering;
         let Some((first, rest)) = next_field(text) else {
             return Ok(());
         };
         let Some((second, rest)) = next_field(rest) else {
-            return self.final_line(kept, line, first, None);
+            return self.final_line(options, line, first, None);
         };
         let Some((third, rest)) = next_field(rest) else {
-            return self.final_line(kept, line, first, Some(second));
+            return self.final_line(options, line, first, Some(second));
         };
         if options.acceptor {
-            return self.acceptor_arc(kept, line, first, second, third, rest);
+            return self.acceptor_arc(options, line, first, second, third, rest);
         }
-        self.transducer_arc(kept, line, first, second, third, rest)
+        self.transducer_arc(options, line, first, second, third, rest)
     }
 
     /// Adds an arc line of an acceptor, with what stands behind its label.
     fn acceptor_arc(
         &mut self,
-        kept: bool,
+        options: &TextOptions,
         line: u64,
         source: &[u8],
         dest: &[u8],
@@ -355,22 +374,22 @@ impl<W: Weight> Builder<W> {
         rest: &[u8],
     ) -> Result<(), TextFault>
         requires { IsPlaced (built W.value self.old) }
-        ensures read { Builds (built W.value self.new) result (with_read kept (built W.value self.old) (acceptor_line W.KIND line (room_of kept (built W.value self.old)) (source.now ∷ dest.now ∷ label.now ∷ fields_of rest.now))) }
+        ensures read { Builds (built W.value self.new) result (with_read options.now.keep_state_numbering (built W.value self.old) (acceptor_line W.KIND options.now line (room_of options.now.keep_state_numbering (built W.value self.old)) (source.now ∷ dest.now ∷ label.now ∷ fields_of rest.now))) }
         ensures placed { OnOk result (IsPlaced (built W.value self.new)) }
     {
         let Some((weight, rest)) = next_field(rest) else {
-            return self.arc_line(kept, line, source, dest, label, label, None);
+            return self.arc_line(options, line, source, dest, label, None, None);
         };
         if next_field(rest).is_some() {
             return Err(TextFault::BadColumns { line });
         }
-        self.arc_line(kept, line, source, dest, label, label, Some(weight))
+        self.arc_line(options, line, source, dest, label, None, Some(weight))
     }
 
     /// Adds an arc line of a transducer, with what stands behind its input label.
     fn transducer_arc(
         &mut self,
-        kept: bool,
+        options: &TextOptions,
         line: u64,
         source: &[u8],
         dest: &[u8],
@@ -378,18 +397,26 @@ impl<W: Weight> Builder<W> {
         rest: &[u8],
     ) -> Result<(), TextFault>
         requires { IsPlaced (built W.value self.old) }
-        ensures read { Builds (built W.value self.new) result (with_read kept (built W.value self.old) (transducer_line W.KIND line (room_of kept (built W.value self.old)) (source.now ∷ dest.now ∷ ilabel.now ∷ fields_of rest.now))) }
+        ensures read { Builds (built W.value self.new) result (with_read options.now.keep_state_numbering (built W.value self.old) (transducer_line W.KIND options.now line (room_of options.now.keep_state_numbering (built W.value self.old)) (source.now ∷ dest.now ∷ ilabel.now ∷ fields_of rest.now))) }
         ensures placed { OnOk result (IsPlaced (built W.value self.new)) }
     {
         let Some((olabel, rest)) = next_field(rest) else {
             return Err(TextFault::BadColumns { line });
         };
         let Some((weight, rest)) = next_field(rest) else {
-            return self.arc_line(kept, line, source, dest, ilabel, olabel, None);
+            return self.arc_line(options, line, source, dest, ilabel, Some(olabel), None);
         };
         if next_field(rest).is_some() {
             return Err(TextFault::BadColumns { line });
         }
-        self.arc_line(kept, line, source, dest, ilabel, olabel, Some(weight))
+        self.arc_line(
+            options,
+            line,
+            source,
+            dest,
+            ilabel,
+            Some(olabel),
+            Some(weight),
+        )
     }
 }

@@ -12,8 +12,10 @@ pub enum TextFault {
     BadColumns { line: u64 },
     /// A state is not one to eighteen decimal digits.
     BadState { line: u64 },
-    /// A label is not one to eighteen decimal digits, or is above 2,147,483,647.
+    /// A label of a side without symbol table is not one to eighteen decimal digits, or is above 2,147,483,647.
     BadLabel { line: u64 },
+    /// A label is no name of the symbol table of its side.
+    UnknownSymbol { line: u64 },
     /// A weight is no weight text of the arc type, or an arc has weight Zero.
     BadWeight { line: u64 },
     /// A state would make more than 4,194,304 states.
@@ -53,6 +55,8 @@ pub enum PrintFault {
     /// It is to be printed as an acceptor, and this arc is the first, by state and then by place, with two
     /// different labels. Both numbers count from 0.
     NotAcceptor { state: u32, place: u32 },
+    /// This label, the first in the order of printing, has no name in the symbol table of its side.
+    UnknownSymbol { label: u32 },
     /// There is no memory.
     Memory,
 }

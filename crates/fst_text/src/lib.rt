@@ -14,7 +14,7 @@ mod printing;
 
 pub use compiling::compile;
 pub use fault::{PrintFault, TextFault};
-pub use laws::{printed_machine_compiles_back, printed_weight_reads_again};
+pub use laws::printed_machine_compiles_back;
 pub use options::TextOptions;
 pub use printing::print;
 

@@ -1,25 +1,26 @@
 //! Where the state of each written number stands.
 
-ghost use Rattle.std.specs.Prelude.{◌≡◌, ◌<◌, ℕ, None, Some, OnOk, length, nat_eq};
+ghost use Rattle.std.specs.Prelude.{◌≡◌, ◌<◌, ℕ, None, Some, OnOk, length};
 ghost use Rattle.std.specs.Option.{ForSome};
-ghost use Rattle.std.specs.HashMap.{get};
 ghost use Rattle.fst_text.specs.Slots.{found_among};
 
+use flat_table::FlatTable;
 use std::alloc::{AllocError, Global};
-use std::collections::HashMap;
+
+mod flat_table;
 
 /// The slot of a number that is not known.
 const ABSENT: u32 = u32::MAX;
 
-/// The places of the numbers that are known: those below a bound in a table by number, the others in a hash map.
+/// The places of the numbers that are known: those below a bound in a table by number, the others in a table of slots.
 #[derive(Drop)]
 pub struct Places {
     bound: usize,
     dense: Vec<u32>,
-    sparse: HashMap<u64, u32>,
+    sparse: FlatTable,
     // The source of the line before, since the arcs of a state mostly come one after another.
     recent: Option<(u64, u32)>,
-    ghost remembered: { ForSome recent (λ r. found_among bound dense.items (get nat_eq sparse) r.0 ≡ Some r.1) },
+    ghost remembered: { ForSome recent (λ r. found_among bound dense.items sparse.slots.items r.0 ≡ Some r.1) },
 }
 
 impl Places {
@@ -32,7 +33,7 @@ impl Places {
         Places {
             bound,
             dense: Vec::new(alloc),
-            sparse: HashMap::new(alloc),
+            sparse: FlatTable::new(alloc),
             recent: None,
         }
     }
@@ -42,7 +43,7 @@ impl Places {
         ensures { result ≡ found_in self.now number }
     {
         if number >= self.bound as u64 {
-            return self.sparse.get(&number).copied();
+            return self.sparse.find(number);
         }
         match self.dense.get(number as usize) {
             Some(place) => { if *place == ABSENT { None } else { Some(*place) } }
@@ -92,10 +93,8 @@ impl Places {
         ensures { OnOk result ((n : ℕ) → found_in self.new n ≡ with_place (found_in self.old) number place n) }
     {
         if number >= self.bound as u64 {
-            return match self.sparse.insert(number, place) {
-                Ok(_) => Ok(()),
-                Err(_) => Err(AllocError),
-            };
+            self.sparse.add(number, place)?;
+            return Ok(());
         }
         self.grow(number as usize)?;
         self.dense[number as usize] = place;

@@ -2,14 +2,16 @@
 
 ghost use Rattle.std.specs.Prelude.{◌≡◌, ◌<◌, ◌≤◌, ◌==◌, ◌∷◌, ◌++◌, if◌then◌else◌, [], length, map, None, Some, IfOk, OnOk};
 ghost use Rattle.std.specs.Fmt.{decimal};
+ghost use Rattle.std.specs.Option.{option_map};
 ghost use Rattle.fst_machine.specs.Machine.{most_arcs, valued, valued_arc, valued_state};
 ghost use Rattle.fst_text.specs.Entries.{arc_entry};
-ghost use Rattle.fst_text.specs.Printed.{Prints, behind_tabs, entries_at, final_entries, is_one, label_fields, other_entries, split_arc, split_state, text_of_entries, text_of_machine, weight_fields};
+ghost use Rattle.fst_text.specs.Printed.{Names, Prints, behind_tabs, entries_at, field_of_label, final_entries, first_unnamed, is_one, label_fields, labels_of_arc, other_entries, split_arc, split_state, text_of_entries, text_of_machine, unnamed_label, weight_fields};
 
 use crate::fault::PrintFault;
 use crate::options::TextOptions;
 use fst_machine::{Fst, FstArc};
 use fst_semiring::Weight;
+use fst_symbols::SymbolTable;
 use itoa::Buffer;
 use std::alloc::{AllocError, Global};
 
@@ -43,18 +45,47 @@ fn push_number_field(out: &mut Vec<u8>, number: u32) -> Result<(), AllocError>
     push_number(out, number)
 }
 
-/// Appends the field of a weight, where it is not left out.
+/// Appends a field that is a name.
+fn push_name_field(out: &mut Vec<u8>, name: &[u8]) -> Result<(), AllocError>
+    ensures { OnOk result (out.new.items ≡ out.old.items ++ behind_tabs (name.now ∷ [])) }
+{
+    out.push(b'\t')?;
+    out.extend_from_slice(name)
+}
+
+/// Appends the field of a weight, where it is not left out, and the end of its line.
 fn push_weight<W: Weight>(
     out: &mut Vec<u8>,
     options: &TextOptions,
     weight: W,
 ) -> Result<(), AllocError>
-    ensures { OnOk result (out.new.items ≡ out.old.items ++ behind_tabs (weight_fields W.KIND options.now (W.value weight))) }
+    ensures { OnOk result (out.new.items ≡ out.old.items ++ behind_tabs (weight_fields W.KIND options.now (W.value weight)) ++ 10 ∷ []) }
 {
     if options.show_weight_one || !is_one::<W>(weight) {
         out.push(b'\t')?;
-        return weight.push_text(out);
+        weight.push_text(out)?;
     }
+    out.push(b'\n')?;
+    Ok(())
+}
+
+/// Appends the field of a label: its name where its side has a symbol table, else its number.
+fn push_label(
+    out: &mut Vec<u8>,
+    symbols: Option<&SymbolTable>,
+    label: u32,
+) -> Result<(), PrintFault>
+    ensures text { OnOk result (out.new.items ≡ out.old.items ++ behind_tabs (field_of_label (record { symbols = option_map (λ t. t.now) symbols.entry; number = label }) ∷ [])) }
+    ensures named { Names result (first_unnamed (record { symbols = option_map (λ t. t.now) symbols.entry; number = label } ∷ [])) }
+{
+    let Some(symbols) = symbols else {
+        push_number_field(out, label)?;
+        return Ok(());
+    };
+    let Some(name) = symbols.name(label) else {
+        return Err(PrintFault::UnknownSymbol { label });
+    };
+    push_name_field(out, name)?;
     Ok(())
 }
 
@@ -63,12 +94,13 @@ fn push_labels<W: Weight>(
     out: &mut Vec<u8>,
     options: &TextOptions,
     arc: &FstArc<W>,
-) -> Result<(), AllocError>
-    ensures { OnOk result (out.new.items ≡ out.old.items ++ behind_tabs (label_fields options.now (valued_arc W.value arc.now))) }
+) -> Result<(), PrintFault>
+    ensures text { OnOk result (out.new.items ≡ out.old.items ++ behind_tabs (label_fields options.now (valued_arc W.value arc.now))) }
+    ensures named { Names result (first_unnamed (labels_of_arc options.now (valued_arc W.value arc.now))) }
 {
-    push_number_field(out, arc.ilabel)?;
+    push_label(out, options.isymbols, arc.ilabel)?;
     if !options.acceptor {
-        push_number_field(out, arc.olabel)?;
+        push_label(out, options.osymbols, arc.olabel)?;
     }
     Ok(())
 }
@@ -79,14 +111,14 @@ fn push_arc<W: Weight>(
     options: &TextOptions,
     state: u32,
     arc: &FstArc<W>,
-) -> Result<(), AllocError>
-    ensures { OnOk result (out.new.items ≡ out.old.items ++ text_of_entries W.KIND options.now (arc_entry state (valued_arc W.value arc.now) ∷ [])) }
+) -> Result<(), PrintFault>
+    ensures text { OnOk result (out.new.items ≡ out.old.items ++ text_of_entries W.KIND options.now (arc_entry state (valued_arc W.value arc.now) ∷ [])) }
+    ensures named { Names result (first_unnamed (labels_of_arc options.now (valued_arc W.value arc.now))) }
 {
     push_number(out, state)?;
     push_number_field(out, arc.next)?;
     push_labels::<W>(out, options, arc)?;
     push_weight::<W>(out, options, arc.weight)?;
-    out.push(b'\n')?;
     Ok(())
 }
 
@@ -96,8 +128,9 @@ fn push_arcs<W: Weight>(
     options: &TextOptions,
     state: u32,
     arcs: &[FstArc<W>],
-) -> Result<(), AllocError>
-    ensures { OnOk result (out.new.items ≡ out.old.items ++ text_of_entries W.KIND options.now (map (arc_entry state) (map (valued_arc W.value) arcs.now))) }
+) -> Result<(), PrintFault>
+    ensures text { OnOk result (out.new.items ≡ out.old.items ++ text_of_entries W.KIND options.now (map (arc_entry state) (map (valued_arc W.value) arcs.now))) }
+    ensures named { Names result (unnamed_label options.now (map (arc_entry state) (map (valued_arc W.value) arcs.now))) }
 {
     for arc in arcs {
         push_arc::<W>(out, options, state, arc)?;
@@ -119,9 +152,7 @@ fn push_final<W: Weight>(
         return Ok(());
     }
     push_number(out, state)?;
-    push_weight::<W>(out, options, weight)?;
-    out.push(b'\n')?;
-    Ok(())
+    push_weight::<W>(out, options, weight)
 }
 
 /// Appends the lines of a state.
@@ -130,9 +161,10 @@ fn push_state<W: Weight>(
     options: &TextOptions,
     fst: &Fst<W>,
     state: u32,
-) -> Result<(), AllocError>
+) -> Result<(), PrintFault>
     requires { state < length fst.now.states }
-    ensures { OnOk result (out.new.items ≡ out.old.items ++ text_of_entries W.KIND options.now (entries_at state (map (valued_state W.value) fst.now.states))) }
+    ensures text { OnOk result (out.new.items ≡ out.old.items ++ text_of_entries W.KIND options.now (entries_at state (map (valued_state W.value) fst.now.states))) }
+    ensures named { Names result (unnamed_label options.now (entries_at state (map (valued_state W.value) fst.now.states))) }
 {
     let arcs = fst.arcs(state);
     push_arcs::<W>(out, options, state, arcs)?;
@@ -147,9 +179,10 @@ fn push_other<W: Weight>(
     fst: &Fst<W>,
     start: u32,
     state: u32,
-) -> Result<(), AllocError>
+) -> Result<(), PrintFault>
     requires { state < length fst.now.states }
-    ensures { OnOk result (out.new.items ≡ out.old.items ++ text_of_entries W.KIND options.now (if state == start then [] else entries_at state (map (valued_state W.value) fst.now.states))) }
+    ensures text { OnOk result (out.new.items ≡ out.old.items ++ text_of_entries W.KIND options.now (if state == start then [] else entries_at state (map (valued_state W.value) fst.now.states))) }
+    ensures named { Names result (unnamed_label options.now (if state == start then [] else entries_at state (map (valued_state W.value) fst.now.states))) }
 {
     if state == start {
         return Ok(());
@@ -163,8 +196,9 @@ fn push_others<W: Weight>(
     options: &TextOptions,
     fst: &Fst<W>,
     start: u32,
-) -> Result<(), AllocError>
-    ensures { OnOk result (out.new.items ≡ out.old.items ++ text_of_entries W.KIND options.now (other_entries start 0 (map (valued_state W.value) fst.now.states))) }
+) -> Result<(), PrintFault>
+    ensures text { OnOk result (out.new.items ≡ out.old.items ++ text_of_entries W.KIND options.now (other_entries start 0 (map (valued_state W.value) fst.now.states))) }
+    ensures named { Names result (unnamed_label options.now (other_entries start 0 (map (valued_state W.value) fst.now.states))) }
 {
     for state in 0..fst.states() {
         push_other::<W>(out, options, fst, start, state)?;
@@ -212,9 +246,10 @@ fn print_from<W: Weight>(
     fst: &Fst<W>,
     options: &TextOptions,
     start: u32,
-) -> Result<Vec<u8>, AllocError>
+) -> Result<Vec<u8>, PrintFault>
     requires { start < length fst.now.states }
-    ensures { IfOk result (λ text. text.items ≡ text_of_entries W.KIND options.now (entries_at start (map (valued_state W.value) fst.now.states) ++ other_entries start 0 (map (valued_state W.value) fst.now.states))) }
+    ensures text { IfOk result (λ text. text.items ≡ text_of_entries W.KIND options.now (entries_at start (map (valued_state W.value) fst.now.states) ++ other_entries start 0 (map (valued_state W.value) fst.now.states))) }
+    ensures named { Names result (unnamed_label options.now (entries_at start (map (valued_state W.value) fst.now.states) ++ other_entries start 0 (map (valued_state W.value) fst.now.states))) }
 {
     let mut out = Vec::with_capacity(alloc, room::<W>(fst))?;
     push_state::<W>(&mut out, options, fst, start)?;
@@ -224,9 +259,13 @@ fn print_from<W: Weight>(
 
 /// The text of a machine: the lines of the start, then those of the other states by number. A state's lines
 /// are its arcs in order, then a final line where it is final; a state with no arcs that is not final has a
-/// final line with weight Zero. Fields are joined by one tab, and a line feed ends each line. A weight One
-/// is left out unless it is to be shown. A machine without a start has the empty text. `NotAcceptor` exactly
-/// where it is to be printed as an acceptor and an arc of any state has two different labels.
+/// final line with weight Zero. Fields are joined by one tab, and a line feed ends each line. A label is
+/// printed as its name where its side has a symbol table. A weight One is left out unless it is to be shown.
+/// A machine without a start has the empty text.
+///
+/// `NotAcceptor` exactly where it is to be printed as an acceptor and an arc of any state has two different
+/// labels; else `UnknownSymbol` exactly where a label that is to be printed has no name in the table of its
+/// side.
 pub fn print<W: Weight>(
     alloc: Global,
     fst: &Fst<W>,
@@ -244,6 +283,6 @@ pub fn print<W: Weight>(
     };
     match print_from::<W>(alloc, fst, options, start) {
         Ok(text) => Ok(text),
-        Err(_) => Err(PrintFault::Memory),
+        Err(fault) => Err(fault),
     }
 }

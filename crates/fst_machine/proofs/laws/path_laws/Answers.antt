@@ -1,4 +1,4 @@
-use Rattle.fst_machine.proofs.Letters.{input-append, output-append, label_word-append, product-append, input-turned, output-turned, product-turned}
+use Rattle.fst_machine.proofs.Letters.{input-append, output-append, label_word-append, product-append, input-turned, output-turned, product-turned, IsCost-product, Within-product}
 use Rattle.fst_machine.proofs.PathParts.{IsPath-append, IsPath-split, walk_of_path, path_of_walk, same_path}
 use Rattle.fst_machine.proofs.Futures.{RelFrom_is, RelFrom-epsilon}
 use Rattle.fst_machine.proofs.laws.path_laws.Goals as goal
@@ -12,6 +12,8 @@ returns-clause-letters g c = λ kind. record {
   input_turned = input-turned;
   output_turned = output-turned;
   product_turned = product-turned kind;
+  product_kind = IsCost-product kind;
+  product_within = Within-product kind;
 }
 
 pub returns-clause-paths : goal.returns-clause-paths

@@ -1,12 +1,12 @@
-use Rattle.std.proofs.Common.{ap, ◌∙◌, cond, Some, ◌==◌, arith, nat_eq}
-use Rattle.std.specs.HashMap.{get}
+use Rattle.std.proofs.Common.{ap, ◌∙◌, cond, Some, ◌==◌, arith}
 use Rattle.fst_text.specs.Building.{found_in}
+use Rattle.fst_text.specs.Slots.{placed_in}
 use Rattle.fst_text.proofs.Slots.{slot-kept, slot-set}
 use Rattle.fst_text.proofs.places.Places.add.Goals as goal
 
 pub returns : goal.returns
 returns c = λ n.
-    slot-set c.grow.new.self.dense.items c.grow.new.self.bound c.args.number c.args.place n (get nat_eq c.grow.new.self.sparse n) (omega (arith, c.in_ok-grow.ensures.ok)) (omega arith) (omega arith)
+    slot-set c.grow.new.self.dense.items c.grow.new.self.bound c.args.number c.args.place n (placed_in c.grow.new.self.sparse.slots.items n) (omega (arith, c.in_ok-grow.ensures.ok)) (omega arith) (omega arith)
     ∙ ap (cond (n == c.args.number) (Some c.args.place)) (c.grow.ensures.same n)
 
 pub invariant_of-self-2 : goal.invariant_of-self-2
@@ -14,6 +14,6 @@ invariant_of-self-2 c =
     let grown = c.grow.new.self in
     record {
       remembered = λ x e.
-          slot-set grown.dense.items grown.bound c.args.number c.args.place x.0 (get nat_eq grown.sparse x.0) (omega (arith, c.in_ok-grow.ensures.ok)) (omega arith) (omega arith)
+          slot-set grown.dense.items grown.bound c.args.number c.args.place x.0 (placed_in grown.sparse.slots.items x.0) (omega (arith, c.in_ok-grow.ensures.ok)) (omega arith) (omega arith)
           ∙ slot-kept (found_in grown) c.args.number x.0 c.args.place x.1 (c.grow.ensures.same c.args.number ∙ c.requires.absent) (grown.remembered x e);
     }

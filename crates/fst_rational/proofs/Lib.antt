@@ -1,0 +1,12 @@
+pub mod States
+pub mod Labelling
+pub mod Reading
+pub mod Blocks
+pub mod Sizes
+pub mod Putting
+pub mod Uniting
+pub mod Continued
+pub mod Concatenating
+pub mod Closing
+pub mod Reversing
+pub mod Backing

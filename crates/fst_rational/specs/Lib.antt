@@ -1,0 +1,7 @@
+pub mod Changing
+pub mod Labels
+pub mod Pairs
+pub mod Constructions
+pub mod Backing
+pub mod Limits
+pub mod Relations

@@ -1,0 +1,140 @@
+//! Closure: star and plus.
+
+ghost use Rattle.std.specs.Prelude.{◌≡◌, ◌≤◌, IfOk, false, length, true};
+ghost use Rattle.fst_semiring.specs.Semiring.{one_of};
+ghost use Rattle.fst_machine.specs.Machine.{IsMachine, arc_total, most_arcs, most_states, valued};
+ghost use Rattle.fst_rational.specs.Constructions.{closure_of, plus_of, star_of};
+ghost use Rattle.fst_rational.specs.Limits.{IsLimited};
+ghost use Rattle.fst_rational.specs.Relations.{Closes};
+
+use crate::change::{Carrying, count_onward, put_entry, put_states};
+use crate::fault::RationalFault;
+use crate::size::{check_size, entries};
+use fst_machine::{Fst, StateList};
+use fst_semiring::Weight;
+use std::alloc::{AllocError, Global};
+
+/// How many states and arcs a star has, and with it what holds of the operand.
+fn star_size<W: Weight>(a: &Fst<W>) -> (u32, u32)
+    ensures operand { IsMachine W.value a.now }
+    ensures states { result.0 ≡ length (star_of W.KIND (valued W.value a.now)).states }
+    ensures arcs { result.1 ≡ arc_total (star_of W.KIND (valued W.value a.now)).states }
+{
+    let states = a.states();
+    let arcs = a.arc_count() + count_onward(a, Some(0)) + entries(a.start());
+    (states + 1, arcs)
+}
+
+/// How many states and arcs a plus has, and with it what holds of the operand.
+fn plus_size<W: Weight>(a: &Fst<W>) -> (u32, u32)
+    ensures operand { IsMachine W.value a.now }
+    ensures states { result.0 ≡ length (plus_of (valued W.value a.now)).states }
+    ensures arcs { result.1 ≡ arc_total (plus_of (valued W.value a.now)).states }
+{
+    let states = a.states();
+    let arcs = a.arc_count() + count_onward(a, a.start());
+    (states, arcs)
+}
+
+/// The final weight of the new start of a star: One, which is the product of no triples.
+fn weight_of_none<W: Weight>() -> W
+    ensures { W.value result ≡ one_of W.KIND }
+{
+    W::one()
+}
+
+/// The star, which is not too big; so many states and arcs are reserved.
+fn build_star<W: Weight>(
+    alloc: Global,
+    a: &Fst<W>,
+    states: u32,
+    arcs: u32,
+) -> Result<Fst<W>, AllocError>
+    requires states { length (star_of W.KIND (valued W.value a.now)).states ≤ most_states }
+    requires arcs { arc_total (star_of W.KIND (valued W.value a.now)).states ≤ most_arcs }
+    ensures { IfOk result (λ m. valued W.value m ≡ star_of W.KIND (valued W.value a.now)) }
+{
+    let _states = a.states();
+    let mut list = StateList::with_capacity(alloc, states as usize, arcs as usize)?;
+    let mut own = Vec::new(alloc);
+    put_entry(&mut own, 1, a.start())?;
+    list.push(weight_of_none(), &own)?;
+    let round = Carrying {
+        shift: 1,
+        keeps: false,
+        target: Some(0),
+    };
+    put_states(&mut list, &mut own, &round, a)?;
+    Ok(list.into_machine(Some(0)))
+}
+
+/// The plus, which is not too big; so many states and arcs are reserved.
+fn build_plus<W: Weight>(
+    alloc: Global,
+    a: &Fst<W>,
+    states: u32,
+    arcs: u32,
+) -> Result<Fst<W>, AllocError>
+    requires states { length (plus_of (valued W.value a.now)).states ≤ most_states }
+    requires arcs { arc_total (plus_of (valued W.value a.now)).states ≤ most_arcs }
+    ensures { IfOk result (λ m. valued W.value m ≡ plus_of (valued W.value a.now)) }
+{
+    let _states = a.states();
+    let mut list = StateList::with_capacity(alloc, states as usize, arcs as usize)?;
+    let mut own = Vec::new(alloc);
+    let round = Carrying {
+        shift: 0,
+        keeps: true,
+        target: a.start(),
+    };
+    put_states(&mut list, &mut own, &round, a)?;
+    Ok(list.into_machine(a.start()))
+}
+
+/// The star of a machine, unless it is too big.
+fn close_star<W: Weight>(alloc: Global, a: &Fst<W>) -> Result<Fst<W>, RationalFault>
+    ensures limits { IsLimited (star_of W.KIND (valued W.value a.now)) result }
+    ensures machine { IfOk result (λ m. valued W.value m ≡ star_of W.KIND (valued W.value a.now)) }
+    ensures relation { IfOk result (λ m. Closes W.KIND false (valued W.value a.now) (valued W.value m)) }
+{
+    let (states, arcs) = star_size(a);
+    if let Some(fault) = check_size(states, arcs) {
+        return Err(fault);
+    }
+    match build_star(alloc, a, states, arcs) {
+        Ok(closed) => Ok(closed),
+        Err(_) => Err(RationalFault::Memory),
+    }
+}
+
+/// The plus of a machine, unless it is too big.
+fn close_plus<W: Weight>(alloc: Global, a: &Fst<W>) -> Result<Fst<W>, RationalFault>
+    ensures limits { IsLimited (plus_of (valued W.value a.now)) result }
+    ensures machine { IfOk result (λ m. valued W.value m ≡ plus_of (valued W.value a.now)) }
+    ensures relation { IfOk result (λ m. Closes W.KIND true (valued W.value a.now) (valued W.value m)) }
+{
+    let (states, arcs) = plus_size(a);
+    if let Some(fault) = check_size(states, arcs) {
+        return Err(fault);
+    }
+    match build_plus(alloc, a, states, arcs) {
+        Ok(closed) => Ok(closed),
+        Err(_) => Err(RationalFault::Memory),
+    }
+}
+
+/// The closure of a machine. Star: a new start, final with weight One, with an epsilon arc of weight One to the
+/// start of the machine, if it has one; then its states, which are not final and go on from each final weight by
+/// an epsilon arc with this weight to the new start. Plus: its states, which stay final and go on so to its
+/// start. (Mohri 2009, section 3.1.) A closure that is too big is refused before anything of it is made.
+pub fn closure<W: Weight>(alloc: Global, a: &Fst<W>, plus: bool) -> Result<Fst<W>, RationalFault>
+    ensures limits { IsLimited (closure_of W.KIND plus (valued W.value a.now)) result }
+    ensures machine { IfOk result (λ m. valued W.value m ≡ closure_of W.KIND plus (valued W.value a.now)) }
+    ensures relation { IfOk result (λ m. Closes W.KIND plus (valued W.value a.now) (valued W.value m)) }
+{
+    if plus {
+        close_plus(alloc, a)
+    } else {
+        close_star(alloc, a)
+    }
+}

@@ -1,0 +1,88 @@
+//! Concatenation.
+
+ghost use Rattle.std.specs.Prelude.{◌≡◌, ◌+◌, ◌<◌, ◌≤◌, IfOk, IfSome, length};
+ghost use Rattle.std.specs.Option.{option_map};
+ghost use Rattle.fst_machine.specs.Machine.{IsMachine, arc_total, most_arcs, most_states, valued};
+ghost use Rattle.fst_rational.specs.Constructions.{concat_of};
+ghost use Rattle.fst_rational.specs.Limits.{IsLimited};
+ghost use Rattle.fst_rational.specs.Relations.{Concatenates};
+
+use crate::change::{Carrying, count_onward, put_states};
+use crate::fault::RationalFault;
+use crate::size::check_size;
+use fst_machine::{Fst, StateList};
+use fst_semiring::Weight;
+use std::alloc::{AllocError, Global};
+
+/// Where a start stands so many places further on.
+fn shifted(shift: u32, start: Option<u32>) -> Option<u32>
+    requires { IfSome start (λ s. shift + s < 4294967296) }
+    ensures { result ≡ option_map (λ s. shift + s) start }
+{
+    match start {
+        Some(start) => Some(shift + start),
+        None => None,
+    }
+}
+
+/// How many states and arcs a concatenation has, and with it what holds of the operands.
+fn size<W: Weight>(a: &Fst<W>, b: &Fst<W>) -> (u32, u32)
+    ensures operands { IsMachine W.value a.now × IsMachine W.value b.now }
+    ensures states { result.0 ≡ length (concat_of (valued W.value a.now) (valued W.value b.now)).states }
+    ensures arcs { result.1 ≡ arc_total (concat_of (valued W.value a.now) (valued W.value b.now)).states }
+{
+    let front = a.states();
+    let back = b.states();
+    let target = shifted(front, b.start());
+    let arcs = a.arc_count() + count_onward(a, target) + b.arc_count();
+    (front + back, arcs)
+}
+
+/// The concatenation, which is not too big; so many states and arcs are reserved.
+fn build<W: Weight>(
+    alloc: Global,
+    a: &Fst<W>,
+    b: &Fst<W>,
+    states: u32,
+    arcs: u32,
+) -> Result<Fst<W>, AllocError>
+    requires states { length (concat_of (valued W.value a.now) (valued W.value b.now)).states ≤ most_states }
+    requires arcs { arc_total (concat_of (valued W.value a.now) (valued W.value b.now)).states ≤ most_arcs }
+    ensures { IfOk result (λ m. valued W.value m ≡ concat_of (valued W.value a.now) (valued W.value b.now)) }
+{
+    let behind = a.states();
+    let _back = b.states();
+    let mut list = StateList::with_capacity(alloc, states as usize, arcs as usize)?;
+    let mut own = Vec::new(alloc);
+    let first = Carrying {
+        shift: 0,
+        keeps: false,
+        target: shifted(behind, b.start()),
+    };
+    put_states(&mut list, &mut own, &first, a)?;
+    let second = Carrying {
+        shift: behind,
+        keeps: true,
+        target: None,
+    };
+    put_states(&mut list, &mut own, &second, b)?;
+    Ok(list.into_machine(a.start()))
+}
+
+/// The concatenation of two machines: the states of the first, which are not final and go on from each final
+/// weight by an epsilon arc with this weight to the start of the second, if it has one; then the states of the
+/// second. (Mohri 2009, section 3.1.) A concatenation that is too big is refused before anything of it is made.
+pub fn concat<W: Weight>(alloc: Global, a: &Fst<W>, b: &Fst<W>) -> Result<Fst<W>, RationalFault>
+    ensures limits { IsLimited (concat_of (valued W.value a.now) (valued W.value b.now)) result }
+    ensures machine { IfOk result (λ m. valued W.value m ≡ concat_of (valued W.value a.now) (valued W.value b.now)) }
+    ensures relation { IfOk result (λ m. Concatenates W.KIND (valued W.value a.now) (valued W.value b.now) (valued W.value m)) }
+{
+    let (states, arcs) = size(a, b);
+    if let Some(fault) = check_size(states, arcs) {
+        return Err(fault);
+    }
+    match build(alloc, a, b, states, arcs) {
+        Ok(joined) => Ok(joined),
+        Err(_) => Err(RationalFault::Memory),
+    }
+}

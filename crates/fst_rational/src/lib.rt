@@ -1,0 +1,26 @@
+//! The rational operations on weighted machines, and operations that change labels.
+//!
+//! Each result is the machine of the construction, state by state and arc by arc, and its contract says what
+//! relation it makes of those of the operands. (Mohri 2009, section 3.1.)
+#![tactic(auto)]
+
+mod change;
+mod close;
+mod concatenate;
+mod fault;
+mod labels;
+mod pairs;
+mod reversal;
+mod size;
+mod unite;
+
+pub use close::closure;
+pub use concatenate::concat;
+pub use fault::RationalFault;
+pub use labels::{invert, project, relabel};
+pub use pairs::{Pairs, PairsFault, read_pairs};
+pub use reversal::reverse;
+pub use unite::union;
+
+#[cfg(test)]
+mod tests;

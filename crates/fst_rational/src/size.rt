@@ -1,0 +1,27 @@
+//! The size of a result.
+
+ghost use Rattle.std.specs.Prelude.{◌≡◌};
+ghost use Rattle.fst_rational.specs.Limits.{size_fault, start_count};
+
+use crate::fault::RationalFault;
+use fst_machine::{MOST_ARCS, MOST_STATES};
+
+/// Why a machine with so many states and arcs is not made, if it is too big.
+pub(crate) fn check_size(states: u32, arcs: u32) -> Option<RationalFault>
+    ensures { result ≡ size_fault states arcs }
+{
+    if states as usize > MOST_STATES {
+        return Some(RationalFault::TooManyStates);
+    }
+    if arcs > MOST_ARCS {
+        return Some(RationalFault::TooManyArcs);
+    }
+    None
+}
+
+/// How many arcs enter a machine with this start.
+pub(crate) fn entries(start: Option<u32>) -> u32
+    ensures { result ≡ start_count start }
+{
+    if start.is_some() { 1 } else { 0 }
+}

@@ -1,0 +1,106 @@
+//! A symbol table.
+
+ghost use Rattle.std.specs.Prelude.{◌≡◌, ◌+◌, ◌/◌, min, IfOk, length};
+ghost use Rattle.std.specs.List.{count_by};
+ghost use Rattle.std.specs.Option.{option_map};
+ghost use Rattle.fst_fields.specs.Lines.{is_line_end};
+ghost use Rattle.fst_symbols.specs.Symbols.{IsTable, name_of, number_of};
+ghost use Rattle.fst_symbols.specs.Reading.{Gives, table_of_text};
+ghost use Rattle.fst_symbols.specs.Kept.{IsKept, symbols_in};
+
+use crate::fault::SymbolsFault;
+use crate::rows::Rows;
+use fst_fields::next_line;
+use std::alloc::Global;
+use std::marker::Model;
+
+/// The names of labels, seen as a list of symbols in the order of their lines. No two symbols have one name
+/// or one number; a name is not empty, and has no space, tab, carriage return or line feed.
+#[derive(Drop)]
+pub struct SymbolTable {
+    rows: Rows,
+}
+
+impl Model for SymbolTable {
+    ghost use Rattle.std.specs.Prelude.{List};
+    ghost use Rattle.fst_symbols.specs.Symbols.{Symbol};
+
+    ghost Value = { List Symbol };
+
+    ghost use Rattle.fst_symbols.specs.Kept.{IsKept, symbols_in};
+
+    ghost view = { λ t. symbols_in t.rows };
+
+    ghost invariant = { λ t. IsKept t.rows };
+}
+
+impl SymbolTable {
+    /// The table of a text: each line that is not blank has a symbol and its number, a label number. (OpenFst
+    /// Quick Tour, "Creating FSTs".) Takes time by the text, and memory by its lines. A fault is the first
+    /// one of the first faulty line; `Memory` where memory runs out.
+    pub fn read(alloc: Global, bytes: &[u8]) -> Result<SymbolTable, SymbolsFault>
+        ensures read { Gives (λ t. t) result (table_of_text bytes.now) }
+        ensures table { IfOk result IsTable }
+    {
+        match read_rows(alloc, bytes) {
+            Ok(rows) => Ok(SymbolTable { rows }),
+            Err(fault) => Err(fault),
+        }
+    }
+
+    /// The number of a name; `None` exactly where no symbol has it. Takes no memory, and time by the name.
+    pub fn find(&self, name: &[u8]) -> Option<u32>
+        ensures number { result ≡ number_of self.now name.now }
+        ensures table { IsTable self.now }
+    {
+        self.rows.find(name)
+    }
+
+    /// The name of a label; `None` exactly where no symbol has its number. Takes no memory, and time that
+    /// does not grow with the table.
+    pub fn name(&self, label: u32) -> Option<&[u8]>
+        ensures name { option_map (λ name. name.now) result ≡ name_of self.now label }
+        ensures table { IsTable self.now }
+    {
+        self.rows.name(label)
+    }
+}
+
+/// How many line ends a text has.
+fn line_ends(bytes: &[u8]) -> usize
+    ensures { result ≡ count_by is_line_end bytes.now }
+{
+    let mut ends = 0;
+    for c in bytes {
+        if *c == b'\n' {
+            ends += 1;
+        }
+    }
+    ends
+}
+
+/// How many symbols a text has at most. A line has one at most, and takes four bytes then with its end.
+fn most_rows(bytes: &[u8]) -> usize
+    ensures { result ≡ min (count_by is_line_end bytes.now) (length bytes.now / 4) + 1 }
+{
+    line_ends(bytes).min(bytes.len() / 4) + 1
+}
+
+/// The rows of a text.
+fn read_rows(alloc: Global, bytes: &[u8]) -> Result<Rows, SymbolsFault>
+    ensures read { Gives symbols_in result (table_of_text bytes.now) }
+    ensures kept { IfOk result IsKept }
+{
+    let mut rows = Rows::with_room(alloc, most_rows(bytes))?;
+    let mut rest = bytes;
+    let mut line: u64 = 0;
+    while let Some((first, behind)) = next_line(rest) {
+        line += 1;
+        match rows.line(alloc, line, first) {
+            Ok(()) => {}
+            Err(fault) => return Err(fault),
+        }
+        rest = behind;
+    }
+    Ok(rows)
+}

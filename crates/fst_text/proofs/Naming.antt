@@ -1,0 +1,64 @@
+-- Labels that are printed, and the first of them without a name.
+use Rattle.std.proofs.Common.{◌≡◌, ℕ, List, [], ◌∷◌, ◌++◌, Option, Some, None, refl, sym, ap, ◌∙◌, subst}
+use Rattle.std.specs.List.{AllByRecursion, flat_map}
+use Rattle.std.proofs.lemmas.Grind.{flat_map-append}
+use Rattle.fst_text.specs.declared.fault.PrintFault.{PrintFault}
+use Rattle.fst_text.specs.declared.fault.PrintFault.TheVariants.{NotAcceptor, UnknownSymbol, Memory}
+use Rattle.fst_text.specs.Options.{Options}
+use Rattle.fst_text.specs.Entries.{Entry}
+use Rattle.fst_text.specs.Printed.{Label, LacksName, first_unnamed, labels_of_entry, text_of_label, unnamed_label}
+
+-- where all of the first labels have names, the others are asked
+pub unnamed-behind : (xs ys : List Label) → first_unnamed xs ≡ None → first_unnamed (xs ++ ys) ≡ first_unnamed ys
+unnamed-behind [] ys h = refl
+unnamed-behind (x ∷ xs) ys h = go (text_of_label x) h (unnamed-behind xs ys) where
+  go : (o : Option (List ℕ)) → ◌≡◌ {A = Option ℕ} (elim o [ None ↦ Some x.number | Some text ↦ first_unnamed xs ]) None → (first_unnamed xs ≡ None → first_unnamed (xs ++ ys) ≡ first_unnamed ys) → ◌≡◌ {A = Option ℕ} (elim o [ None ↦ Some x.number | Some text ↦ first_unnamed (xs ++ ys) ]) (first_unnamed ys)
+  go None e more = absurd (cc)
+  go (Some text) e more = more e
+
+-- where one of the first labels has none, it is found
+unnamed-front : (xs ys : List Label) (n : ℕ) → first_unnamed xs ≡ Some n → first_unnamed (xs ++ ys) ≡ Some n
+unnamed-front [] ys n h = absurd (cc)
+unnamed-front (x ∷ xs) ys n h = go (text_of_label x) h (unnamed-front xs ys n) where
+  go : (o : Option (List ℕ)) → ◌≡◌ {A = Option ℕ} (elim o [ None ↦ Some x.number | Some text ↦ first_unnamed xs ]) (Some n) → (first_unnamed xs ≡ Some n → first_unnamed (xs ++ ys) ≡ Some n) → ◌≡◌ {A = Option ℕ} (elim o [ None ↦ Some x.number | Some text ↦ first_unnamed (xs ++ ys) ]) (Some n)
+  go None e more = e
+  go (Some text) e more = more e
+
+-- where all labels have names, the first ones have, and the others
+pub unnamed-both : (xs ys : List Label) → first_unnamed (xs ++ ys) ≡ None → (first_unnamed xs ≡ None) × (first_unnamed ys ≡ None)
+unnamed-both [] ys h = (refl, h)
+unnamed-both (x ∷ xs) ys h = go (text_of_label x) h (unnamed-both xs ys) where
+  go : (o : Option (List ℕ)) → ◌≡◌ {A = Option ℕ} (elim o [ None ↦ Some x.number | Some text ↦ first_unnamed (xs ++ ys) ]) None → (first_unnamed (xs ++ ys) ≡ None → (first_unnamed xs ≡ None) × (first_unnamed ys ≡ None)) → (◌≡◌ {A = Option ℕ} (elim o [ None ↦ Some x.number | Some text ↦ first_unnamed xs ]) None) × (first_unnamed ys ≡ None)
+  go None e more = absurd (cc)
+  go (Some text) e more = more e
+
+-- a fault of the first labels is one of all
+fault-front : (fault : PrintFault) (xs ys : List Label) → LacksName fault (first_unnamed xs) → LacksName fault (first_unnamed (xs ++ ys))
+fault-front Memory xs ys h = tt
+fault-front (UnknownSymbol label) xs ys h = unnamed-front xs ys label h
+fault-front (NotAcceptor state place) xs ys h = h
+
+-- the labels of entries one behind the other
+labels-append : (options : Options) (first second : List Entry) → unnamed_label options (first ++ second) ≡ first_unnamed (flat_map (labels_of_entry options) first ++ flat_map (labels_of_entry options) second)
+labels-append options first second = ap first_unnamed (flat_map-append (labels_of_entry options) first second)
+
+pub entries-behind : (options : Options) (first second : List Entry) → unnamed_label options first ≡ None → unnamed_label options (first ++ second) ≡ unnamed_label options second
+entries-behind options first second h = labels-append options first second ∙ unnamed-behind (flat_map (labels_of_entry options) first) (flat_map (labels_of_entry options) second) h
+
+pub entries-front : (fault : PrintFault) (options : Options) (first second : List Entry) → LacksName fault (unnamed_label options first) → LacksName fault (unnamed_label options (first ++ second))
+entries-front fault options first second h = subst (λ (o : Option ℕ). LacksName fault o) (sym (labels-append options first second)) (fault-front fault (flat_map (labels_of_entry options) first) (flat_map (labels_of_entry options) second) h)
+
+-- a fault of what is found first
+pub fault-as : (fault : PrintFault) (o p : Option ℕ) → o ≡ p → LacksName fault o → LacksName fault p
+fault-as fault o p e h = subst (λ (o : Option ℕ). LacksName fault o) e h
+
+-- a fault of entries behind others that have none
+pub entries-later : (fault : PrintFault) (options : Options) (first second : List Entry) → unnamed_label options first ≡ None → LacksName fault (unnamed_label options second) → LacksName fault (unnamed_label options (first ++ second))
+entries-later fault options first second none h = fault-as fault (unnamed_label options second) (unnamed_label options (first ++ second)) (sym (entries-behind options first second none)) h
+
+-- where no label of entries is without a name, none of any entry is
+pub all-named : (options : Options) (es : List Entry) → unnamed_label options es ≡ None → AllByRecursion (λ e. first_unnamed (labels_of_entry options e) ≡ None) es
+all-named options [] h = tt
+all-named options (e ∷ es) h =
+    let both = unnamed-both (labels_of_entry options e) (flat_map (labels_of_entry options) es) h in
+    (both.0, all-named options es both.1)

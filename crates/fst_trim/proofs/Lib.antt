@@ -1,0 +1,10 @@
+pub mod Places
+pub mod Counting
+pub mod Pairs
+pub mod Looking
+pub mod Backward
+pub mod Marking
+pub mod Trimming
+pub mod Epsilons
+pub mod Alongside
+pub mod Rearranged

@@ -1,0 +1,118 @@
+//! The machine with its useful states alone.
+
+ghost use Rattle.std.specs.Prelude.{◌≡◌, ◌<◌, ◌≤◌, ◌↔◌, ◌++◌, ℕ, All, [], false, length, get_or, slice_get, List, Some, IfSome, IfOk, OnOk};
+ghost use Rattle.std.specs.Bool.{Decides};
+ghost use Rattle.fst_semiring.specs.Cost.{Cost};
+ghost use Rattle.fst_machine.specs.Connected.{IsConnected, IsTrim};
+ghost use Rattle.fst_machine.specs.Cycles.{IsUseful};
+ghost use Rattle.fst_machine.specs.Graph.{graph_of};
+ghost use Rattle.fst_machine.specs.Machine.{IsMachine, valued};
+ghost use Rattle.fst_machine.specs.Relation.{Rel};
+ghost use Rattle.fst_trim.specs.Beside.{SamePaths};
+ghost use Rattle.fst_trim.specs.Renumbered.{IsNumbering, kept_arcs, kept_machine, kept_states, marked, new_start};
+
+use crate::useful::useful;
+use fst_machine::{Fst, FstArc, StateList};
+use fst_semiring::Weight;
+use std::alloc::{AllocError, Global};
+
+/// For each place how many places before it are marked.
+fn numbers_of(alloc: Global, marks: &[bool]) -> Result<Vec<u32>, AllocError>
+    requires { length marks.now ≤ 4294967295 }
+    ensures { IfOk result (λ numbers. IsNumbering marks.now numbers.items) }
+{
+    let mut numbers = Vec::with_capacity(alloc, marks.len())?;
+    let mut count = 0u32;
+    for mark in marks {
+        numbers.push(count)?;
+        count += u32::from(*mark);
+    }
+    Ok(numbers)
+}
+
+/// Puts behind the others those arcs that lead to marked states, by the numbers of these.
+fn keep_arcs<W: Copy>(
+    kept: &mut Vec<FstArc<W>>,
+    arcs: &[FstArc<W>],
+    marks: &[bool],
+    numbers: &[u32],
+) -> Result<(), AllocError>
+    requires marks { All (λ a. a.next < length marks.now) arcs.now }
+    requires numbers { length numbers.now ≡ length marks.now }
+    ensures { OnOk result (kept.new.items ≡ kept.old.items ++ kept_arcs marks.now numbers.now arcs.now) }
+{
+    for arc in arcs {
+        let next = arc.next as usize;
+        if !marks[next] {
+            continue;
+        }
+        kept.push(FstArc {
+            ilabel: arc.ilabel,
+            olabel: arc.olabel,
+            weight: arc.weight,
+            next: numbers[next],
+        })?;
+    }
+    Ok(())
+}
+
+/// The marked states with the arcs between them.
+fn keep_states<W: Weight>(
+    alloc: Global,
+    fst: &Fst<W>,
+    marks: &[bool],
+    numbers: &[u32],
+) -> Result<StateList<W>, AllocError>
+    requires marks { length marks.now ≡ length fst.now.states }
+    requires numbers { length numbers.now ≡ length marks.now }
+    ensures { IfOk result (λ states. states ≡ kept_states marks.now numbers.now 0 fst.now.states) }
+{
+    let mut states = StateList::with_capacity(alloc, marks.len(), fst.arc_count() as usize)?;
+    let mut kept = Vec::new(alloc);
+    for state in 0..fst.states() {
+        if !marks[state as usize] {
+            continue;
+        }
+        kept.clear();
+        keep_arcs(&mut kept, fst.arcs(state), marks, numbers)?;
+        states.push(fst.final_weight(state), kept.as_slice())?;
+    }
+    Ok(states)
+}
+
+/// The number of the start, if it is marked.
+fn number_of_start(start: Option<u32>, marks: &[bool], numbers: &[u32]) -> Option<u32>
+    requires start { IfSome start (λ s. s < length marks.now) }
+    requires numbers { length numbers.now ≡ length marks.now }
+    ensures { result ≡ new_start marks.now numbers.now start }
+{
+    let Some(start) = start else {
+        return None;
+    };
+    if !marks[start as usize] {
+        return None;
+    }
+    Some(numbers[start as usize])
+}
+
+/// The machine with just the states of `a` that some successful path meets, in their order, and the arcs between
+/// them in order. The start stays where it is one of them; where no state stays, there is no start. (OpenFst
+/// manual, "Connect".)
+///
+/// The successful paths are those of `a`, up to the numbers of the states and the places of the arcs, so both
+/// relate the same.
+///
+/// Time and space: linear in the states and the arcs, on any depth of the machine.
+pub fn connect<W: Weight>(alloc: Global, a: &Fst<W>) -> Result<Fst<W>, AllocError>
+    ensures machine { IfOk result (λ c. IsConnected (valued W.value a.now) (valued W.value c)) }
+    ensures paths { IfOk result (λ c. (h : IsConnected (valued W.value a.now) (valued W.value c)) → SamePaths W.KIND (λ p i. slice_get h.kept i ≡ Some p) (graph_of (valued W.value a.now)) (graph_of (valued W.value c))) }
+    ensures relation { IfOk result (λ c. (x y : List ℕ) (w : Cost) → Rel W.KIND (graph_of (valued W.value a.now)) x y w ↔ Rel W.KIND (graph_of (valued W.value c)) x y w) }
+{
+    let _states = a.states();
+    let marks = useful(alloc, a)?;
+    let kept = marks.as_slice();
+    let numbers = numbers_of(alloc, kept)?;
+    let states = keep_states(alloc, a, kept, numbers.as_slice())?;
+    let start = number_of_start(a.start(), kept, numbers.as_slice());
+    Ok(states.into_machine(start))
+}

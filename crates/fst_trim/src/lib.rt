@@ -1,0 +1,27 @@
+//! Machines put in order: tests of machines, trimming, sorting and what there is to say of a machine.
+//!
+//! `not_acceptor_at` and `not_deterministic_at` give the first arc, by state then place, that keeps a machine from
+//! being an acceptor or deterministic. The definitions stand in `specs`, and each contract is one of them.
+#![tactic(auto)]
+
+mod connected;
+mod describing;
+mod first_arc;
+mod repeat;
+mod side;
+mod sorted;
+mod sorting;
+mod sources;
+mod summary;
+mod useful;
+
+pub use connected::connect;
+pub use describing::info;
+pub use first_arc::{is_acceptor, is_deterministic, not_acceptor_at, not_deterministic_at};
+pub use side::Side;
+pub use sorted::is_sorted;
+pub use sorting::arcsort;
+pub use summary::Info;
+
+#[cfg(test)]
+mod tests;

@@ -1,0 +1,56 @@
+//! Machines with their arcs in order.
+
+ghost use Rattle.std.specs.Prelude.{◌≡◌, ◌↔◌, ℕ, List, IfOk, OnOk};
+ghost use Rattle.fst_semiring.specs.Cost.{Cost};
+ghost use Rattle.fst_machine.specs.Graph.{graph_of};
+ghost use Rattle.fst_machine.specs.Machine.{valued};
+ghost use Rattle.fst_machine.specs.Relation.{Rel};
+ghost use Rattle.fst_trim.specs.Beside.{SamePaths};
+ghost use Rattle.fst_trim.specs.Sorting.{IsArcSorted, IsStableSort};
+
+use crate::side::Side;
+use fst_machine::{Fst, FstArc, StateList};
+use fst_semiring::Weight;
+use std::alloc::{AllocError, Global};
+
+/// Fills a list with these arcs by their labels on a side; equal labels keep their order.
+fn sort_arcs<W: Copy>(
+    sorted: &mut Vec<FstArc<W>>,
+    arcs: &[FstArc<W>],
+    side: Side,
+) -> Result<(), AllocError>
+    ensures { OnOk result (IsStableSort side arcs.now sorted.new.items) }
+{
+    sorted.clear();
+    sorted.extend_from_slice(arcs)?;
+    match side {
+        Side::Input => {
+            sorted.sort_by_key(|arc| arc.ilabel)?;
+            Ok(())
+        }
+        Side::Output => {
+            sorted.sort_by_key(|arc| arc.olabel)?;
+            Ok(())
+        }
+    }
+}
+
+/// The machine with the arcs of each state by their labels on a side; equal labels keep their order. (OpenFst
+/// manual, "ArcSort".)
+///
+/// The successful paths are those of `a`, up to the places of the arcs, so both relate the same.
+///
+/// Time: n log n in the arcs of each state. Space: linear.
+pub fn arcsort<W: Weight>(alloc: Global, a: &Fst<W>, side: Side) -> Result<Fst<W>, AllocError>
+    ensures machine { IfOk result (λ c. IsArcSorted side a.now c) }
+    ensures paths { IfOk result (λ c. SamePaths W.KIND (λ p q. p ≡ q) (graph_of (valued W.value a.now)) (graph_of (valued W.value c))) }
+    ensures relation { IfOk result (λ c. (x y : List ℕ) (w : Cost) → Rel W.KIND (graph_of (valued W.value a.now)) x y w ↔ Rel W.KIND (graph_of (valued W.value c)) x y w) }
+{
+    let mut states = StateList::with_capacity(alloc, a.states() as usize, a.arc_count() as usize)?;
+    let mut sorted = Vec::new(alloc);
+    for state in 0..a.states() {
+        sort_arcs(&mut sorted, a.arcs(state), side)?;
+        states.push(a.final_weight(state), sorted.as_slice())?;
+    }
+    Ok(states.into_machine(a.start()))
+}

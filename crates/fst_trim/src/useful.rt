@@ -1,0 +1,129 @@
+//! Which states lie on paths from the start, and on paths to final states.
+
+ghost use Rattle.std.specs.Prelude.{◌≡◌, ◌≢◌, ◌<◌, ◌≤◌, ◌&&◌, ℕ, List, [], All, false, length, get_or, IfOk, OnOk};
+ghost use Rattle.std.specs.Bool.{Decides};
+ghost use Rattle.fst_semiring.specs.Cost.{infinite};
+ghost use Rattle.fst_machine.specs.BreadthFirst.{Apart, Grows, Has};
+ghost use Rattle.fst_machine.specs.Cycles.{IsAccessible, IsCoaccessible, IsUseful};
+ghost use Rattle.fst_machine.specs.Graph.{graph_of};
+ghost use Rattle.fst_machine.specs.Machine.{valued};
+ghost use Rattle.fst_machine.specs.Marks.{Marks};
+ghost use Rattle.fst_trim.specs.Finals.{FoundFinals};
+
+use crate::sources::sources_of;
+use fst_machine::{Fst, find, walk};
+use fst_semiring::Weight;
+use std::alloc::{AllocError, Global};
+
+/// Whether a state with this weight is final.
+pub(crate) fn is_final<W: Weight>(weight: W) -> bool
+    ensures { Decides result (W.value weight ≢ infinite) }
+{
+    W::key(weight.widen()).class != 2
+}
+
+/// Marks for so many states, just those of the list marked.
+fn marks_of(alloc: Global, states: u32, names: &[u32]) -> Result<Vec<bool>, AllocError>
+    requires { All (λ name. name < states) names.now }
+    ensures size { IfOk result (λ marks. length marks.items ≡ states) }
+    ensures marks { IfOk result (λ marks. Marks marks.items names.now) }
+{
+    let mut marks = vec![in alloc; false; states as usize]?;
+    for name in names {
+        marks[*name as usize] = true;
+    }
+    Ok(marks)
+}
+
+/// Marks the states that the start reaches.
+pub(crate) fn accessible<W: Weight>(alloc: Global, fst: &Fst<W>) -> Result<Vec<bool>, AllocError>
+    ensures size { IfOk result (λ marks. length marks.items ≡ length fst.now.states) }
+    ensures marks { IfOk result (λ marks. (p : ℕ) → Decides (get_or marks.items p false) (IsAccessible (graph_of (valued W.value fst.now)) p)) }
+{
+    let states = fst.states();
+    match fst.start() {
+        Some(start) => {
+            let names = walk(alloc, fst, start)?;
+            let marks = marks_of(alloc, states, names.as_slice())?;
+            Ok(marks)
+        }
+        None => Ok(vec![in alloc; false; states as usize]?),
+    }
+}
+
+/// Adds the final states, by number.
+pub(crate) fn find_finals<W: Weight>(
+    fst: &Fst<W>,
+    names: &mut Vec<u32>,
+    seen: &mut Vec<bool>,
+) -> Result<(), AllocError>
+    requires none { names.old.items ≡ [] }
+    requires marks { Marks seen.old.items names.old.items }
+    requires size { length seen.old.items ≡ length fst.now.states }
+    ensures found { OnOk result (FoundFinals (graph_of (valued W.value fst.now)) (length fst.now.states) names.new.items) }
+    ensures marks { OnOk result (Marks seen.new.items names.new.items) }
+    ensures size { OnOk result (length seen.new.items ≡ length fst.now.states) }
+{
+    for state in 0..fst.states() {
+        if !is_final(fst.final_weight(state)) {
+            continue;
+        }
+        find(names, seen, state)?;
+    }
+    Ok(())
+}
+
+/// Adds each of these states, if it is not among those that were found.
+fn find_each(names: &mut Vec<u32>, seen: &mut Vec<bool>, states: &[u32]) -> Result<(), AllocError>
+    requires marks { Marks seen.old.items names.old.items }
+    requires within { All (λ state. state < length seen.old.items) states.now }
+    ensures grows { OnOk result (Grows names.old.items states.now names.new.items) }
+    ensures marks { OnOk result (Marks seen.new.items names.new.items) }
+    ensures size { length seen.new.items ≡ length seen.old.items }
+{
+    for state in states {
+        find(names, seen, *state)?;
+    }
+    Ok(())
+}
+
+/// Marks the states from which a path leads to a final state, by a walk back from these.
+pub(crate) fn coaccessible<W: Weight>(alloc: Global, fst: &Fst<W>) -> Result<Vec<bool>, AllocError>
+    ensures size { IfOk result (λ marks. length marks.items ≡ length fst.now.states) }
+    ensures marks { IfOk result (λ marks. (p : ℕ) → Decides (get_or marks.items p false) (IsCoaccessible (graph_of (valued W.value fst.now)) p)) }
+{
+    let sources = sources_of(alloc, fst)?;
+    let mut seen = vec![in alloc; false; fst.states() as usize]?;
+    let mut names = Vec::new(alloc);
+    find_finals(fst, &mut names, &mut seen)?;
+    let mut taken = 0;
+    while taken < names.len() {
+        let states = sources.of(names[taken]);
+        find_each(&mut names, &mut seen, states)?;
+        taken += 1;
+    }
+    Ok(seen)
+}
+
+/// Takes away the marks that others do not have.
+pub(crate) fn keep_both(marks: &mut Vec<bool>, others: &[bool])
+    requires { length others.now ≡ length marks.old.items }
+    ensures size { length marks.new.items ≡ length marks.old.items }
+    ensures marks { (p : ℕ) → get_or marks.new.items p false ≡ (get_or marks.old.items p false && get_or others.now p false) }
+{
+    for place in 0..marks.len() {
+        let both = marks[place] && others[place];
+        marks[place] = both;
+    }
+}
+
+/// Marks the states that some successful path meets.
+pub(crate) fn useful<W: Weight>(alloc: Global, fst: &Fst<W>) -> Result<Vec<bool>, AllocError>
+    ensures size { IfOk result (λ marks. length marks.items ≡ length fst.now.states) }
+    ensures marks { IfOk result (λ marks. (p : ℕ) → Decides (get_or marks.items p false) (IsUseful (graph_of (valued W.value fst.now)) p)) }
+{
+    let mut marks = accessible(alloc, fst)?;
+    let others = coaccessible(alloc, fst)?;
+    keep_both(&mut marks, others.as_slice());
+    Ok(marks)
+}

@@ -1,0 +1,8 @@
+-- Lemmas: what `clap` takes, loops over lists, the rules on names, numbers of twenty digits.
+mod Parsing
+mod Loops
+mod Pairs
+mod Labels
+mod Digits
+pub mod PlanLemmas
+pub mod PrefixLemmas

@@ -1,0 +1,9 @@
+use Rattle.fst_words.proofs.PlanLemmas.{plan_is_whole}
+use Rattle.fst_words.proofs.PrefixLemmas.{prefix_is_free}
+use Rattle.fst_words.proofs.laws.plan_laws.Goals as goal
+
+pub returns-clause-whole : goal.returns-clause-whole
+returns-clause-whole c = plan_is_whole
+
+pub returns-clause-prefix : goal.returns-clause-prefix
+returns-clause-prefix c = prefix_is_free

@@ -1,0 +1,7 @@
+-- In reading order: the verb of a first word, what each command takes, what the values of options may be,
+-- what the words ask for, and what holds of every plan.
+pub mod Verbs
+pub mod Commands
+pub mod Values
+pub mod Plans
+pub mod PlanLaws

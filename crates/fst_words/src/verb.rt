@@ -1,0 +1,146 @@
+//! The commands, and the verb of a first word.
+
+ghost use Rattle.std.specs.Prelude.{◌≡◌};
+ghost use Rattle.fst_words.specs.Verbs.{name_of, verb_named, verb_of, without_prefix};
+
+/// A command. (OpenFst manual: `compile` is the program `fstcompile`.)
+#[derive(Clone, Copy, Debug, PartialEq, Eq)]
+pub enum Verb {
+    /// A text to a machine.
+    Compile,
+    /// A machine to a text.
+    Print,
+    /// What is told of a machine.
+    Info,
+    /// Input and output labels change places.
+    Invert,
+    /// The arcs the other way round.
+    Reverse,
+    /// The states on successful paths alone.
+    Connect,
+    /// The paths of two machines.
+    Union,
+    /// A path of the first machine, then one of the second.
+    Concat,
+    /// Paths repeated.
+    Closure,
+    /// One side's label on both sides.
+    Project,
+    /// Calls of machines by label.
+    Replace,
+    /// Labels changed by pairs.
+    Relabel,
+    /// Arcs sorted by a label.
+    Arcsort,
+    /// The composition of two machines.
+    Compose,
+    /// Epsilon arcs removed.
+    Rmepsilon,
+    /// The distance of each state.
+    Shortestdistance,
+    /// The best paths.
+    Shortestpath,
+    /// Weights moved toward the start.
+    Push,
+    /// Labels, and weights, to the numbers of a codex and back.
+    Encode,
+    /// One arc a label in each state.
+    Determinize,
+    /// The fewest states.
+    Minimize,
+    /// The best paths of two composed machines, line by line.
+    Batch,
+    /// Two machines and lines drawn from a seed, run as a batch.
+    Make,
+}
+
+impl Verb {
+    /// The name of the command, without `fst` in front. Takes no memory.
+    pub fn name(self) -> &'static str
+        ensures { result.now ≡ name_of self }
+    {
+        match self {
+            Verb::Compile => "compile",
+            Verb::Print => "print",
+            Verb::Info => "info",
+            Verb::Invert => "invert",
+            Verb::Reverse => "reverse",
+            Verb::Connect => "connect",
+            Verb::Union => "union",
+            Verb::Concat => "concat",
+            Verb::Closure => "closure",
+            Verb::Project => "project",
+            Verb::Replace => "replace",
+            Verb::Relabel => "relabel",
+            Verb::Arcsort => "arcsort",
+            Verb::Compose => "compose",
+            Verb::Rmepsilon => "rmepsilon",
+            Verb::Shortestdistance => "shortestdistance",
+            Verb::Shortestpath => "shortestpath",
+            Verb::Push => "push",
+            Verb::Encode => "encode",
+            Verb::Determinize => "determinize",
+            Verb::Minimize => "minimize",
+            Verb::Batch => "batch",
+            Verb::Make => "make",
+        }
+    }
+}
+
+// The commands, in the order in which they are tried.
+static ALL: [Verb; 23] = [
+    Verb::Compile,
+    Verb::Print,
+    Verb::Info,
+    Verb::Invert,
+    Verb::Reverse,
+    Verb::Connect,
+    Verb::Union,
+    Verb::Concat,
+    Verb::Closure,
+    Verb::Project,
+    Verb::Replace,
+    Verb::Relabel,
+    Verb::Arcsort,
+    Verb::Compose,
+    Verb::Rmepsilon,
+    Verb::Shortestdistance,
+    Verb::Shortestpath,
+    Verb::Push,
+    Verb::Encode,
+    Verb::Determinize,
+    Verb::Minimize,
+    Verb::Batch,
+    Verb::Make,
+];
+
+/// The command that has this name.
+#[tactic(auto, unfolding(crate::specs::Verbs::verb_named))]
+fn verb_named(name: &[u8]) -> Option<Verb>
+    ensures { result ≡ verb_named name.now }
+{
+    for verb in ALL.iter() {
+        if verb.name().as_bytes() == name {
+            return Some(*verb);
+        }
+    }
+    None
+}
+
+/// The word without one `fst` in front, where it has one.
+fn without_prefix(word: &[u8]) -> &[u8]
+    ensures { result.now ≡ without_prefix word.now }
+{
+    if word.starts_with(b"fst".as_slice()) {
+        &word[3..]
+    } else {
+        word
+    }
+}
+
+/// The command that a first word names, with or without `fst` in front.
+pub(crate) fn verb_of(word: &str) -> Option<Verb>
+    ensures { result ≡ verb_of word.now }
+{
+    verb_named(without_prefix(word.as_bytes()))
+}
