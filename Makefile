@@ -11,13 +11,15 @@ all:
 	cp crates/fst/out/fst $(FST)
 
 # The main job: texts that ship with the repository to binary files, and back to text; the second has names
-# for its labels and pairs as weights.
+# for its labels and pairs as weights. Then the union of the first with itself.
 example: all
 	$(FST) compile examples/first.txt out/first.fst
 	od -A d -t x1 out/first.fst
 	$(FST) print out/first.fst
 	$(FST) compile --arc_type=lexicographic --isymbols=examples/letters.txt --osymbols=examples/letters.txt examples/rule.txt out/rule.fst
 	$(FST) print --isymbols=examples/letters.txt --osymbols=examples/letters.txt out/rule.fst
+	$(FST) union out/first.fst out/first.fst out/both.fst
+	$(FST) print out/both.fst
 
 # The gate: every proof, every edit that must fail, every test and program, and the repository's own checks.
 test:

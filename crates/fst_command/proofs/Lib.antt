@@ -2,7 +2,10 @@ pub mod Lines
 pub mod Checking
 pub mod Deciding
 pub mod Working
-pub mod Options
+pub mod OptionFiles
+pub mod Settling
+pub mod Joining
 pub mod Planned
 pub mod Completing
 pub mod Showing
+pub mod Describing

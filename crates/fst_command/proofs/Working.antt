@@ -1,31 +1,22 @@
 -- From what the steps of a command give to its answer.
-use Rattle.std.proofs.Common.{◌≡◌, ◌⊎◌, ℕ, ◌<◌, ◌≤◌, List, [], ◌∷◌, ◌++◌, length, Option, Some, None, IfSome, Result, Ok, Err, refl, sym, ap, ◌∙◌, subst, inl, inr, suc, arith, append_assoc}
+use Rattle.std.proofs.Common.{◌≡◌, ◌⊎◌, ℕ, ◌<◌, List, [], ◌∷◌, ◌++◌, length, Option, Some, None, IfSome, Result, Ok, Err, refl, sym, ap, ◌∙◌, subst, inl, inr, suc, arith}
 use Rattle.std.specs.Prelude.{replicate}
-use Rattle.std.proofs.lemmas.List.{append-nil, length-replicate}
+use Rattle.std.proofs.lemmas.List.{length-replicate}
 use Rattle.fst_desk.specs.Seen.{Files, Seen, Rises}
 use Rattle.fst_desk.specs.Desk.{content_of, ToldHolds}
 use Rattle.fst_words.specs.declared.plan.Plan.{Plan}
 use Rattle.fst_words.specs.Plans.{outputs_of}
 use Rattle.fst_command.specs.declared.refusal.Refusal.{Refusal}
 use Rattle.fst_command.specs.Plans.{Input, inputs_of}
-use Rattle.fst_command.specs.Causes.{Cause, too_long, bad_symbols, bad_text, bad_binary, kinds_differ, unprintable, done, refused, no_memory, unread, unwritten}
-use Rattle.fst_command.specs.Checks.{Check, Passes, AllPass, IsFirst, form_check, input_checks, later_checks, checks_of, length_check, read_limit}
-use Rattle.fst_command.specs.Outputs.{Writes, Makes, AreNamed}
+use Rattle.fst_command.specs.Causes.{Cause, too_long, bad_symbols, bad_pairs, bad_text, bad_binary, kinds_differ, too_large, unprintable, done, refused, no_memory, unread, unwritten}
+use Rattle.fst_command.specs.Checks.{Check, Passes, AllPass, IsFirst, form_check, input_checks, later_checks, length_check, read_limit}
+use Rattle.fst_command.specs.Outputs.{Makes, AreNamed}
 use Rattle.fst_command.specs.Outcome.{Agrees, Leaves, Prescribes, TakesMore}
 use Rattle.fst_command.specs.Told.{Tells}
 use Rattle.fst_command.specs.Steps.{NotRead, ReadsTooLong, Reads, NotWritten, WriteAnswer, WritesOutput, Declines, Decides, IsOfForm, Works}
+use Rattle.fst_command.specs.Progress.{Progress, IsReady, Prepares}
 use Rattle.fst_command.proofs.Checking.{Agrees-append, AllPass-append, IsFirst-front, checks_from, contents_of, first_at, input_checks-append}
 use Rattle.fst_command.proofs.Deciding.{Passes-length}
-
--- The inputs in front are read: they have these contents, no question finds a cause in them, and nothing
--- else has changed.
-pub record Progress (plan : Plan) (front : List Input) (contents : List (List ℕ)) (old now : Seen) : Type 0 where
-  pub agrees : Agrees old.filed.told front contents
-  pub passes : AllPass (input_checks plan [] front contents)
-  pub told : now.filed.told ≡ old.filed.told
-  pub write_faults : now.filed.write_faults ≡ old.filed.write_faults
-  pub missed : now.filed.missed ≡ old.filed.missed
-  pub showing : now.showing ≡ old.showing
 
 -- nothing is read
 pub Progress-none : (plan : Plan) (old : Seen) → Progress plan [] [] old old
@@ -101,9 +92,11 @@ Works-unread plan front after contents old mid new i refusal one p r = go r.answ
 takes_nothing : (cause : Cause) (taken : ℕ) → IsOfForm cause → TakesMore cause taken
 takes_nothing (too_long name) taken h = absurd h
 takes_nothing (bad_symbols name fault) taken h = tt
+takes_nothing (bad_pairs name fault) taken h = tt
 takes_nothing (bad_text name fault) taken h = tt
 takes_nothing (bad_binary name fault) taken h = tt
 takes_nothing (kinds_differ first other) taken h = tt
+takes_nothing (too_large fault) taken h = tt
 takes_nothing (unprintable fault) taken h = tt
 
 -- an input was read, and the first cause is found from it on
@@ -134,44 +127,54 @@ Works-declined plan front after contents old mid new i content refusal one p r (
     works-refused plan front after contents rest.0 old mid new i content cause refusal one p r rest.1 (IsFirst-front (form_check plan contents i content ∷ []) more cause first) form tells
 
 -- the last input was read, and the command refuses
-pub Works-refused : (plan : Plan) (front : List Input) (contents : List (List ℕ)) (old mid new : Seen) (i : Input) (content : List ℕ) (refusal : Refusal) → inputs_of plan ≡ front ++ i ∷ [] → Progress plan front contents old mid → Reads i.name mid new (Ok content) → Decides plan contents i content (Err refusal) → Works (Some plan) old new (Err refusal)
+Works-refused : (plan : Plan) (front : List Input) (contents : List (List ℕ)) (old mid new : Seen) (i : Input) (content : List ℕ) (refusal : Refusal) → inputs_of plan ≡ front ++ i ∷ [] → Progress plan front contents old mid → Reads i.name mid new (Ok content) → Decides plan contents i content (Err refusal) → Works (Some plan) old new (Err refusal)
 Works-refused plan front contents old mid new i content refusal one p r (inl tells) = record { answer = no_memory; ends = tells; answers = inl (r.told ∙ p.told); showing = r.showing ∙ p.showing }
 Works-refused plan front contents old mid new i content refusal one p r (inr (cause, first, form, tells)) = works-refused plan front [] contents [] old mid new i content cause refusal one p r tt first form tells
 
--- the last input was read, the command decided on an output, and this was handed to the desk
-pub Works-written : (plan : Plan) (front : List Input) (contents : List (List ℕ)) (out bytes : List ℕ) (old mid read new : Seen) (i : Input) (content : List ℕ) (result : Result (Unit {0}) Refusal) → inputs_of plan ≡ front ++ i ∷ [] → outputs_of plan ≡ out ∷ [] → Progress plan front contents old mid → Reads i.name mid read (Ok content) → Decides plan contents i content (Ok bytes) → WritesOutput out bytes read new result → Works (Some plan) old new result
-Works-written plan front contents out bytes old mid read new i content result one single p r decides w = go result w.answer where
-  all : Progress plan (front ++ i ∷ []) (contents ++ content ∷ []) old read
-  all = Progress-more plan front contents old mid read i content p r decides.0.0
+-- the last input was read, and the command decided on an output
+ready : (plan : Plan) (front : List Input) (contents : List (List ℕ)) (old mid new : Seen) (i : Input) (content bytes : List ℕ) → inputs_of plan ≡ front ++ i ∷ [] → Progress plan front contents old mid → Reads i.name mid new (Ok content) → Decides plan contents i content (Ok bytes) → IsReady plan bytes old new
+ready plan front contents old mid new i content bytes one p r decides = record {
+  contents = contents ++ content ∷ [];
+  progress = subst (λ (is : List Input). Progress plan is (contents ++ content ∷ []) old new) (sym one) (Progress-more plan front contents old mid new i content p r decides.0.0);
+  passes = decides.0.1;
+  makes = decides.1;
+}
 
+-- the last input was read, and the command decided
+pub prepares : (plan : Plan) (front : List Input) (contents : List (List ℕ)) (old mid new : Seen) (i : Input) (content : List ℕ) (result : Result (List ℕ) Refusal) → inputs_of plan ≡ front ++ i ∷ [] → Progress plan front contents old mid → Reads i.name mid new (Ok content) → Decides plan contents i content result → Prepares plan old new result
+prepares plan front contents old mid new i content (Ok bytes) one p r decides = ready plan front contents old mid new i content bytes one p r decides
+prepares plan front contents old mid new i content (Err refusal) one p r decides = Works-refused plan front contents old mid new i content refusal one p r decides
+
+-- the bytes of the output are there, and were handed to the desk
+pub Works-written : (plan : Plan) (out bytes : List ℕ) (old read new : Seen) (result : Result (Unit {0}) Refusal) → outputs_of plan ≡ out ∷ [] → IsReady plan bytes old read → WritesOutput out bytes read new result → Works (Some plan) old new result
+Works-written plan out bytes old read new result single is w = go result w.answer where
   showing : new.showing ≡ old.showing
-  showing = w.showing ∙ all.showing
+  showing = w.showing ∙ is.progress.showing
 
   prescribes : (bs : List ℕ) → bytes ≡ bs → Prescribes plan old.filed.told ((out, bs) ∷ [])
   prescribes bs e = record {
-    contents = contents ++ content ∷ [];
-    agrees = subst (λ (is : List Input). Agrees old.filed.told is (contents ++ content ∷ [])) (sym one) all.agrees;
-    passes = AllPass-append (input_checks plan [] (inputs_of plan) (contents ++ content ∷ [])) (later_checks plan (contents ++ content ∷ []))
-        (subst (λ (is : List Input). AllPass (input_checks plan [] is (contents ++ content ∷ []))) (sym one) all.passes) decides.0.1;
+    contents = is.contents;
+    agrees = is.progress.agrees;
+    passes = AllPass-append (input_checks plan [] (inputs_of plan) is.contents) (later_checks plan is.contents) is.progress.passes is.passes;
     writes = record {
       made = bs ∷ [];
-      makes = subst (λ (b : List ℕ). Makes plan (contents ++ content ∷ []) (b ∷ [])) e decides.1;
+      makes = subst (λ (b : List ℕ). Makes plan is.contents (b ∷ [])) e is.makes;
       named = subst (λ (names : List (List ℕ)). AreNamed names (bs ∷ []) ((out, bs) ∷ [])) (sym single) ([], refl, refl);
     };
   }
 
   holds : (bs : List ℕ) → ToldHolds out bs read.filed.told new.filed.told → Leaves ((out, bs) ∷ []) old.filed.told new.filed.told
-  holds bs h = (new.filed.told, subst (λ (t : Option Files). ToldHolds out bs t new.filed.told) all.told h, refl)
+  holds bs h = (new.filed.told, subst (λ (t : Option Files). ToldHolds out bs t new.filed.told) is.progress.told h, refl)
 
   failed : (refusal : Refusal) → NotWritten out bytes read.filed new.filed refusal → Works (Some plan) old new (Err refusal)
   failed refusal n = record {
     answer = unwritten out;
     ends = n.tells;
-    answers = record { rises = subst (λ (k : ℕ). Rises k new.filed.write_faults) all.write_faults n.rises; before = []; front = n.front; rest = n.rest; after = []; prescribes = prescribes (n.front ++ n.rest) n.splits; leaves = holds n.front n.told };
+    answers = record { rises = subst (λ (k : ℕ). Rises k new.filed.write_faults) is.progress.write_faults n.rises; before = []; front = n.front; rest = n.rest; after = []; prescribes = prescribes (n.front ++ n.rest) n.splits; leaves = holds n.front n.told };
     showing = showing;
   }
 
   go : (result : Result (Unit {0}) Refusal) → WriteAnswer out bytes read.filed new.filed result → Works (Some plan) old new result
   go (Ok u) h = record { answer = done; ends = refl; answers = ((out, bytes) ∷ [], prescribes bytes refl, holds bytes h); showing = showing }
-  go (Err refusal) (inl n) = record { answer = no_memory; ends = n.tells; answers = inl (n.told ∙ all.told); showing = showing }
+  go (Err refusal) (inl n) = record { answer = no_memory; ends = n.tells; answers = inl (n.told ∙ is.progress.told); showing = showing }
   go (Err refusal) (inr n) = failed refusal n

@@ -5,6 +5,10 @@ use Rattle.std.specs.List.{concat}
 use Rattle.fst_semiring.specs.declared.arc_type.ArcType.{ArcType}
 use Rattle.fst_symbols.specs.declared.fault.SymbolsFault.{SymbolsFault}
 use Rattle.fst_symbols.specs.declared.fault.SymbolsFault.TheVariants as symbols
+use Rattle.fst_rational.specs.declared.fault.RationalFault.{RationalFault}
+use Rattle.fst_rational.specs.declared.fault.RationalFault.TheVariants as sizes
+use Rattle.fst_rational.specs.declared.pairs.PairsFault.{PairsFault}
+use Rattle.fst_rational.specs.declared.pairs.PairsFault.TheVariants as pairs
 use Rattle.fst_text.specs.declared.fault.TextFault.{TextFault}
 use Rattle.fst_text.specs.declared.fault.TextFault.TheVariants as text
 use Rattle.fst_text.specs.declared.fault.PrintFault.{PrintFault}
@@ -20,12 +24,16 @@ pub data Cause : Type 0 where
   too_long : List ℕ → Cause
   -- the content is no symbol table
   bad_symbols : List ℕ → SymbolsFault → Cause
+  -- the content has no pairs of labels
+  bad_pairs : List ℕ → PairsFault → Cause
   -- the content is no text form of a machine
   bad_text : List ℕ → TextFault → Cause
   -- the content is no binary form of a machine
   bad_binary : List ℕ → BinaryFault → Cause
   -- a machine has another arc type than the first one
   kinds_differ : ArcType → ArcType → Cause
+  -- the machine that the command makes has too many states or arcs
+  too_large : RationalFault → Cause
   -- the machine has no text form with these options
   unprintable : PrintFault → Cause
 
@@ -68,6 +76,20 @@ symbols_reason (symbols.BadNumber line) = codes "bad number"
 symbols_reason (symbols.DuplicateSymbol line) = codes "symbol given twice"
 symbols_reason (symbols.DuplicateNumber line) = codes "number given twice"
 symbols_reason symbols.Memory = codes "out of memory"
+
+-- the line of a fault of pairs
+abbrev pub pairs_line_at : PairsFault → ℕ
+pairs_line_at (pairs.BadColumns line) = line
+pairs_line_at (pairs.BadLabel line) = line
+pairs_line_at (pairs.Duplicate line) = line
+pairs_line_at pairs.Memory = 0
+
+-- what is wrong with a line of pairs
+abbrev pub pairs_reason : PairsFault → List ℕ
+pairs_reason (pairs.BadColumns line) = codes "wrong number of columns"
+pairs_reason (pairs.BadLabel line) = codes "bad label"
+pairs_reason (pairs.Duplicate line) = codes "label given twice"
+pairs_reason pairs.Memory = codes "out of memory"
 
 -- the line of a fault of a text form
 abbrev pub line_at : TextFault → ℕ
@@ -123,6 +145,12 @@ no_symbol_line label = concat (codes "fst: no symbol for label " ∷ decimal lab
 abbrev pub kinds_line : ArcType → ArcType → List ℕ
 kinds_line first other = concat (codes "fst: arc types differ: " ∷ name_of first ∷ codes " and " ∷ name_of other ∷ codes "\n" ∷ [])
 
+-- the line of a machine that is too large
+abbrev pub size_line : RationalFault → List ℕ
+size_line sizes.TooManyStates = codes "fst: too many states\n"
+size_line sizes.TooManyArcs = codes "fst: too many arcs\n"
+size_line sizes.Memory = codes "fst: out of memory\n"
+
 -- the line of a machine that has no text form
 abbrev pub print_line : PrintFault → List ℕ
 print_line (printing.NotAcceptor state place) = two_labels_line state place
@@ -133,9 +161,11 @@ print_line printing.Memory = codes "fst: out of memory\n"
 abbrev pub cause_line : Cause → List ℕ
 cause_line (too_long name) = codes "fst: " ++ name ++ codes " is longer than 1342177280 bytes\n"
 cause_line (bad_symbols name fault) = placed_line name (codes "line") (symbols_line_at fault) (symbols_reason fault)
+cause_line (bad_pairs name fault) = placed_line name (codes "line") (pairs_line_at fault) (pairs_reason fault)
 cause_line (bad_text name fault) = placed_line name (codes "line") (line_at fault) (text_reason fault)
 cause_line (bad_binary name fault) = placed_line name (codes "byte") fault.offset (binary_reason fault.kind)
 cause_line (kinds_differ first other) = kinds_line first other
+cause_line (too_large fault) = size_line fault
 cause_line (unprintable fault) = print_line fault
 
 -- the line that a run shows, if it shows one

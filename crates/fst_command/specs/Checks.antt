@@ -1,6 +1,11 @@
 -- What is asked of the inputs of a command, in which order, and what each question finds.
-use Rattle.std.specs.Prelude.{◌≡◌, ◌⊎◌, ℕ, ◌<◌, List, [], ◌∷◌, ◌++◌, length, Result, Ok, Err}
+use Rattle.std.specs.Prelude.{◌≡◌, ◌⊎◌, ℕ, ◌<◌, ◌≤◌, List, [], ◌∷◌, ◌++◌, length, Some, Ok, Err}
 use Rattle.fst_semiring.specs.declared.arc_type.ArcType.{ArcType}
+use Rattle.fst_semiring.specs.Cost.{Cost}
+use Rattle.fst_machine.specs.Machine.{Machine, arc_total, most_arcs, most_states}
+use Rattle.fst_rational.specs.declared.fault.RationalFault.{RationalFault}
+use Rattle.fst_rational.specs.declared.fault.RationalFault.TheVariants.{TooManyStates, TooManyArcs, Memory}
+use Rattle.fst_rational.specs.Pairs.{pairs_of_text}
 use Rattle.fst_text.specs.declared.fault.PrintFault.{PrintFault}
 use Rattle.fst_text.specs.Grammar.{machine_of_text}
 use Rattle.fst_text.specs.Printed.{text_of_machine}
@@ -8,10 +13,11 @@ use Rattle.fst_symbols.specs.Reading.{table_of_text}
 use Rattle.fst_words.specs.declared.options.Options.{Options}
 use Rattle.fst_words.specs.declared.plan.Plan.{Plan}
 use Rattle.fst_words.specs.declared.verb.Verb.{Verb}
-use Rattle.fst_words.specs.declared.verb.Verb.TheVariants.{Print, Invert, Project, Connect}
-use Rattle.fst_command.specs.Plans.{Form, symbols_form, text_form, binary_form, Input, inputs_of, arc_type_of}
-use Rattle.fst_command.specs.Contents.{Choices, Typed, machine_of_file, choices_of, own_contents}
-use Rattle.fst_command.specs.Causes.{Cause, too_long, bad_symbols, bad_text, bad_binary, kinds_differ, unprintable}
+use Rattle.fst_words.specs.declared.verb.Verb.TheVariants.{Print, Info, Invert, Reverse, Connect, Union, Concat, Closure, Project, Relabel, Arcsort}
+use Rattle.fst_command.specs.Plans.{Form, symbols_form, pairs_form, text_form, binary_form, Input, inputs_of, arc_type_of}
+use Rattle.fst_command.specs.Contents.{Choices, Typed, AreMachines, machine_of_file, choices_of, own_contents}
+use Rattle.fst_command.specs.Causes.{Cause, too_long, bad_symbols, bad_pairs, bad_text, bad_binary, kinds_differ, too_large, unprintable}
+use Rattle.fst_command.specs.Operations.{grown}
 
 -- the most bytes that are read of an input: the largest machine of every arc type fits
 abbrev pub read_limit : ℕ
@@ -23,12 +29,16 @@ pub data Check : Type 0 where
   length_check : List ℕ → List ℕ → Check
   -- is the content of the input of this name a symbol table
   symbols_check : List ℕ → List ℕ → Check
+  -- has it pairs of labels
+  pairs_check : List ℕ → List ℕ → Check
   -- is it the text form of a machine of the arc type, read so
   text_check : ArcType → Choices → List ℕ → List ℕ → Check
   -- is it the binary form of a machine
   binary_check : List ℕ → List ℕ → Check
   -- have the machines of the files one arc type
   kinds_check : List (List ℕ) → Check
+  -- is the machine that the command makes of the files small enough
+  size_check : Verb → Options → List (List ℕ) → Check
   -- has the machine of the file a text form, printed so
   print_check : Choices → List ℕ → Check
 
@@ -55,6 +65,23 @@ abbrev pub KindsDiffer : List (List ℕ) → Cause → Type 0
 KindsDiffer [] cause = ⊥
 KindsDiffer (file ∷ files) cause = (first : Typed) × (machine_of_file file ≡ Ok first) × HasOther first files cause
 
+-- The machine is past the limit on states, or else on arcs.
+abbrev pub IsPast : Machine Cost → RationalFault → Type 0
+IsPast m TooManyStates = most_states < length m.states
+IsPast m TooManyArcs = (length m.states ≤ most_states) × (most_arcs < arc_total m.states)
+IsPast m Memory = ⊥
+
+-- the machine that the command makes of the machines of the files is past a limit
+pub record IsTooLarge (verb : Verb) (options : Options) (files : List (List ℕ)) (cause : Cause) : Type 0 where
+  pub kind : ArcType
+  pub machines : List (Machine Cost)
+  pub made : Machine Cost
+  pub fault : RationalFault
+  pub reads : AreMachines kind files machines
+  pub grows : grown verb options kind machines ≡ Some made
+  pub past : IsPast made fault
+  pub is : cause ≡ too_large fault
+
 -- the machine of the file has no text form
 pub record IsUnprintable (choices : Choices) (file : List ℕ) (cause : Cause) : Type 0 where
   pub machine : Typed
@@ -67,9 +94,11 @@ pub record IsUnprintable (choices : Choices) (file : List ℕ) (cause : Cause) :
 abbrev pub Finds : Check → Cause → Type 0
 Finds (length_check name content) cause = (read_limit < length content) × (cause ≡ too_long name)
 Finds (symbols_check name content) cause = (fault : _) × (table_of_text content ≡ Err fault) × (cause ≡ bad_symbols name fault)
+Finds (pairs_check name content) cause = (fault : _) × (pairs_of_text content ≡ Err fault) × (cause ≡ bad_pairs name fault)
 Finds (text_check kind choices name content) cause = (fault : _) × (machine_of_text kind choices content ≡ Err fault) × (cause ≡ bad_text name fault)
 Finds (binary_check name content) cause = (fault : _) × (machine_of_file content ≡ Err fault) × (cause ≡ bad_binary name fault)
 Finds (kinds_check files) cause = KindsDiffer files cause
+Finds (size_check verb options files) cause = IsTooLarge verb options files cause
 Finds (print_check choices file) cause = IsUnprintable choices file cause
 
 -- the question finds none
@@ -88,6 +117,7 @@ IsFirst (check ∷ checks) cause = Finds check cause ⊎ (Passes check × IsFirs
 -- has the content of an input its form, where these contents were read before
 abbrev pub check_of : Form → Options → Choices → List ℕ → List ℕ → Check
 check_of symbols_form options choices name content = symbols_check name content
+check_of pairs_form options choices name content = pairs_check name content
 check_of text_form options choices name content = text_check (arc_type_of options) choices name content
 check_of binary_form options choices name content = binary_check name content
 
@@ -100,17 +130,28 @@ input_checks plan before [] contents = []
 input_checks plan before (i ∷ is) [] = []
 input_checks plan before (i ∷ is) (c ∷ cs) = length_check i.name c ∷ form_check plan before i c ∷ input_checks plan (before ++ c ∷ []) is cs
 
+-- what is asked of the machines of the files of a command that makes one machine of them
+abbrev pub operation_checks : Verb → Options → List (List ℕ) → List Check
+operation_checks verb options files = kinds_check files ∷ size_check verb options files ∷ []
+
 -- what is asked of the machines of the files before the work on them
-abbrev pub machine_checks : Verb → Choices → List (List ℕ) → List Check
-machine_checks Print choices (file ∷ files) = kinds_check (file ∷ files) ∷ print_check choices file ∷ []
-machine_checks Invert choices files = kinds_check files ∷ []
-machine_checks Project choices files = kinds_check files ∷ []
-machine_checks Connect choices files = kinds_check files ∷ []
-machine_checks _ choices files = []
+abbrev pub machine_checks : Verb → Options → Choices → List (List ℕ) → List Check
+machine_checks Print options choices (file ∷ files) = kinds_check (file ∷ files) ∷ print_check choices file ∷ []
+machine_checks Info options choices files = kinds_check files ∷ []
+machine_checks Invert options choices files = operation_checks Invert options files
+machine_checks Reverse options choices files = operation_checks Reverse options files
+machine_checks Connect options choices files = operation_checks Connect options files
+machine_checks Union options choices files = operation_checks Union options files
+machine_checks Concat options choices files = operation_checks Concat options files
+machine_checks Closure options choices files = operation_checks Closure options files
+machine_checks Project options choices files = operation_checks Project options files
+machine_checks Relabel options choices files = operation_checks Relabel options files
+machine_checks Arcsort options choices files = operation_checks Arcsort options files
+machine_checks _ options choices files = []
 
 -- what is asked behind the inputs
 abbrev pub later_checks : Plan → List (List ℕ) → List Check
-later_checks plan contents = machine_checks plan.command (choices_of plan.options contents) (own_contents plan.options contents)
+later_checks plan contents = machine_checks plan.command plan.options (choices_of plan.options contents) (own_contents plan.options contents)
 
 -- all that is asked of a command, in order
 abbrev pub checks_of : Plan → List (List ℕ) → List Check

@@ -1,15 +1,17 @@
 -- What the contents of the inputs stand for, the files of the options among them.
-use Rattle.std.specs.Prelude.{ℕ, List, [], ◌∷◌, Option, Some, None, Result, Ok, Err}
+use Rattle.std.specs.Prelude.{◌≡◌, ℕ, List, [], ◌∷◌, Option, Some, None, unwrap_or, Result, Ok, Err}
+use Rattle.std.specs.Option.{option_map}
 use Rattle.fst_semiring.specs.declared.arc_type.ArcType.{ArcType}
 use Rattle.fst_semiring.specs.Cost.{Cost}
 use Rattle.fst_machine.specs.Machine.{Machine}
 use Rattle.fst_symbols.specs.Symbols.{Symbol}
 use Rattle.fst_symbols.specs.Reading.{table_of_text}
+use Rattle.fst_rational.specs.Labels.{Pair}
+use Rattle.fst_rational.specs.Pairs.{pairs_of_text}
 use Rattle.fst_text.specs.Options as text
 use Rattle.fst_binary.specs.Reading.{arc_type_of_bytes, machine_of_bytes}
 use Rattle.fst_binary.specs.declared.fault.BinaryFault.{BinaryFault}
 use Rattle.fst_words.specs.declared.options.Options.{Options}
-use Rattle.fst_words.specs.declared.plan.Plan.{Plan}
 
 -- how texts are read and printed
 abbrev pub Choices : Type 0
@@ -20,11 +22,19 @@ abbrev pub ok_of : {A E : Type 0} → Result A E → Option A
 ok_of (Ok x) = Some x
 ok_of (Err e) = None
 
--- the symbol table of an option that stands: that of the first of the contents
-abbrev pub table_in : Option (List ℕ) → List (List ℕ) → Option (List Symbol)
-table_in None contents = None
-table_in (Some name) [] = None
-table_in (Some name) (content ∷ contents) = ok_of (table_of_text content)
+-- what the contents of the file of an option stand for, which are the first of the contents, or what stands
+-- in its place without the option
+abbrev pub option_value : {X : Type 0} → (List ℕ → Option X) → X → Option (List ℕ) → List (List ℕ) → X
+option_value read none None contents = none
+option_value read none (Some name) [] = none
+option_value read none (Some name) (content ∷ contents) = unwrap_or (read content) none
+
+-- a symbol table of an option, and pairs of labels
+abbrev pub table_of : List ℕ → Option (Option (List Symbol))
+table_of content = option_map Some (ok_of (table_of_text content))
+
+abbrev pub pairs_of : List ℕ → Option (List Pair)
+pairs_of content = ok_of (pairs_of_text content)
 
 -- the contents behind that of an option
 abbrev pub behind : Option (List ℕ) → List (List ℕ) → List (List ℕ)
@@ -32,19 +42,34 @@ behind None contents = contents
 behind (Some name) [] = []
 behind (Some name) (content ∷ contents) = contents
 
+-- the contents behind those of the symbol tables, and behind those of all options
+abbrev pub behind_tables : Options → List (List ℕ) → List (List ℕ)
+behind_tables o contents = behind o.osymbols (behind o.isymbols contents)
+
+abbrev pub own_contents : Options → List (List ℕ) → List (List ℕ)
+own_contents o contents = behind o.relabel_opairs (behind o.relabel_ipairs (behind_tables o contents))
+
 -- how texts are read and printed, given the contents of the inputs
 abbrev pub choices_of : Options → List (List ℕ) → Choices
 choices_of o contents = record {
   acceptor = o.acceptor;
   keep_state_numbering = o.keep_state_numbering;
   show_weight_one = o.show_weight_one;
-  isymbols = table_in o.isymbols contents;
-  osymbols = table_in o.osymbols (behind o.isymbols contents);
+  isymbols = option_value table_of None o.isymbols contents;
+  osymbols = option_value table_of None o.osymbols (behind o.isymbols contents);
 }
 
--- the contents of the inputs that the words name behind the command
-abbrev pub own_contents : Options → List (List ℕ) → List (List ℕ)
-own_contents o contents = behind o.osymbols (behind o.isymbols contents)
+-- the new labels of each side
+pub record Renaming : Type 0 where
+  pub input : List Pair
+  pub output : List Pair
+
+-- the new labels, given the contents of the inputs: without the option none
+abbrev pub renaming_of : Options → List (List ℕ) → Renaming
+renaming_of o contents = record {
+  input = option_value pairs_of [] o.relabel_ipairs (behind_tables o contents);
+  output = option_value pairs_of [] o.relabel_opairs (behind o.relabel_ipairs (behind_tables o contents));
+}
 
 -- a machine with its arc type
 pub record Typed : Type 0 where
@@ -64,3 +89,10 @@ typed_by bytes (Err fault) = Err fault
 -- the machine of a file, or the first fault of its form
 abbrev pub machine_of_file : List ℕ → Result Typed BinaryFault
 machine_of_file bytes = typed_by bytes (arc_type_of_bytes bytes)
+
+-- the files are those of these machines, which have this arc type
+abbrev pub AreMachines : ArcType → List (List ℕ) → List (Machine Cost) → Type 0
+AreMachines kind [] [] = Unit {0}
+AreMachines kind [] (m ∷ machines) = ⊥
+AreMachines kind (file ∷ files) [] = ⊥
+AreMachines kind (file ∷ files) (m ∷ machines) = (machine_of_file file ≡ Ok (record { kind = kind; machine = m })) × AreMachines kind files machines

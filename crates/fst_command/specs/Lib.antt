@@ -5,7 +5,9 @@ pub mod Contents
 pub mod Causes
 pub mod Checks
 pub mod Operations
+pub mod Descriptions
 pub mod Outputs
 pub mod Outcome
 pub mod Told
 pub mod Steps
+pub mod Progress

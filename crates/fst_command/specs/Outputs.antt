@@ -1,18 +1,22 @@
 -- What each command is to write, given the contents of its inputs.
 use Rattle.std.specs.Prelude.{◌≡◌, ℕ, List, [], ◌∷◌, Ok}
+use Rattle.fst_semiring.specs.declared.arc_type.ArcType.{ArcType}
 use Rattle.fst_semiring.specs.Cost.{Cost}
 use Rattle.fst_machine.specs.Machine.{Machine}
+use Rattle.fst_trim.specs.Counted.{IsInfo}
+use Rattle.fst_trim.specs.declared.summary.Info.{Info as Summary}
 use Rattle.fst_text.specs.Grammar.{machine_of_text}
 use Rattle.fst_text.specs.Printed.{text_of_machine}
 use Rattle.fst_binary.specs.Spelling.{spelling}
 use Rattle.fst_words.specs.declared.options.Options.{Options}
 use Rattle.fst_words.specs.declared.plan.Plan.{Plan}
-use Rattle.fst_words.specs.declared.verb.Verb.TheVariants.{Compile, Print, Invert, Project, Connect}
+use Rattle.fst_words.specs.declared.verb.Verb.TheVariants.{Compile, Print, Info, Invert, Reverse, Connect, Union, Concat, Closure, Project, Relabel, Arcsort}
 use Rattle.fst_words.specs.declared.verb.Verb.{Verb}
 use Rattle.fst_words.specs.Plans.{outputs_of}
 use Rattle.fst_command.specs.Plans.{arc_type_of}
-use Rattle.fst_command.specs.Operations.{Operates}
-use Rattle.fst_command.specs.Contents.{Choices, Typed, machine_of_file, choices_of, own_contents}
+use Rattle.fst_command.specs.Operations.{Denotes, Operates}
+use Rattle.fst_command.specs.Contents.{Choices, Renaming, Typed, AreMachines, machine_of_file, choices_of, own_contents, renaming_of}
+use Rattle.fst_command.specs.Descriptions.{info_text}
 
 -- an output: its name and its bytes
 abbrev pub Output : Type 0
@@ -36,27 +40,44 @@ pub record Printed (choices : Choices) (contents made : List (List ℕ)) : Type 
   pub prints : text_of_machine machine.kind choices machine.machine ≡ Ok text
   pub makes : made ≡ text ∷ []
 
--- a command that makes one machine of one makes its binary form
-pub record Operated (verb : Verb) (options : Options) (contents made : List (List ℕ)) : Type 0 where
+-- `info` makes the text of what is said of the machine of the file
+pub record Described (contents made : List (List ℕ)) : Type 0 where
   pub file : List ℕ
   pub machine : Typed
-  pub result : Machine Cost
+  pub summary : Summary
   pub read : contents ≡ file ∷ []
   pub reads : machine_of_file file ≡ Ok machine
-  pub operates : Operates verb options machine.machine result
-  pub makes : made ≡ spelling machine.kind result ∷ []
+  pub describes : IsInfo machine.kind (λ w. w) machine.machine summary
+  pub makes : made ≡ info_text summary ∷ []
+
+-- a command that makes one machine of those of its files makes its binary form
+pub record Operated (verb : Verb) (options : Options) (renaming : Renaming) (contents made : List (List ℕ)) : Type 0 where
+  pub kind : ArcType
+  pub machines : List (Machine Cost)
+  pub result : Machine Cost
+  pub reads : AreMachines kind contents machines
+  pub operates : Operates verb options renaming kind machines result
+  pub denotes : Denotes verb options renaming kind machines result
+  pub makes : made ≡ spelling kind result ∷ []
 
 -- what a command makes of the contents of its own inputs, for each of its outputs
-abbrev pub MakesBy : Verb → Options → Choices → List (List ℕ) → List (List ℕ) → Type 0
-MakesBy Compile options choices contents made = Compiled options choices contents made
-MakesBy Print options choices contents made = Printed choices contents made
-MakesBy Invert options choices contents made = Operated Invert options contents made
-MakesBy Project options choices contents made = Operated Project options contents made
-MakesBy Connect options choices contents made = Operated Connect options contents made
-MakesBy _ options choices contents made = ⊥
+abbrev pub MakesBy : Verb → Options → Choices → Renaming → List (List ℕ) → List (List ℕ) → Type 0
+MakesBy Compile options choices renaming contents made = Compiled options choices contents made
+MakesBy Print options choices renaming contents made = Printed choices contents made
+MakesBy Info options choices renaming contents made = Described contents made
+MakesBy Invert options choices renaming contents made = Operated Invert options renaming contents made
+MakesBy Reverse options choices renaming contents made = Operated Reverse options renaming contents made
+MakesBy Connect options choices renaming contents made = Operated Connect options renaming contents made
+MakesBy Union options choices renaming contents made = Operated Union options renaming contents made
+MakesBy Concat options choices renaming contents made = Operated Concat options renaming contents made
+MakesBy Closure options choices renaming contents made = Operated Closure options renaming contents made
+MakesBy Project options choices renaming contents made = Operated Project options renaming contents made
+MakesBy Relabel options choices renaming contents made = Operated Relabel options renaming contents made
+MakesBy Arcsort options choices renaming contents made = Operated Arcsort options renaming contents made
+MakesBy _ options choices renaming contents made = ⊥
 
 abbrev pub Makes : Plan → List (List ℕ) → List (List ℕ) → Type 0
-Makes plan contents made = MakesBy plan.command plan.options (choices_of plan.options contents) (own_contents plan.options contents) made
+Makes plan contents = MakesBy plan.command plan.options (choices_of plan.options contents) (renaming_of plan.options contents) (own_contents plan.options contents)
 
 -- the outputs of these names have these bytes, in order
 abbrev pub AreNamed : List (List ℕ) → List (List ℕ) → List Output → Type 0

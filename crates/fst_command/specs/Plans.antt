@@ -1,9 +1,9 @@
 -- What is asked of the words of a command line that names a command of this program.
-use Rattle.std.specs.Prelude.{ℕ, Bool, true, false, List, [], ◌∷◌, ◌++◌, map, Option, Some, None, option_and_then, option_to_list, unwrap_or, if◌then◌else◌}
+use Rattle.std.specs.Prelude.{ℕ, Bool, true, false, List, ◌++◌, map, Option, Some, None, option_and_then, option_to_list, unwrap_or, if◌then◌else◌}
 use Rattle.fst_semiring.specs.declared.arc_type.ArcType.{ArcType}
 use Rattle.fst_semiring.specs.declared.arc_type.ArcType.TheVariants.{Tropical}
 use Rattle.fst_words.specs.declared.verb.Verb.{Verb}
-use Rattle.fst_words.specs.declared.verb.Verb.TheVariants.{Compile, Print, Invert, Project, Connect}
+use Rattle.fst_words.specs.declared.verb.Verb.TheVariants.{Compile, Print, Info, Invert, Reverse, Connect, Union, Concat, Closure, Project, Relabel, Arcsort}
 use Rattle.fst_words.specs.declared.options.Options.{Options}
 use Rattle.fst_words.specs.declared.plan.Plan.{Plan}
 use Rattle.fst_words.specs.Plans.{input_files}
@@ -13,9 +13,16 @@ use Rattle.fst_words.specs.Plans as words
 abbrev pub is_built : Verb → Bool
 is_built Compile = true
 is_built Print = true
+is_built Info = true
 is_built Invert = true
-is_built Project = true
+is_built Reverse = true
 is_built Connect = true
+is_built Union = true
+is_built Concat = true
+is_built Closure = true
+is_built Project = true
+is_built Relabel = true
+is_built Arcsort = true
 is_built _ = false
 
 -- the plan, where its command is built
@@ -30,6 +37,8 @@ plan_of ws = option_and_then built_plan (words.plan_of ws)
 pub data Form : Type 0 where
   -- a symbol table
   symbols_form : Form
+  -- pairs of an old and a new label
+  pairs_form : Form
   -- a machine as text
   text_form : Form
   -- a machine in the binary form
@@ -53,13 +62,17 @@ own_form _ = binary_form
 abbrev pub own_inputs : Plan → List Input
 own_inputs plan = inputs_with (own_form plan.command) (input_files plan)
 
--- the symbol table of an option, where the option stands
-abbrev pub table_inputs : Option (List ℕ) → List Input
-table_inputs name = inputs_with symbols_form (option_to_list name)
+-- the file of an option, where the option stands
+abbrev pub option_input : Form → Option (List ℕ) → List Input
+option_input form name = inputs_with form (option_to_list name)
+
+-- the files of the options, in the order in which they are read
+abbrev pub option_inputs : Options → List Input
+option_inputs o = option_input symbols_form o.isymbols ++ (option_input symbols_form o.osymbols ++ (option_input pairs_form o.relabel_ipairs ++ option_input pairs_form o.relabel_opairs))
 
 -- the inputs of a command, in the order in which they are read: the files of the options come first
 abbrev pub inputs_of : Plan → List Input
-inputs_of plan = table_inputs plan.options.isymbols ++ (table_inputs plan.options.osymbols ++ own_inputs plan)
+inputs_of plan = option_inputs plan.options ++ own_inputs plan
 
 -- the arc type of the machine that is compiled
 abbrev pub arc_type_of : Options → ArcType

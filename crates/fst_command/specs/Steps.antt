@@ -5,21 +5,18 @@ use Rattle.fst_desk.specs.Desk.{content_of, ToldHolds}
 use Rattle.fst_semiring.specs.declared.arc_type.ArcType.{ArcType}
 use Rattle.fst_semiring.specs.Cost.{Cost}
 use Rattle.fst_machine.specs.Machine.{Machine}
-use Rattle.fst_symbols.specs.Symbols.{Symbol}
-use Rattle.fst_symbols.specs.Reading.{table_of_text}
 use Rattle.fst_text.specs.Grammar.{machine_of_text}
 use Rattle.fst_text.specs.Printed.{text_of_machine}
 use Rattle.fst_binary.specs.Spelling.{spelling}
 use Rattle.fst_words.specs.declared.options.Options.{Options}
 use Rattle.fst_words.specs.declared.plan.Plan.{Plan}
 use Rattle.fst_words.specs.declared.verb.Verb.{Verb}
-use Rattle.fst_words.specs.declared.verb.Verb.TheVariants.{Compile, Print, Invert, Project, Connect}
+use Rattle.fst_words.specs.declared.verb.Verb.TheVariants.{Compile, Print, Info, Invert, Reverse, Connect, Closure, Project, Relabel, Arcsort}
 use Rattle.fst_command.specs.Plans.{Input, arc_type_of}
-use Rattle.fst_command.specs.Contents.{Choices, Typed, machine_of_file}
-use Rattle.fst_command.specs.Causes.{Cause, too_long, bad_symbols, bad_text, bad_binary, kinds_differ, unprintable, Answer, done, refused, no_memory, unread, unwritten}
-use Rattle.fst_command.specs.Checks.{Check, symbols_check, text_check, binary_check, kinds_check, print_check, read_limit, AllPass, IsFirst, form_check, later_checks}
-use Rattle.fst_command.specs.Operations.{Operates}
-use Rattle.fst_command.specs.Outputs.{Makes}
+use Rattle.fst_command.specs.Contents.{Choices, Renaming, Typed, machine_of_file}
+use Rattle.fst_command.specs.Causes.{Cause, too_long, bad_symbols, bad_pairs, bad_text, bad_binary, kinds_differ, too_large, unprintable, Answer, done, refused, no_memory, unread, unwritten}
+use Rattle.fst_command.specs.Checks.{Check, text_check, binary_check, kinds_check, print_check, read_limit, Passes, AllPass, IsFirst, form_check, operation_checks, later_checks}
+use Rattle.fst_command.specs.Outputs.{Described, Makes, Operated}
 use Rattle.fst_command.specs.Outcome.{Answers}
 use Rattle.fst_command.specs.declared.refusal.Refusal.{Refusal}
 use Rattle.fst_command.specs.Told.{Tells}
@@ -81,34 +78,38 @@ pub record WritesOutput (name bytes : List ℕ) (old new : Seen) (result : Resul
 abbrev pub IsOfForm : Cause → Type 0
 IsOfForm (too_long name) = ⊥
 IsOfForm (bad_symbols name fault) = Unit {0}
+IsOfForm (bad_pairs name fault) = Unit {0}
 IsOfForm (bad_text name fault) = Unit {0}
 IsOfForm (bad_binary name fault) = Unit {0}
 IsOfForm (kinds_differ first other) = Unit {0}
+IsOfForm (too_large fault) = Unit {0}
 IsOfForm (unprintable fault) = Unit {0}
 
 -- the refusal tells want of memory, or the first cause that the questions find
 abbrev pub Declines : List Check → Refusal → Type 0
 Declines checks refusal = Tells no_memory refusal ⊎ ((cause : Cause) × IsFirst checks cause × IsOfForm cause × Tells (refused cause) refusal)
 
--- the table of an input of this name was read, or why not
-abbrev pub TableAnswer : List ℕ → Seen → Seen → Result (List Symbol) Refusal → Type 0
-TableAnswer name old new (Ok table) = (content : List ℕ) × Reads name old new (Ok content) × (table_of_text content ≡ Ok table)
-TableAnswer name old new (Err refusal) = Reads name old new (Err refusal) ⊎ ((content : List ℕ) × Reads name old new (Ok content) × Declines (symbols_check name content ∷ []) refusal)
+-- what the file of an option stands for, or why nothing
+abbrev pub FileAnswer : {X : Type 0} → (List ℕ → List ℕ → Check) → (List ℕ → Option X) → List ℕ → Seen → Seen → Result X Refusal → Type 0
+FileAnswer check read name old new (Ok x) = (content : List ℕ) × Reads name old new (Ok content) × (read content ≡ Some x)
+FileAnswer check read name old new (Err refusal) = Reads name old new (Err refusal) ⊎ ((content : List ℕ) × Reads name old new (Ok content) × Declines (check name content ∷ []) refusal)
 
--- reading the table of an option: without the option there is none, and nothing is done
-abbrev pub ReadsTable : Option (List ℕ) → Seen → Seen → Result (Option (List Symbol)) Refusal → Type 0
-ReadsTable None old new (Ok None) = new ≡ old
-ReadsTable None old new (Ok (Some table)) = ⊥
-ReadsTable None old new (Err refusal) = ⊥
-ReadsTable (Some name) old new (Ok None) = ⊥
-ReadsTable (Some name) old new (Ok (Some table)) = TableAnswer name old new (Ok table)
-ReadsTable (Some name) old new (Err refusal) = TableAnswer name old new (Err refusal)
+-- reading the file of an option: without the option this value stands in its place, and nothing is done
+abbrev pub ReadsOption : {X : Type 0} → (List ℕ → List ℕ → Check) → (List ℕ → Option X) → X → Option (List ℕ) → Seen → Seen → Result X Refusal → Type 0
+ReadsOption check read none None old new (Ok x) = (x ≡ none) × (new ≡ old)
+ReadsOption check read none None old new (Err refusal) = ⊥
+ReadsOption check read none (Some name) old new (Ok x) = FileAnswer check read name old new (Ok x)
+ReadsOption check read none (Some name) old new (Err refusal) = FileAnswer check read name old new (Err refusal)
+
+-- an output is made, where no question finds a cause; else the refusal tells the first cause
+abbrev pub Settles : List Check → (List (List ℕ) → Type 0) → Result (List ℕ) Refusal → Type 0
+Settles checks makes (Ok bytes) = AllPass checks × makes (bytes ∷ [])
+Settles checks makes (Err refusal) = Declines checks refusal
 
 -- What a command makes of the content of its last input, where these contents were read before, for its one
--- output: bytes, where no question finds a cause; else the refusal tells the first cause, or want of memory.
+-- output.
 abbrev pub Decides : Plan → List (List ℕ) → Input → List ℕ → Result (List ℕ) Refusal → Type 0
-Decides plan before i content (Ok bytes) = AllPass (form_check plan before i content ∷ later_checks plan (before ++ content ∷ [])) × Makes plan (before ++ content ∷ []) (bytes ∷ [])
-Decides plan before i content (Err refusal) = Declines (form_check plan before i content ∷ later_checks plan (before ++ content ∷ [])) refusal
+Decides plan before i content result = Settles (form_check plan before i content ∷ later_checks plan (before ++ content ∷ [])) (Makes plan (before ++ content ∷ [])) result
 
 -- the answer of a command that ended so
 abbrev pub Ends : Answer → Result Unit Refusal → Type 0
@@ -132,16 +133,43 @@ abbrev pub PrintsTo : Choices → List ℕ → List ℕ → Result (List ℕ) Re
 PrintsTo choices name content (Ok text) = (m : Typed) × (machine_of_file content ≡ Ok m) × (text_of_machine m.kind choices m.machine ≡ Ok text)
 PrintsTo choices name content (Err refusal) = Declines (binary_check name content ∷ kinds_check (content ∷ []) ∷ print_check choices content ∷ []) refusal
 
+-- what is said of the machine of a file, or why nothing
+abbrev pub DescribesTo : List ℕ → List ℕ → Result (List ℕ) Refusal → Type 0
+DescribesTo name content result = Settles (binary_check name content ∷ kinds_check (content ∷ []) ∷ []) (Described (content ∷ [])) result
+
 -- the binary form of the machine that is made of the machine of a file, or why there is none
-abbrev pub OperatesTo : Verb → Options → List ℕ → List ℕ → Result (List ℕ) Refusal → Type 0
-OperatesTo verb options name content (Ok bytes) = (m : Typed) × (machine_of_file content ≡ Ok m) × (result : Machine Cost) × Operates verb options m.machine result × (bytes ≡ spelling m.kind result)
-OperatesTo verb options name content (Err refusal) = Declines (binary_check name content ∷ kinds_check (content ∷ []) ∷ []) refusal
+abbrev pub OperatesTo : Verb → Options → Renaming → List ℕ → List ℕ → Result (List ℕ) Refusal → Type 0
+OperatesTo verb options renaming name content result = Settles (binary_check name content ∷ operation_checks verb options (content ∷ [])) (Operated verb options renaming (content ∷ [])) result
+
+-- that of the machine that is made of the machines of two files, of which the second has this name
+abbrev pub JoinsTo : Verb → Options → Renaming → List ℕ → List ℕ → List ℕ → Result (List ℕ) Refusal → Type 0
+JoinsTo verb options renaming first name second result = Settles (binary_check name second ∷ operation_checks verb options (first ∷ second ∷ [])) (Operated verb options renaming (first ∷ second ∷ [])) result
+
+-- A second file of another arc type than the first is refused: by the first fault of its form, or else by its
+-- arc type.
+abbrev pub DeclinesOther : ArcType → List ℕ → List ℕ → Refusal → Type 0
+DeclinesOther kind name second refusal = (verb : Verb) (options : Options) (first : List ℕ) (a : Machine Cost) → machine_of_file first ≡ Ok (record { kind = kind; machine = a }) → Declines (binary_check name second ∷ operation_checks verb options (first ∷ second ∷ [])) refusal
+
+-- the second of two files was read behind the first, or why there is no output
+abbrev pub SecondAnswer : Verb → Options → Renaming → List ℕ → List ℕ → Seen → Seen → Result (List ℕ) Refusal → Type 0
+SecondAnswer verb options renaming first name old new (Ok bytes) = (second : List ℕ) × Reads name old new (Ok second) × JoinsTo verb options renaming first name second (Ok bytes)
+SecondAnswer verb options renaming first name old new (Err refusal) = Reads name old new (Err refusal) ⊎ ((second : List ℕ) × Reads name old new (Ok second) × JoinsTo verb options renaming first name second (Err refusal))
+
+-- the machine of the first file was read, before the second, or why there is no output
+abbrev pub FirstAnswer : Verb → Options → Renaming → List ℕ → List ℕ → List ℕ → Seen → Seen → Result (List ℕ) Refusal → Type 0
+FirstAnswer verb options renaming name first other old new (Ok bytes) = Passes (binary_check name first) × SecondAnswer verb options renaming first other old new (Ok bytes)
+FirstAnswer verb options renaming name first other old new (Err refusal) = (Declines (binary_check name first ∷ []) refusal × (new ≡ old)) ⊎ (Passes (binary_check name first) × SecondAnswer verb options renaming first other old new (Err refusal))
 
 -- what a command with one input of its own makes of its content
-abbrev pub MakesTo : Verb → Options → Choices → List ℕ → List ℕ → Result (List ℕ) Refusal → Type 0
-MakesTo Compile options choices name content result = CompilesTo (arc_type_of options) choices name content result
-MakesTo Print options choices name content result = PrintsTo choices name content result
-MakesTo Invert options choices name content result = OperatesTo Invert options name content result
-MakesTo Project options choices name content result = OperatesTo Project options name content result
-MakesTo Connect options choices name content result = OperatesTo Connect options name content result
-MakesTo _ options choices name content result = ⊥
+abbrev pub MakesTo : Verb → Options → Choices → Renaming → List ℕ → List ℕ → Result (List ℕ) Refusal → Type 0
+MakesTo Compile options choices renaming name content result = CompilesTo (arc_type_of options) choices name content result
+MakesTo Print options choices renaming name content result = PrintsTo choices name content result
+MakesTo Info options choices renaming name content result = DescribesTo name content result
+MakesTo Invert options choices renaming name content result = OperatesTo Invert options renaming name content result
+MakesTo Reverse options choices renaming name content result = OperatesTo Reverse options renaming name content result
+MakesTo Connect options choices renaming name content result = OperatesTo Connect options renaming name content result
+MakesTo Closure options choices renaming name content result = OperatesTo Closure options renaming name content result
+MakesTo Project options choices renaming name content result = OperatesTo Project options renaming name content result
+MakesTo Relabel options choices renaming name content result = OperatesTo Relabel options renaming name content result
+MakesTo Arcsort options choices renaming name content result = OperatesTo Arcsort options renaming name content result
+MakesTo _ options choices renaming name content result = ⊥

@@ -5,11 +5,16 @@
 //! names no command: each command adds its case to the definitions that it cites.
 #![tactic(auto)]
 
+mod carrying;
+mod descriptions;
 mod files;
 mod forms;
+mod joins;
+mod kinds;
 mod operations;
+mod option_files;
 mod refusal;
-mod tables;
+mod summaries;
 mod top;
 
 pub use top::run;

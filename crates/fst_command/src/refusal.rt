@@ -1,10 +1,13 @@
 //! Why a command ended without its outputs: the status and the line that follow.
 
 ghost use Rattle.std.specs.Prelude.{◌≡◌, ◌↔◌, IsTrue, IfOk, string_bytes};
-ghost use Rattle.fst_command.specs.Causes.{refused, too_long, bad_symbols, bad_text, bad_binary, unprintable, unread, unwritten, line_at, placed_line, no_symbol_line, two_labels_line, symbols_line_at, symbols_reason, text_reason, binary_reason};
+ghost use Rattle.fst_command.specs.Causes.{refused, too_long, bad_symbols, bad_pairs, bad_text, bad_binary, kinds_differ, too_large, unprintable, unread, unwritten, line_at, placed_line, no_symbol_line, two_labels_line, symbols_line_at, symbols_reason, pairs_line_at, pairs_reason, text_reason, binary_reason};
 ghost use Rattle.fst_command.specs.Told.{IsMade, MakesLine, told_line, told_status};
 
+use crate::kinds::kind_name;
 use fst_binary::{BinaryFault, BinaryKind};
+use fst_rational::{PairsFault, RationalFault};
+use fst_semiring::ArcType;
 use fst_symbols::SymbolsFault;
 use fst_text::{PrintFault, TextFault};
 use std::alloc::{AllocError, Global};
@@ -137,6 +140,43 @@ pub fn not_symbols(alloc: Global, name: &str, fault: SymbolsFault) -> Refusal
     made(1, fault_line(alloc, name, "line", place, reason))
 }
 
+/// What is wrong with a line of pairs.
+fn reason_of_pairs(fault: PairsFault) -> &'static str
+    ensures { result.now ≡ pairs_reason fault }
+{
+    match fault {
+        PairsFault::BadColumns { line: _ } => "wrong number of columns",
+        PairsFault::BadLabel { line: _ } => "bad label",
+        PairsFault::Duplicate { line: _ } => "label given twice",
+        PairsFault::Memory => "out of memory",
+    }
+}
+
+/// The line of a fault of pairs.
+fn line_of_pairs(fault: PairsFault) -> u64
+    ensures { result ≡ pairs_line_at fault }
+{
+    match fault {
+        PairsFault::BadColumns { line }
+        | PairsFault::BadLabel { line }
+        | PairsFault::Duplicate { line } => line,
+        PairsFault::Memory => 0,
+    }
+}
+
+/// The content under the name has no pairs of labels.
+pub fn not_pairs(alloc: Global, name: &str, fault: PairsFault) -> Refusal
+    ensures made { IsMade (refused (bad_pairs name.now fault)) result }
+    ensures memory { fault ≡ PairsFault.Memory → result ≡ Refusal.Memory }
+{
+    if matches!(fault, PairsFault::Memory) {
+        return Refusal::Memory;
+    }
+    let place = line_of_pairs(fault);
+    let reason = reason_of_pairs(fault);
+    made(1, fault_line(alloc, name, "line", place, reason))
+}
+
 /// What is wrong with a line of a text form.
 fn reason_of_text(fault: TextFault) -> &'static str
     ensures { result.now ≡ text_reason fault }
@@ -239,4 +279,25 @@ pub fn not_printable(alloc: Global, fault: PrintFault) -> Refusal
         PrintFault::UnknownSymbol { label } => made(1, label_line(alloc, label)),
         PrintFault::Memory => Refusal::Memory,
     }
+}
+
+/// The machine that the command makes is too large.
+pub fn too_large(alloc: Global, fault: RationalFault) -> Refusal
+    ensures made { IsMade (refused (too_large fault)) result }
+    ensures memory { fault ≡ RationalFault.Memory → result ≡ Refusal.Memory }
+{
+    match fault {
+        RationalFault::TooManyStates => made(1, format!(in alloc; "fst: too many states\n")),
+        RationalFault::TooManyArcs => made(1, format!(in alloc; "fst: too many arcs\n")),
+        RationalFault::Memory => Refusal::Memory,
+    }
+}
+
+/// The second machine has another arc type than the first.
+pub fn kinds_apart(alloc: Global, kind: ArcType, other: ArcType) -> Refusal
+    ensures { IsMade (refused (kinds_differ kind other)) result }
+{
+    let first = kind_name(kind);
+    let second = kind_name(other);
+    made(1, format!(in alloc; "fst: arc types differ: {first} and {second}\n"))
 }

@@ -6,6 +6,8 @@ use std::alloc::Global;
 use std::test::Fail;
 use std::thread::Threads;
 
+mod operations;
+
 /// A text of two states and one arc, and its binary form.
 const TICKET: &[u8] = b"0 1 1 2 5\n1 3\n";
 
@@ -257,45 +259,6 @@ fn compiles_and_prints_with_options(rt: HostRuntime) -> Result<(), Fail> {
 }
 
 #[test]
-fn makes_a_machine_of_a_machine(rt: HostRuntime) -> Result<(), Fail> {
-    let alloc = rt.alloc();
-    for (words, printed) in [
-        (
-            ["invert", "m", "r"].as_slice(),
-            b"0\t1\t2\t1\t5\n1\t3\n".as_slice(),
-        ),
-        (&["fstproject", "m", "r"], b"0\t1\t1\t1\t5\n1\t3\n"),
-        (
-            &["project", "m", "--project_output", "r"],
-            b"0\t1\t2\t2\t5\n1\t3\n",
-        ),
-        (&["invert", "e", "r"], b""),
-        (&["connect", "u", "r"], b"0\t1\t1\t1\n1\t4\n"),
-        (&["connect", "e", "r"], b""),
-    ] {
-        let mut desk = MemoryDesk::new(alloc);
-        desk.put("m", TICKET_FILE.as_slice())?;
-        desk.put("t", b"")?;
-        desk.put("v", b"0 1 1 1\n0 2 2 2\n1 4\n")?;
-        for compile in [["compile", "t", "e"], ["compile", "v", "u"]] {
-            assert_eq!(rt; status_of(&rt, alloc, &mut desk, &compile)?, 0);
-        }
-        assert_eq!(rt; status_of(&rt, alloc, &mut desk, words)?, 0, "{words:?}");
-        assert_eq!(rt; status_of(&rt, alloc, &mut desk, &["print", "r", "p"])?, 0);
-        assert!(rt; holds(&desk, "p", printed), "{words:?}");
-    }
-    let mut desk = MemoryDesk::new(alloc);
-    desk.put("t", TICKET)?;
-    assert_eq!(rt; status_of(&rt, alloc, &mut desk, &["invert", "t", "r"])?, 1);
-    assert_eq!(rt;
-        desk.shown_bytes(),
-        b"fst: t: byte 0: bad magic number\n".as_slice()
-    );
-    assert!(rt; desk.held("r").is_none());
-    Ok(())
-}
-
-#[test]
 fn refuses_by_the_first_cause(rt: HostRuntime) -> Result<(), Fail> {
     let alloc = rt.alloc();
     for (text, words, status, line) in [
@@ -492,15 +455,18 @@ fn refuses_other_words(rt: HostRuntime) -> Result<(), Fail> {
         &["compile", "--acceptor", "--acceptor", "t", "b"],
         &["compile", "--isymbols=-", "-", "b"],
         &["print", "--help"],
+        &["union", "-", "-", "b"],
+        &["relabel", "--relabel_ipairs=-", "-", "b"],
+        &["arcsort", "--sort_type=weight", "t", "b"],
         // A command of the form that is not built yet.
-        &["union", "a", "b", "c"],
+        &["compose", "a", "b", "c"],
     ] {
         assert_eq!(rt; status_of(&rt, alloc, &mut desk, words)?, 1, "{words:?}");
     }
     assert!(rt; desk.held("b").is_none());
     assert_eq!(rt;
         desk.shown_bytes().len(),
-        12 * b"fst: bad command line\n".len()
+        15 * b"fst: bad command line\n".len()
     );
 
     // A name that is missing is that of the standard streams; one name may stand in both places.

@@ -1,20 +1,14 @@
-//! The order of work: words, plan, tables, input, bytes, output; and the line of a refusal.
+//! The top call: words, work, and the line of a refusal.
 
-ghost use Rattle.std.specs.Prelude.{◌≡◌, Some, length, map, string_bytes, true};
-ghost use Rattle.std.specs.Result.{result_map_both};
+ghost use Rattle.std.specs.Prelude.{◌≡◌, map, string_bytes};
 ghost use Rattle.fst_command.specs.Plans.{is_built, plan_of};
 ghost use Rattle.fst_command.specs.Outcome.{Runs, Completes};
-ghost use Rattle.fst_command.specs.Steps.{MakesTo, Works};
+ghost use Rattle.fst_command.specs.Steps.{Works};
 
-use crate::files::{read_input, write_output};
-use crate::forms::{compiled, printed};
-use crate::operations::operated;
+use crate::carrying::carry_out;
 use crate::refusal::Refusal;
-use crate::tables::read_table;
 use fst_desk::Desk;
-use fst_semiring::ArcType;
-use fst_text::TextOptions;
-use fst_words::{Plan, Verb, WordsFault, read_words};
+use fst_words::{Verb, WordsFault, read_words};
 use std::alloc::Global;
 use std::thread::Threads;
 
@@ -24,68 +18,19 @@ fn is_ready(verb: Verb) -> bool
 {
     matches!(
         verb,
-        Verb::Compile | Verb::Print | Verb::Invert | Verb::Project | Verb::Connect
+        Verb::Compile
+            | Verb::Print
+            | Verb::Info
+            | Verb::Invert
+            | Verb::Reverse
+            | Verb::Connect
+            | Verb::Union
+            | Verb::Concat
+            | Verb::Closure
+            | Verb::Project
+            | Verb::Relabel
+            | Verb::Arcsort
     )
-}
-
-/// The bytes that a command makes of the content of its own input.
-fn made(
-    alloc: Global,
-    plan: &Plan,
-    options: &TextOptions<'_>,
-    name: &str,
-    content: Vec<u8>,
-) -> Result<Vec<u8>, Refusal>
-    requires { is_built plan.now.command ≡ true }
-    ensures { MakesTo plan.now.command plan.now.options options.now name.now content.items (result_map_both (λ v. v.items) (λ e. e) result) }
-{
-    match plan.command {
-        Verb::Compile => {
-            let kind = match plan.options.arc_type {
-                Some(kind) => kind,
-                None => ArcType::Tropical,
-            };
-            compiled(alloc, name, kind, options, content)
-        }
-        Verb::Print => printed(alloc, name, options, content),
-        Verb::Invert | Verb::Project | Verb::Connect => {
-            operated(alloc, plan.command, &plan.options, name, content)
-        }
-        _ => unreachable!(),
-    }
-}
-
-/// Does what a plan asks for. All bytes are there before the first is written.
-fn carry_out<D: Desk>(alloc: Global, desk: &mut D, plan: &Plan) -> Result<(), Refusal>
-    requires built { is_built plan.now.command ≡ true }
-    requires names { length plan.now.names ≡ 2 }
-    ensures { Works (Some plan.now) (D.seen desk.old) (D.seen desk.new) result }
-{
-    let isymbols = match read_table(alloc, desk, &plan.options.isymbols) {
-        Ok(table) => table,
-        Err(refusal) => return Err(refusal),
-    };
-    let osymbols = match read_table(alloc, desk, &plan.options.osymbols) {
-        Ok(table) => table,
-        Err(refusal) => return Err(refusal),
-    };
-    let name = plan.names.item(0).text();
-    let content = match read_input(alloc, desk, name) {
-        Ok(content) => content,
-        Err(refusal) => return Err(refusal),
-    };
-    let options = TextOptions {
-        acceptor: plan.options.acceptor,
-        keep_state_numbering: plan.options.keep_state_numbering,
-        show_weight_one: plan.options.show_weight_one,
-        isymbols: isymbols.as_ref(),
-        osymbols: osymbols.as_ref(),
-    };
-    let bytes = match made(alloc, plan, &options, name, content) {
-        Ok(bytes) => bytes,
-        Err(refusal) => return Err(refusal),
-    };
-    write_output(alloc, desk, plan.names.item(1).text(), bytes.as_slice())
 }
 
 /// Does what the words ask for.

@@ -8,3 +8,4 @@ pub mod Trimming
 pub mod Epsilons
 pub mod Alongside
 pub mod Rearranged
+pub mod Valued

@@ -1,0 +1,158 @@
+//! The order of work of a plan: the files of the options, the command's own inputs, the bytes, the output.
+
+ghost use Rattle.std.specs.Prelude.{◌≡◌, [], ◌∷◌, Some, true, false};
+ghost use Rattle.std.specs.Result.{result_map_both};
+ghost use Rattle.fst_words.specs.PlanLaws.{IsWhole};
+ghost use Rattle.fst_words.specs.Plans.{outputs_of};
+ghost use Rattle.fst_command.specs.Operations.{is_join};
+ghost use Rattle.fst_command.specs.Plans.{is_built};
+ghost use Rattle.fst_command.specs.Progress.{PreparesBehind, choices_with, renaming_in};
+ghost use Rattle.fst_command.specs.Steps.{MakesTo, Works};
+
+use crate::files::{read_input, write_output};
+use crate::forms::{compiled, printed};
+use crate::joins::joined;
+use crate::operations::operated;
+use crate::option_files::{OptionFiles, read_options};
+use crate::refusal::Refusal;
+use crate::summaries::summarized;
+use fst_desk::Desk;
+use fst_semiring::ArcType;
+use fst_text::TextOptions;
+use fst_words::{Options, Plan, Verb};
+use std::alloc::Global;
+
+/// Whether a command makes a machine of two.
+fn joins(verb: Verb) -> bool
+    ensures { result ≡ is_join verb }
+{
+    matches!(verb, Verb::Union | Verb::Concat)
+}
+
+/// How texts are read and printed.
+fn text_options<'a>(options: &Options, files: &'a OptionFiles) -> TextOptions<'a>
+    ensures { result ≡ choices_with options.now files.now.isymbols files.now.osymbols }
+{
+    TextOptions {
+        acceptor: options.acceptor,
+        keep_state_numbering: options.keep_state_numbering,
+        show_weight_one: options.show_weight_one,
+        isymbols: files.isymbols.as_ref(),
+        osymbols: files.osymbols.as_ref(),
+    }
+}
+
+/// The bytes that a command makes of the content of its one own input.
+fn made(
+    alloc: Global,
+    plan: &Plan,
+    files: &OptionFiles,
+    name: &str,
+    content: Vec<u8>,
+) -> Result<Vec<u8>, Refusal>
+    requires built { is_built plan.now.command ≡ true }
+    requires single { is_join plan.now.command ≡ false }
+    ensures { MakesTo plan.now.command plan.now.options (choices_with plan.now.options files.now.isymbols files.now.osymbols) (renaming_in files.now) name.now content.items (result_map_both (λ v. v.items) (λ e. e) result) }
+{
+    let texts = text_options(&plan.options, files);
+    match plan.command {
+        Verb::Compile => {
+            let kind = match plan.options.arc_type {
+                Some(kind) => kind,
+                None => ArcType::Tropical,
+            };
+            compiled(alloc, name, kind, &texts, content)
+        }
+        Verb::Print => printed(alloc, name, &texts, content),
+        Verb::Info => summarized(alloc, name, content),
+        _ => operated(alloc, plan.command, &plan.options, files, name, content),
+    }
+}
+
+/// The bytes of the output of a command with one input of its own.
+fn prepare_single<D: Desk>(
+    alloc: Global,
+    desk: &mut D,
+    plan: &Plan,
+    files: &OptionFiles,
+) -> Result<Vec<u8>, Refusal>
+    requires built { is_built plan.now.command ≡ true }
+    requires single { is_join plan.now.command ≡ false }
+    requires whole { IsWhole plan.now }
+    ensures { PreparesBehind plan.now files.now (D.seen desk.old) (D.seen desk.new) (result_map_both (λ v. v.items) (λ e. e) result) }
+{
+    let name = plan.names.item(0).text();
+    let content = match read_input(alloc, desk, name) {
+        Ok(content) => content,
+        Err(refusal) => return Err(refusal),
+    };
+    made(alloc, plan, files, name, content)
+}
+
+/// The bytes of the output of a command that makes a machine of two.
+fn prepare_join<D: Desk>(
+    alloc: Global,
+    desk: &mut D,
+    plan: &Plan,
+    files: &OptionFiles,
+) -> Result<Vec<u8>, Refusal>
+    requires join { is_join plan.now.command ≡ true }
+    requires whole { IsWhole plan.now }
+    ensures { PreparesBehind plan.now files.now (D.seen desk.old) (D.seen desk.new) (result_map_both (λ v. v.items) (λ e. e) result) }
+{
+    let name = plan.names.item(0).text();
+    let content = match read_input(alloc, desk, name) {
+        Ok(content) => content,
+        Err(refusal) => return Err(refusal),
+    };
+    let other = plan.names.item(1).text();
+    joined(alloc, desk, plan.command, name, content, other)
+}
+
+/// The bytes of the output of a command.
+fn prepare<D: Desk>(
+    alloc: Global,
+    desk: &mut D,
+    plan: &Plan,
+    files: &OptionFiles,
+) -> Result<Vec<u8>, Refusal>
+    requires built { is_built plan.now.command ≡ true }
+    requires whole { IsWhole plan.now }
+    ensures { PreparesBehind plan.now files.now (D.seen desk.old) (D.seen desk.new) (result_map_both (λ v. v.items) (λ e. e) result) }
+{
+    if joins(plan.command) {
+        prepare_join(alloc, desk, plan, files)
+    } else {
+        prepare_single(alloc, desk, plan, files)
+    }
+}
+
+/// The name of the one output of a command.
+fn output_name(plan: &Plan) -> &str
+    requires built { is_built plan.now.command ≡ true }
+    requires whole { IsWhole plan.now }
+    ensures { outputs_of plan.now ≡ result.now ∷ [] }
+{
+    if joins(plan.command) {
+        plan.names.item(2).text()
+    } else {
+        plan.names.item(1).text()
+    }
+}
+
+/// Does what a plan asks for. All bytes are there before the first is written.
+pub fn carry_out<D: Desk>(alloc: Global, desk: &mut D, plan: &Plan) -> Result<(), Refusal>
+    requires built { is_built plan.now.command ≡ true }
+    requires whole { IsWhole plan.now }
+    ensures { Works (Some plan.now) (D.seen desk.old) (D.seen desk.new) result }
+{
+    let files = match read_options(alloc, desk, plan) {
+        Ok(files) => files,
+        Err(refusal) => return Err(refusal),
+    };
+    let bytes = match prepare(alloc, desk, plan, &files) {
+        Ok(bytes) => bytes,
+        Err(refusal) => return Err(refusal),
+    };
+    write_output(alloc, desk, output_name(plan), bytes.as_slice())
+}

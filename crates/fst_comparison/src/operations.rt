@@ -1,0 +1,154 @@
+//! The operations that make one triple of each, and by definition what they make of it.
+
+use crate::relation::{Triple, add_arcs, put};
+use fst_machine::Fst;
+use fst_rational::{invert, project, read_pairs, relabel, reverse};
+use fst_semiring::Weight;
+use fst_trim::{Side, arcsort, connect};
+use std::alloc::{AllocError, Global};
+use std::process::Abort;
+use std::test::Fail;
+
+/// An operation of one machine that makes one triple of each.
+#[derive(Clone, Copy, Debug)]
+pub(crate) enum Change {
+    Reverse,
+    Invert,
+    ProjectInput,
+    ProjectOutput,
+    Relabel,
+    SortInput,
+    SortOutput,
+    Connect,
+}
+
+/// Old input labels, each with its new label.
+const INPUT_PAIRS: &[(u32, u32)] = &[(1, 2), (3, 0)];
+
+/// Old output labels, each with its new label. A new label is an old one, too.
+const OUTPUT_PAIRS: &[(u32, u32)] = &[(1, 2), (2, 0)];
+
+/// Relabels a machine by texts of `INPUT_PAIRS` and `OUTPUT_PAIRS`.
+fn with_new_labels<W: Weight>(alloc: Global, fst: &Fst<W>) -> Result<Fst<W>, Fail> {
+    let input = read_pairs(alloc, b"1 2\n3 0\n")?;
+    let output = read_pairs(alloc, b"1 2\n2 0\n")?;
+    let made = relabel(alloc, fst, &input, &output)?;
+    Ok(made)
+}
+
+/// What the operation makes of a machine.
+pub(crate) fn apply<W: Weight>(
+    alloc: Global,
+    change: Change,
+    fst: &Fst<W>,
+) -> Result<Fst<W>, Fail> {
+    let made = match change {
+        Change::Reverse => reverse(alloc, fst)?,
+        Change::Invert => invert(alloc, fst)?,
+        Change::ProjectInput => project(alloc, fst, false)?,
+        Change::ProjectOutput => project(alloc, fst, true)?,
+        Change::Relabel => with_new_labels(alloc, fst)?,
+        Change::SortInput => arcsort(alloc, fst, Side::Input)?,
+        Change::SortOutput => arcsort(alloc, fst, Side::Output)?,
+        Change::Connect => connect(alloc, fst)?,
+    };
+    Ok(made)
+}
+
+/// A copy of a string.
+fn copied(alloc: Global, text: &[u32]) -> Result<Vec<u32>, AllocError> {
+    let mut copy = Vec::new(alloc);
+    copy.extend_from_slice(text)?;
+    Ok(copy)
+}
+
+/// A string turned round.
+fn turned(alloc: Global, text: &[u32]) -> Result<Vec<u32>, AllocError> {
+    let mut back = Vec::new(alloc);
+    for label in text.iter().rev() {
+        back.push(*label)?;
+    }
+    Ok(back)
+}
+
+/// The new label of an old one; a label that is no old one stays.
+fn new_label(pairs: &[(u32, u32)], label: u32) -> u32 {
+    for (old, new) in pairs {
+        if *old == label {
+            return *new;
+        }
+    }
+    label
+}
+
+/// A string with its old labels replaced, without what became epsilon.
+fn replaced(alloc: Global, pairs: &[(u32, u32)], text: &[u32]) -> Result<Vec<u32>, AllocError> {
+    let mut news = Vec::new(alloc);
+    for label in text {
+        let new = new_label(pairs, *label);
+        if new != 0 {
+            news.push(new)?;
+        }
+    }
+    Ok(news)
+}
+
+/// The strings of the triple that the operation makes of one with these strings.
+fn changed_pair(
+    alloc: Global,
+    change: Change,
+    input: &[u32],
+    output: &[u32],
+) -> Result<(Vec<u32>, Vec<u32>), AllocError> {
+    let pair = match change {
+        Change::Reverse => (turned(alloc, input)?, turned(alloc, output)?),
+        Change::Invert => (copied(alloc, output)?, copied(alloc, input)?),
+        Change::ProjectInput => (copied(alloc, input)?, copied(alloc, input)?),
+        Change::ProjectOutput => (copied(alloc, output)?, copied(alloc, output)?),
+        Change::Relabel => (
+            replaced(alloc, INPUT_PAIRS, input)?,
+            replaced(alloc, OUTPUT_PAIRS, output)?,
+        ),
+        Change::SortInput | Change::SortOutput | Change::Connect => {
+            (copied(alloc, input)?, copied(alloc, output)?)
+        }
+    };
+    Ok(pair)
+}
+
+/// How many arcs more the paths of the result have.
+fn more_arcs(change: Change) -> usize {
+    match change {
+        // The epsilon arc of the new start.
+        Change::Reverse => 1,
+        _ => 0,
+    }
+}
+
+/// The triples that the operation makes of these.
+pub(crate) fn changed(
+    rt: &impl Abort,
+    alloc: Global,
+    change: Change,
+    triples: &[Triple],
+) -> Result<Vec<Triple>, AllocError> {
+    let mut news = Vec::new(alloc);
+    for triple in triples {
+        let (input, output) = changed_pair(
+            alloc,
+            change,
+            triple.input.as_slice(),
+            triple.output.as_slice(),
+        )?;
+        put(
+            &mut news,
+            Triple {
+                arcs: add_arcs(rt, triple.arcs, more_arcs(change)),
+                input,
+                output,
+                weight: triple.weight,
+            },
+        )?;
+    }
+    Ok(news)
+}

@@ -1,0 +1,151 @@
+//! Unions and products of relations, by definition.
+
+use crate::relation::{ARCS, Triple, add_arcs, one, put, times};
+use fst_semiring::ArcType;
+use std::alloc::{AllocError, Global};
+use std::process::Abort;
+
+/// Two strings, one behind the other.
+fn joined(alloc: Global, front: &[u32], back: &[u32]) -> Result<Vec<u32>, AllocError> {
+    let mut text = Vec::new(alloc);
+    text.extend_from_slice(front)?;
+    text.extend_from_slice(back)?;
+    Ok(text)
+}
+
+/// The product of two triples, where paths of products have so many arcs more.
+fn product(
+    rt: &impl Abort,
+    alloc: Global,
+    kind: ArcType,
+    more: usize,
+    a: &Triple,
+    b: &Triple,
+) -> Result<Triple, AllocError> {
+    Ok(Triple {
+        arcs: add_arcs(rt, add_arcs(rt, a.arcs, b.arcs), more),
+        input: joined(alloc, a.input.as_slice(), b.input.as_slice())?,
+        output: joined(alloc, a.output.as_slice(), b.output.as_slice())?,
+        weight: times(rt, kind, a.weight, b.weight),
+    })
+}
+
+/// Puts the products of a triple and each of others behind a list.
+fn put_products(
+    rt: &impl Abort,
+    alloc: Global,
+    kind: ArcType,
+    more: usize,
+    a: &Triple,
+    others: &[Triple],
+    list: &mut Vec<Triple>,
+) -> Result<(), AllocError> {
+    for b in others {
+        put(list, product(rt, alloc, kind, more, a, b)?)?;
+    }
+    Ok(())
+}
+
+/// The products of the triples of both, where paths of products have so many arcs more.
+fn products(
+    rt: &impl Abort,
+    alloc: Global,
+    kind: ArcType,
+    more: usize,
+    a: &[Triple],
+    b: &[Triple],
+) -> Result<Vec<Triple>, AllocError> {
+    let mut list = Vec::new(alloc);
+    for triple in a {
+        put_products(rt, alloc, kind, more, triple, b, &mut list)?;
+    }
+    Ok(list)
+}
+
+/// Puts copies of triples, whose paths have so many arcs more, behind a list.
+fn put_all(
+    rt: &impl Abort,
+    alloc: Global,
+    more: usize,
+    triples: &[Triple],
+    list: &mut Vec<Triple>,
+) -> Result<(), AllocError> {
+    for triple in triples {
+        let copy = Triple {
+            arcs: add_arcs(rt, triple.arcs, more),
+            input: joined(alloc, triple.input.as_slice(), &[])?,
+            output: joined(alloc, triple.output.as_slice(), &[])?,
+            weight: triple.weight,
+        };
+        put(list, copy)?;
+    }
+    Ok(())
+}
+
+/// The union: the triples of both. A path has the epsilon arc of the new start more.
+pub(crate) fn united(
+    rt: &impl Abort,
+    alloc: Global,
+    a: &[Triple],
+    b: &[Triple],
+) -> Result<Vec<Triple>, AllocError> {
+    let mut list = Vec::new(alloc);
+    put_all(rt, alloc, 1, a, &mut list)?;
+    put_all(rt, alloc, 1, b, &mut list)?;
+    Ok(list)
+}
+
+/// The concatenation: the products of the triples of both. A path has the epsilon arc between two paths more.
+pub(crate) fn concatenated(
+    rt: &impl Abort,
+    alloc: Global,
+    kind: ArcType,
+    a: &[Triple],
+    b: &[Triple],
+) -> Result<Vec<Triple>, AllocError> {
+    products(rt, alloc, kind, 1, a, b)
+}
+
+/// The triples that stand before the first round of a closure: the product of no triples for star, and the
+/// triples themselves for plus.
+fn first_round(
+    rt: &impl Abort,
+    alloc: Global,
+    kind: ArcType,
+    plus: bool,
+    triples: &[Triple],
+) -> Result<Vec<Triple>, AllocError> {
+    let mut list = Vec::new(alloc);
+    if plus {
+        put_all(rt, alloc, 0, triples, &mut list)?;
+    } else {
+        list.push(Triple {
+            arcs: 0,
+            input: Vec::new(alloc),
+            output: Vec::new(alloc),
+            weight: one(kind),
+        })?;
+    }
+    Ok(list)
+}
+
+/// The closure: the products of lists of triples, for plus of lists that are not empty. For star each triple of a
+/// list takes an epsilon arc from the new start and one back to it; for plus each but the first takes one back to
+/// the start. So no list with paths of at most `ARCS` arcs has more than `ARCS` triples behind its first, and
+/// as many rounds make all of them.
+pub(crate) fn closed(
+    rt: &impl Abort,
+    alloc: Global,
+    kind: ArcType,
+    plus: bool,
+    triples: &[Triple],
+) -> Result<Vec<Triple>, AllocError> {
+    let more = if plus { 1 } else { 2 };
+    let mut round = first_round(rt, alloc, kind, plus, triples)?;
+    let mut list = first_round(rt, alloc, kind, plus, triples)?;
+    for _ in 0..ARCS {
+        round = products(rt, alloc, kind, more, round.as_slice(), triples)?;
+        put_all(rt, alloc, 0, round.as_slice(), &mut list)?;
+    }
+    Ok(list)
+}
