@@ -6,8 +6,12 @@ same machine has its state numbers permuted and spread out, as multiples of the 
 
     machines.py PATH ARCS [GAP]
     machines.py --symbols TABLE COUNT [PATH ARCS]
+    machines.py --chain PATH STATES
+    machines.py --pairs PATH COUNT
 
 With --symbols the labels are written by their names in a table of so many symbols, which is written too.
+With --chain each state has one arc, to the next one, and the last is final. With --pairs so many labels
+below 5,000 are given new ones.
 """
 import random
 import sys
@@ -64,8 +68,28 @@ def write_text(path, arcs, gap=None, seed=1, label_text=str):
             out.write("".join(lines))
 
 
+def write_chain(path, states, seed=1):
+    """Writes a machine of one path through so many states."""
+    draw = random.Random(seed)
+    with open(path, "w") as out:
+        for state in range(states - 1):
+            out.write(f"{state}\t{state + 1}\t{draw.randrange(1, 5001)}\t{draw.randrange(1, 5001)}\t{draw.randrange(1000)}\n")
+        out.write(f"{states - 1}\n")
+
+
+def write_pairs(path, count, seed=1):
+    """Writes so many pairs of an old label, each once, and a new one."""
+    draw = random.Random(seed)
+    with open(path, "w") as out:
+        out.writelines(f"{old}\t{draw.randrange(5001)}\n" for old in draw.sample(range(1, 5001), count))
+
+
 if __name__ == "__main__":
-    if sys.argv[1] == "--symbols":
+    if sys.argv[1] == "--chain":
+        write_chain(sys.argv[2], int(sys.argv[3]))
+    elif sys.argv[1] == "--pairs":
+        write_pairs(sys.argv[2], int(sys.argv[3]))
+    elif sys.argv[1] == "--symbols":
         write_symbols(sys.argv[2], int(sys.argv[3]))
         if len(sys.argv) > 4:
             write_text(sys.argv[4], int(sys.argv[5]), label_text=symbol)

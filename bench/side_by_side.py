@@ -1,11 +1,12 @@
 #!/usr/bin/env python3
 """fst beside OpenFst's tools on the same inputs, in one run.
 
-    side_by_side.py [--fst PATH] [--sizes 10000,100000,1000000] [--rounds 5] [--gate]
+    side_by_side.py [--fst PATH] [--sizes 10000,100000,1000000] [--rounds 5] [--only forms|operations] [--gate]
 
 The runs of the two programs alternate, so that a slow minute of the machine falls on both. For each run
 the processor time (user and system) and the peak resident size are taken; the table shows medians. With
---gate the status is 1 where a ratio passes the bound of its row.
+--gate the status is 1 where a ratio passes the bound of its row, where an operation takes more than GROWTH
+times as long for ten times the arcs, or where the program does not have a command.
 """
 import argparse
 import os
@@ -18,6 +19,30 @@ import tempfile
 MACHINES = os.path.join(os.path.dirname(os.path.abspath(__file__)), "machines.py")
 # Where the start stands in a tropical binary file.
 START = 42
+# The most states that a machine has.
+MOST_STATES = 4_194_304
+# How many labels are changed.
+PAIRS = 1000
+# The bounds of an operation on the ratios of time and of memory.
+TIME, MEMORY = 0.5, 1.7
+# How many times as long an operation may take for ten times the arcs.
+GROWTH = 20
+# The operations: the command and its words, in which {0} is a machine and {1} a file of pairs. Both programs
+# take the same words, and a name for what they write but for `info`.
+OPERATIONS = [
+    ("union", "{0} {0}"),
+    ("concat", "{0} {0}"),
+    ("closure", "{0}"),
+    ("invert", "{0}"),
+    ("project", "{0}"),
+    ("reverse", "{0}"),
+    ("relabel", "--relabel_ipairs={1} --relabel_opairs={1} {0}"),
+    ("arcsort", "--sort_type=ilabel {0}"),
+    ("connect", "{0}"),
+    ("info", "{0}"),
+]
+# Those that go along the paths of a machine: they also take the longest chain.
+DEEP = ["connect", "info"]
 
 
 def measured(argv, stdout):
@@ -44,8 +69,50 @@ def compared(ours, theirs, rounds, scratch):
     return {side: (statistics.median(times[side]), statistics.median(peaks[side])) for side in times}
 
 
+def lacks(argv):
+    """Whether the program does not have the command of these words."""
+    run = subprocess.run(argv, stdin=subprocess.DEVNULL, stdout=subprocess.DEVNULL, stderr=subprocess.PIPE)
+    return run.returncode == 1 and b"bad command line" in run.stderr
+
+
+def machine_files(fst, text, scratch):
+    """The machine of a text as a file of each program."""
+    ours, theirs = os.path.join(scratch, "machine.ours"), os.path.join(scratch, "machine.theirs")
+    subprocess.run([fst, "compile", text, ours], check=True)
+    subprocess.run(["fstcompile", text, theirs], check=True)
+    return ours, theirs
+
+
+def operation(fst, command, words, files, pairs, scratch):
+    """Our words and theirs of an operation on a machine."""
+    ours, theirs = (words.format(file, pairs).split() for file in files)
+    out = os.path.join(scratch, "out")
+    if command != "info":
+        ours, theirs = [*ours, out + ".ours"], [*theirs, out + ".theirs"]
+    return [fst, command, *ours], ["fst" + command, *theirs]
+
+
+def operation_cases(fst, size, scratch):
+    """The rows of the operations on a random machine of that many arcs."""
+    text, pairs = (os.path.join(scratch, f"{name}.{size}.txt") for name in ("dense", "pairs"))
+    subprocess.run([sys.executable, MACHINES, text, str(size)], check=True)
+    subprocess.run([sys.executable, MACHINES, "--pairs", pairs, str(PAIRS)], check=True)
+    files = machine_files(fst, text, scratch)
+    return [(command, *operation(fst, command, words, files, pairs, scratch), TIME, MEMORY) for command, words in OPERATIONS]
+
+
+def chain_cases(fst, scratch):
+    """The rows of the operations along paths on a chain of the most states that a machine has."""
+    text = os.path.join(scratch, "chain.txt")
+    subprocess.run([sys.executable, MACHINES, "--chain", text, str(MOST_STATES)], check=True)
+    files = machine_files(fst, text, scratch)
+    os.remove(text)
+    words = dict(OPERATIONS)
+    return [(f"{command}, a chain", *operation(fst, command, words[command], files, None, scratch), TIME, MEMORY) for command in DEEP]
+
+
 def cases(fst, size, scratch):
-    """Each row: its name, our words, theirs, and the bounds on the ratios of time and of memory."""
+    """The rows of `compile` and `print`: name, our words, theirs, and the bounds on the ratios of time and of memory."""
     text, gaps, wide_gaps = (os.path.join(scratch, f"{name}.{size}.txt") for name in ("dense", "gaps", "wide_gaps"))
     ours, theirs = os.path.join(scratch, f"{size}.ours"), os.path.join(scratch, f"{size}.theirs")
     # Written by a process of its own: a peak includes what the forking process held.
@@ -109,33 +176,86 @@ def call_alone(fst, scratch):
     return 1000 * statistics.mean(times)
 
 
+def shown_rows(size, rows, rounds, scratch):
+    """Shows each row, and gives the seconds of our program and whether the bounds are kept by name; None for what it lacks."""
+    found = {}
+    for name, ours, theirs, most_time, most_memory in rows:
+        if lacks(ours):
+            print(f"| {size} | {name} | the program does not have this command | | | |", flush=True)
+            found[name] = None
+            continue
+        sides = compared(ours, theirs, rounds, scratch)
+        (s, k), (t, m) = sides["ours"], sides["theirs"]
+        print(f"| {size} | {name} | {s:.3f}, {k / 1024:.0f} | {t:.3f}, {m / 1024:.0f} | {s / t:.2f} | {k / m:.2f} |", flush=True)
+        found[name] = s, s <= most_time * t and k <= most_memory * m
+    return found
+
+
+def is_over(found, sizes):
+    """Whether a row of the largest size passes its bounds or is missing. Smaller machines have no bounds."""
+    return sizes[-1] >= 1_000_000 and not all(row and row[1] for row in found[sizes[-1]].values())
+
+
+def forms(fst, sizes, rounds, scratch):
+    """Shows `compile` and `print` beside OpenFst's tools. Gives whether a bound is passed."""
+    found = {size: shown_rows(size, cases(fst, size, scratch), rounds, scratch) for size in sizes}
+    megabytes, rate = read_alone(fst, sizes[-1], rounds, scratch)
+    print(f"\nReading a binary file of {megabytes:.1f} MB: {rate:.0f} MB/s")
+    gaps, wide_gaps = gaps_alone(fst, sizes[-1], 5 * rounds, scratch)
+    print(f"\nShuffled numbers against the dense text: gaps of 7 {gaps:.2f} times, gaps of 1000 {wide_gaps:.2f} times")
+    call = call_alone(fst, scratch)
+    print(f"\nA call with three options and an empty text: {call:.1f} ms")
+    return is_over(found, sizes) or rate < 300 or call > 5 or max(gaps, wide_gaps) > 1.5
+
+
+def grows(found, sizes):
+    """Shows seconds for 10^6 arcs by size. Gives whether an operation takes too long for ten times the arcs."""
+    print("\n| Seconds for 10^6 arcs | " + " | ".join(f"of {size}" for size in sizes) + " |")
+    print("|---" * (len(sizes) + 1) + "|")
+    over = False
+    for name, row in found[sizes[-1]].items():
+        if row:
+            times = [found[size][name][0] for size in sizes]
+            print(f"| {name} | " + " | ".join(f"{1e6 * time / size:.2f}" for time, size in zip(times, sizes)) + " |")
+            # A run of few milliseconds is mostly the start of the program.
+            over = over or any(more > GROWTH * max(less, 0.005) for less, more in zip(times, times[1:]))
+    return over
+
+
+def operations(fst, sizes, rounds, scratch):
+    """Shows the operations beside OpenFst's tools. Gives whether a bound is passed."""
+    found = {size: shown_rows(size, operation_cases(fst, size, scratch), rounds, scratch) for size in sizes}
+    over = is_over(found, sizes)
+    if sizes[-1] >= 1_000_000:
+        found_chain = shown_rows(MOST_STATES, chain_cases(fst, scratch), rounds, scratch)
+        over = over or not all(row and row[1] for row in found_chain.values())
+    over = grows(found, sizes) or over
+    missing = [name for name, row in found[sizes[-1]].items() if not row]
+    if missing:
+        print("\nNot measured, since the program does not have them: " + ", ".join(missing))
+    return over
+
+
 def main():
     words = argparse.ArgumentParser()
     words.add_argument("--fst", default="out/fst")
     words.add_argument("--sizes", default="10000,100000,1000000")
     words.add_argument("--rounds", type=int, default=5)
+    words.add_argument("--only", choices=["forms", "operations"])
     words.add_argument("--gate", action="store_true")
     words = words.parse_args()
     if not shutil.which("fstcompile"):
         sys.exit("OpenFst's tools are not here: apt-get install libfst-tools")
+    sizes = sorted(map(int, words.sizes.split(",")))
     over = False
-    print("| Arcs | Command | fst: s, MiB | OpenFst: s, MiB | time | memory |")
-    print("|---|---|---|---|---|---|")
-    with tempfile.TemporaryDirectory(dir="/dev/shm") as scratch:
-        sizes = list(map(int, words.sizes.split(",")))
-        for size in sizes:
-            for name, ours, theirs, most_time, most_memory in cases(words.fst, size, scratch):
-                found = compared(ours, theirs, words.rounds, scratch)
-                (s, k), (t, m) = found["ours"], found["theirs"]
-                print(f"| {size} | {name} | {s:.3f}, {k / 1024:.0f} | {t:.3f}, {m / 1024:.0f} | {s / t:.2f} | {k / m:.2f} |", flush=True)
-                over = over or (size >= 1_000_000 and (s > most_time * t or k > most_memory * m))
-        megabytes, rate = read_alone(words.fst, sizes[-1], words.rounds, scratch)
-        print(f"\nReading a binary file of {megabytes:.1f} MB: {rate:.0f} MB/s")
-        gaps, wide_gaps = gaps_alone(words.fst, sizes[-1], 5 * words.rounds, scratch)
-        print(f"\nShuffled numbers against the dense text: gaps of 7 {gaps:.2f} times, gaps of 1000 {wide_gaps:.2f} times")
-        call = call_alone(words.fst, scratch)
-        print(f"\nA call with three options and an empty text: {call:.1f} ms")
-        over = over or rate < 300 or call > 5 or max(gaps, wide_gaps) > 1.5
+    for name, part in ("forms", forms), ("operations", operations):
+        if words.only not in (None, name):
+            continue
+        print("| Arcs | Command | fst: s, MiB | OpenFst: s, MiB | time | memory |")
+        print("|---|---|---|---|---|---|")
+        with tempfile.TemporaryDirectory(dir="/dev/shm") as scratch:
+            over = part(words.fst, sizes, words.rounds, scratch) or over
+        print()
     sys.exit(1 if over and words.gate else 0)
 
 

@@ -1,13 +1,13 @@
 //! Writing the binary form.
 
-ghost use Rattle.std.specs.Prelude.{◌≡◌, ◌≤◌, ◌++◌, ◌+◌, ◌*◌, ◌<◌, length, map, take, vec_capacity, All, Contains, IfOk, Ok};
+ghost use Rattle.std.specs.Prelude.{◌≡◌, ◌≤◌, ◌++◌, ◌∷◌, ◌+◌, ◌*◌, ◌<◌, length, map, take, vec_capacity, All, Contains, IfOk, Ok};
 ghost use Rattle.std.specs.List.{flat_map};
 ghost use Rattle.fst_machine.specs.Machine.{valued, valued_arc, valued_state};
 ghost use Rattle.fst_binary.specs.Reading.{arc_type_of_bytes, known, machine_of_bytes};
-ghost use Rattle.fst_binary.specs.Spelling.{HasField, HasSpelling, arc_fields, count_fields, name_of, spelling, start_number, state_fields, text, type_fields, word};
+ghost use Rattle.fst_binary.specs.Spelling.{HasField, HasSpelling, arc_fields, count_fields, name_of, signed, spelling, start_number, state_fields, text, type_fields, word};
 
 use crate::append::{append, append_long, append_signed, append_word};
-use crate::weight_field::{append_weight, weight_length};
+use crate::weight_field::{append_weight, count_of_numbers, weight_length};
 use fst_machine::{Fst, FstArc};
 use fst_semiring::{ArcType, Weight};
 use std::alloc::{AllocError, Global};
@@ -39,8 +39,26 @@ fn states_length<W: Weight>(fst: &Fst<W>) -> usize
     len
 }
 
-/// Appends an arc where there is room.
-fn append_arc<W: Weight>(out: &mut Vec<u8>, arc: FstArc<W>)
+/// Appends an arc whose weight field is the tag 1 and one number where there is room, all its bytes at once.
+#[tactic(auto, unfolding(crate::specs::Spelling::word, crate::specs::Spelling::signed))]
+fn append_arc_of_number(out: &mut Vec<u8>, ilabel: u32, olabel: u32, number: i64, next: u32)
+    requires { length out.old.items + 21 ≤ vec_capacity out.old }
+    ensures items { out.new.items ≡ out.old.items ++ (word ilabel ++ word olabel ++ (1 ∷ signed number) ++ word next) }
+    ensures room { vec_capacity out.old ≤ vec_capacity out.new }
+{
+    let i = ilabel.to_le_bytes();
+    let o = olabel.to_le_bytes();
+    let n = number.to_le_bytes();
+    let q = next.to_le_bytes();
+    let bytes = [
+        i[0], i[1], i[2], i[3], o[0], o[1], o[2], o[3], 1, n[0], n[1], n[2], n[3], n[4], n[5],
+        n[6], n[7], q[0], q[1], q[2], q[3],
+    ];
+    append(out, &bytes);
+}
+
+/// Appends an arc where there is room, field by field.
+fn append_arc_by_fields<W: Weight>(out: &mut Vec<u8>, arc: FstArc<W>)
     requires { length out.old.items + length (arc_fields W.KIND (valued_arc W.value arc)) ≤ vec_capacity out.old }
     ensures items { out.new.items ≡ out.old.items ++ arc_fields W.KIND (valued_arc W.value arc) }
     ensures room { vec_capacity out.old ≤ vec_capacity out.new }
@@ -49,6 +67,20 @@ fn append_arc<W: Weight>(out: &mut Vec<u8>, arc: FstArc<W>)
     append_word(out, arc.olabel);
     append_weight(out, arc.weight);
     append_word(out, arc.next);
+}
+
+/// Appends an arc where there is room.
+fn append_arc<W: Weight>(out: &mut Vec<u8>, arc: FstArc<W>)
+    requires { length out.old.items + length (arc_fields W.KIND (valued_arc W.value arc)) ≤ vec_capacity out.old }
+    ensures items { out.new.items ≡ out.old.items ++ arc_fields W.KIND (valued_arc W.value arc) }
+    ensures room { vec_capacity out.old ≤ vec_capacity out.new }
+{
+    let key = W::key(arc.weight.widen());
+    if key.class == 1 && count_of_numbers(W::KIND) == 1 {
+        append_arc_of_number(out, arc.ilabel, arc.olabel, key.first as i64, arc.next);
+    } else {
+        append_arc_by_fields(out, arc);
+    }
 }
 
 /// Appends arcs where there is room.

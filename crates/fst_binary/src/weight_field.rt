@@ -30,7 +30,7 @@ fn is_key_in_range(key: Key) -> bool
 }
 
 /// How many numbers stand behind the tag 1.
-fn count_of_numbers(kind: ArcType) -> usize
+pub(crate) fn count_of_numbers(kind: ArcType) -> usize
     ensures { result ≡ number_count kind }
 {
     match kind {

@@ -1,5 +1,5 @@
 -- Arcs that are put back one after the other make the reversal.
-use Rattle.std.proofs.Common.{◌≡◌, ◌⊎◌, inl, inr, ℕ, ◌+◌, ◌<◌, ◌≤◌, ◌==◌, zero, suc, true, false, cond, List, [], ◌∷◌, ◌++◌, Option, Some, length, drop, map, get_or, slice_get, refl, sym, ap, ap₂, subst, ◌∙◌, append_assoc, append-nil, arith}
+use Rattle.std.proofs.Common.{◌≡◌, ◌⊎◌, inl, inr, if◌then◌else◌, Bool, ℕ, ◌+◌, ◌<◌, ◌≤◌, ◌==◌, zero, suc, true, false, cond, List, [], ◌∷◌, ◌++◌, Option, Some, length, drop, map, get_or, slice_get, refl, sym, ap, ap₂, subst, ◌∙◌, append_assoc, append-nil, arith}
 use Rattle.std.specs.List.{All, range_with_len}
 use Rattle.std.specs.Option.{option_map}
 use Rattle.std.proofs.lemmas.Bool.{cases_eq}
@@ -7,7 +7,7 @@ use Rattle.std.proofs.lemmas.Bool.Decides.{nat_tests}
 use Rattle.std.proofs.lemmas.List.{ext_get_or, get_or-append-add, length-append, map-append}
 use Rattle.std.proofs.lemmas.List.Elements.{All-append, All-cons, All-head, All-map, All-nil, All-tail}
 use Rattle.std.proofs.lemmas.List.FromFn.{get_or-map-range_with_len, length-map-range_with_len}
-use Rattle.std.proofs.lemmas.List.Sums.{sum_by-cons, sum_by_push}
+use Rattle.std.proofs.lemmas.List.Sums.{sum_by-cons}
 use Rattle.std.proofs.lemmas.Option.{slice_get-get_or}
 use Rattle.fst_machine.proofs.Arcs.{mapped_some}
 use Rattle.fst_semiring.specs.Cost.{Cost, best, finite, infinite}
@@ -18,6 +18,7 @@ use Rattle.fst_machine.specs.Continuing.{leaving}
 use Rattle.fst_rational.specs.Changing.{goings, onward}
 use Rattle.fst_rational.specs.Backing.{back, put_all, put_back, turned_bare}
 use Rattle.fst_rational.proofs.Blocks.{onward-good}
+use Rattle.fst_rational.proofs.Putting.{head_put}
 use Rattle.fst_rational.proofs.Reversing.{turned_at}
 use Rattle.fst_rational.specs.Constructions.{arcs_back, final_arcs, reverse_of, start_weight, turned_arcs, turned_state}
 
@@ -145,6 +146,28 @@ finals-good : (n q : ℕ) (states : List (State Cost)) → q + length states ≤
 finals-good n q [] room = All-nil (IsArc (λ v. v) n)
 finals-good n q (s ∷ states) room = All-append (IsArc (λ v. v) n) (leaving s.final q) (final_arcs (suc q) states) (onward-good n s.final (Some q) (omega (arith, room))) (finals-good n (suc q) states (omega (arith, room)))
 
+-- ---- the arcs that are turned
+
+All-if : {X : Type 0} (P : X → Type 0) (b : Bool) (x : X) (xs : List X) → P x → All P xs → All P (if b then x ∷ xs else xs)
+All-if P true x xs here rest = All-cons P x xs here rest
+All-if P false x xs here rest = rest
+
+arcs_back-good : (n r q m : ℕ) (arcs : List (Arc Cost ℕ)) → q < n → All (IsArc (λ v. v) m) arcs → All (IsArc (λ v. v) n) (arcs_back r q arcs)
+arcs_back-good n r q m [] low good = All-nil (IsArc (λ v. v) n)
+arcs_back-good n r q m (a ∷ arcs) low good =
+    let here = All-head (IsArc (λ v. v) m) a arcs good in
+    All-if (IsArc (λ v. v) n) (a.next == r) (back q a) (arcs_back r q arcs)
+    (record { ilabel = here.ilabel; olabel = here.olabel; weight = here.weight; next = low })
+    (arcs_back-good n r q m arcs low (All-tail (IsArc (λ v. v) m) a arcs good))
+
+turned_arcs-good : (n r q m : ℕ) (states : List (State Cost)) → q + length states ≤ n → All (λ s. All (IsArc (λ v. v) m) s.arcs) states → All (IsArc (λ v. v) n) (turned_arcs r q states)
+turned_arcs-good n r q m [] room good = All-nil (IsArc (λ v. v) n)
+turned_arcs-good n r q m (s ∷ states) room good =
+    let Good : State Cost → Type 0 = λ t. All (IsArc (λ v. v) m) t.arcs in
+    All-append (IsArc (λ v. v) n) (arcs_back r q s.arcs) (turned_arcs r (suc q) states)
+    (arcs_back-good n r q m s.arcs (omega (arith, room)) (All-head Good s states good))
+    (turned_arcs-good n r (suc q) m states (omega (arith, room)) (All-tail Good s states good))
+
 -- ---- the reversal
 
 module _ (kind : ArcType) (a : Machine Cost) (good : IsMachine (λ v. v) a) where
@@ -159,6 +182,13 @@ module _ (kind : ArcType) (a : Machine Cost) (good : IsMachine (λ v. v) a) wher
 
   length-reverse : length (reverse_of kind a).states ≡ length a.states + 1
   length-reverse = omega (arith, length-map-range_with_len (turned_state kind a) 0 (length a.states))
+
+  -- the states without arcs, as they are put
+  pub base_made : {V : Type 0} (value : V → Cost) (z : V) (fresh finals : List (Arc V ℕ)) (none first made : List (State V)) (n : ℕ) → fresh ≡ [] → map (valued_arc value) finals ≡ map (valued_arc value) fresh ++ final_arcs 1 a.states → none ≡ [] → value z ≡ infinite → first ≡ none ++ record { final = z; arcs = finals } ∷ [] → n ≡ length a.states → map (valued_state value) made ≡ map (valued_state value) first ++ map (turned_bare kind a) (range_with_len 0 n) → map (valued_state value) made ≡ base
+  base_made {V} value z fresh finals none first made n clear enters empty last put count more =
+      let head : State Cost = record { final = infinite; arcs = final_arcs 1 a.states } in
+      let own : map (valued_arc value) finals ≡ head.arcs = enters ∙ ap (λ (zs : List (Arc V ℕ)). map (valued_arc value) zs ++ final_arcs 1 a.states) clear in
+      more ∙ ap₂ (λ (ss : List (State Cost)) (k : ℕ). ss ++ map (turned_bare kind a) (range_with_len 0 k)) (head_put value head none first z finals finals empty last refl own put) count
 
   -- all arcs put back make the reversal
   pub put_all-reverse : put_all 1 a.states base ≡ (reverse_of kind a).states
@@ -193,18 +223,18 @@ module _ (kind : ArcType) (a : Machine Cost) (good : IsMachine (λ v. v) a) wher
       let same = ap arc_total put_all-reverse in
       omega (arith, all, same, arc_total-base)
 
-  -- the states without arcs are a machine
-  pub IsMachine-base : length (reverse_of kind a).states ≤ most_states → arc_total (reverse_of kind a).states ≤ most_arcs → IsMachine (λ v. v) (record { start = Some 0; states = base })
-  IsMachine-base few_states few_arcs =
-      let n = length base in
+  -- it is a machine
+  pub IsMachine-reverse : length (reverse_of kind a).states ≤ most_states → arc_total (reverse_of kind a).states ≤ most_arcs → IsMachine (λ v. v) (reverse_of kind a)
+  IsMachine-reverse few_states few_arcs =
+      let n = length (reverse_of kind a).states in
       let Good : State Cost → Type 0 = λ s. All (IsArc (λ v. v) n) s.arcs in
       record {
-        start = omega (arith, length-base);
-        arcs = All-cons Good (record { final = infinite; arcs = final_arcs 1 a.states }) (map (turned_bare kind a) (range_with_len 0 (length a.states)))
-            (finals-good n 1 a.states (omega (arith, length-base)))
-            (All-map Good (turned_bare kind a) (range_with_len 0 (length a.states)) (λ i d low. All-nil (IsArc (λ v. v) n)));
-        few_states = omega (arith, length-base, length-reverse, few_states);
-        few_arcs = omega (arith, arc_total-base, arc_total-reverse, few_arcs);
+        start = omega (arith, length-reverse);
+        arcs = All-cons Good (record { final = infinite; arcs = final_arcs 1 a.states }) (map (turned_state kind a) (range_with_len 0 (length a.states)))
+            (finals-good n 1 a.states (omega (arith, length-reverse)))
+            (All-map Good (turned_state kind a) (range_with_len 0 (length a.states)) (λ i d low. turned_arcs-good n (get_or (range_with_len 0 (length a.states)) i d) 1 (length a.states) a.states (omega (arith, length-reverse)) good.arcs));
+        few_states = few_states;
+        few_arcs = few_arcs;
       }
 
   -- the size, as it is computed
@@ -234,13 +264,13 @@ range_more a (suc n) =
 
 module _ {V : Type 0} (value : V → Cost) where
   -- one more arc is put back
-  pub back_step : (q : ℕ) (arcs : List (Arc V ℕ)) (i : ℕ) (x y : Arc V ℕ) (old new : Machine V) (whole : List (State Cost)) → i < length arcs → x ≡ get_or arcs i x → y ≡ x → new ≡ record { start = old.start; states = changed (with_arc (back q y)) old.states (1 + y.next) } → put_back q (drop i (map (valued_arc value) arcs)) (map (valued_state value) old.states) ≡ whole → put_back q (drop (i + 1) (map (valued_arc value) arcs)) (map (valued_state value) new.states) ≡ whole
+  pub back_step : (q : ℕ) (arcs : List (Arc V ℕ)) (i : ℕ) (x y : Arc V ℕ) (old new : List (State V)) (whole : List (State Cost)) → i < length arcs → x ≡ get_or arcs i x → y ≡ x → new ≡ changed (with_arc (back q y)) old (1 + y.next) → put_back q (drop i (map (valued_arc value) arcs)) (map (valued_state value) old) ≡ whole → put_back q (drop (i + 1) (map (valued_arc value) arcs)) (map (valued_state value) new) ≡ whole
   back_step q arcs i x y old new whole low at same put so_far =
       let there : slice_get arcs i ≡ Some x = slice_get-get_or arcs i x low ∙ ap (λ (z : Arc V ℕ). Some z) (sym at) in
       let rest = drop (i + 1) (map (valued_arc value) arcs) in
-      let grown : map (valued_state value) new.states ≡ changed (with_arc (back q (valued_arc value x))) (map (valued_state value) old.states) (1 + x.next) =
-      ap (λ (m : Machine V). map (valued_state value) m.states) put ∙ (map-with_arc value (back q y) old.states (1 + y.next) ∙ ap (λ (z : Arc V ℕ). changed (with_arc (back q (valued_arc value z))) (map (valued_state value) old.states) (1 + z.next)) same) in
-      ap (put_back q rest) grown ∙ (ap (λ zs. put_back q zs (map (valued_state value) old.states)) (sym (left (valued_arc value) arcs i x there)) ∙ so_far)
+      let grown : map (valued_state value) new ≡ changed (with_arc (back q (valued_arc value x))) (map (valued_state value) old) (1 + x.next) =
+      ap (map (valued_state value)) put ∙ (map-with_arc value (back q y) old (1 + y.next) ∙ ap (λ (z : Arc V ℕ). changed (with_arc (back q (valued_arc value z))) (map (valued_state value) old) (1 + z.next)) same) in
+      ap (put_back q rest) grown ∙ (ap (λ zs. put_back q zs (map (valued_state value) old)) (sym (left (valued_arc value) arcs i x there)) ∙ so_far)
 
   -- the arcs of one more state are put back
   pub all_step : (states : List (State V)) (i : ℕ) (arcs : List (Arc V ℕ)) → option_map (λ s. s.arcs) (slice_get states i) ≡ Some arcs → (old new whole : List (State Cost)) → put_all (i + 1) (drop i (map (valued_state value) states)) old ≡ whole → new ≡ put_back (i + 1) (map (valued_arc value) arcs) old → put_all (i + 1 + 1) (drop (i + 1) (map (valued_state value) states)) new ≡ whole
@@ -261,7 +291,7 @@ module _ {V : Type 0} (value : V → Cost) where
       ap₂ (λ (zs : List (Arc Cost ℕ)) (k : ℕ). zs ++ final_arcs k rest) same (sym next) ∙ (append_assoc old (leaving (value s.0.final) (i + 1)) (final_arcs (suc (i + 1)) rest) ∙ (ap (λ ss. old ++ final_arcs (i + 1) ss) (sym (left (valued_state value) states i s.0 s.1)) ∙ so_far))
 
   -- one more state is put without arcs
-  pub bare_step : (kind : ArcType) (a : Machine Cost) (i : ℕ) (start : Option ℕ) (w : V) (arcs : List (Arc V ℕ)) (front : List (State Cost)) (old new : List (State V)) → map (valued_state value) old ≡ front ++ map (turned_bare kind a) (range_with_len 0 i) → new ≡ old ++ record { final = w; arcs = arcs } ∷ [] → arcs ≡ [] → value w ≡ start_weight kind start i → start ≡ a.start → (map (valued_state value) new ≡ front ++ map (turned_bare kind a) (range_with_len 0 (i + 1))) × (arc_total new ≡ arc_total old)
+  pub bare_step : (kind : ArcType) (a : Machine Cost) (i : ℕ) (start : Option ℕ) (w : V) (arcs : List (Arc V ℕ)) (front : List (State Cost)) (old new : List (State V)) → map (valued_state value) old ≡ front ++ map (turned_bare kind a) (range_with_len 0 i) → new ≡ old ++ record { final = w; arcs = arcs } ∷ [] → arcs ≡ [] → value w ≡ start_weight kind start i → start ≡ a.start → map (valued_state value) new ≡ front ++ map (turned_bare kind a) (range_with_len 0 (i + 1))
   bare_step kind a i start w arcs front old new so_far put none weighs begins =
       let s : State V = record { final = w; arcs = arcs } in
       let is : valued_state value s ≡ turned_bare kind a i = ap₂ (λ (v : Cost) (zs : List (Arc V ℕ)). record { final = v; arcs = map (valued_arc value) zs }) (weighs ∙ ap (λ (o : Option ℕ). start_weight kind o i) begins) none in
@@ -269,6 +299,4 @@ module _ {V : Type 0} (value : V → Cost) where
       let place : 0 + i ≡ i = omega arith in
       let range : range_with_len 0 (i + 1) ≡ range_with_len 0 i ++ i ∷ [] = ap (range_with_len 0) (sym next) ∙ (range_more 0 i ∙ ap (λ (k : ℕ). range_with_len 0 i ++ k ∷ []) place) in
       let bare : map (turned_bare kind a) (range_with_len 0 (i + 1)) ≡ map (turned_bare kind a) (range_with_len 0 i) ++ turned_bare kind a i ∷ [] = ap (map (turned_bare kind a)) range ∙ map-append (turned_bare kind a) (range_with_len 0 i) (i ∷ []) in
-      let nothing : length arcs ≡ 0 = ap length none in
-      let total : arc_total new ≡ arc_total old + length arcs = ap arc_total put ∙ sum_by_push (λ (t : State V). length t.arcs) old s in
-      (ap (map (valued_state value)) put ∙ (map-append (valued_state value) old (s ∷ []) ∙ (ap₂ (λ (ss : List (State Cost)) (t : State Cost). ss ++ t ∷ []) so_far is ∙ (append_assoc front (map (turned_bare kind a) (range_with_len 0 i)) (turned_bare kind a i ∷ []) ∙ ap (λ ss. front ++ ss) (sym bare)))), omega (arith, total, nothing))
+      ap (map (valued_state value)) put ∙ (map-append (valued_state value) old (s ∷ []) ∙ (ap₂ (λ (ss : List (State Cost)) (t : State Cost). ss ++ t ∷ []) so_far is ∙ (append_assoc front (map (turned_bare kind a) (range_with_len 0 i)) (turned_bare kind a i ∷ []) ∙ ap (λ ss. front ++ ss) (sym bare))))

@@ -14,6 +14,7 @@ use crate::size::check_size;
 use fst_machine::{Fst, FstArc, StateList};
 use fst_semiring::Weight;
 use std::alloc::{AllocError, Global};
+use std::marker::Model;
 
 /// How many states and arcs a reversal has, and with it what holds of the operand.
 fn size<W: Weight>(a: &Fst<W>) -> (u32, u32)
@@ -46,35 +47,73 @@ fn weight_at<W: Weight>(start: Option<u32>, state: u32) -> W
     }
 }
 
-/// Puts what becomes of each state, without its arcs, behind the others.
+/// Counts arcs by the states to which they lead. The counts serve to take the room for these arcs once, and
+/// nothing else depends on them.
+fn count_arcs<W>(counts: &mut Vec<u32>, arcs: &[FstArc<W>])
+    requires within { All (λ a. a.next < length counts.old.items) arcs.now }
+    ensures size { length counts.new.items ≡ length counts.old.items }
+{
+    for arc in arcs {
+        let next = arc.next as usize;
+        counts[next] = counts[next].saturating_add(1);
+    }
+}
+
+/// For each state how many arcs lead to it.
+fn count_all<W: Weight>(alloc: Global, a: &Fst<W>) -> Result<Vec<u32>, AllocError>
+    ensures { IfOk result (λ counts. length counts.items ≡ length a.now.states) }
+{
+    let states = a.states();
+    let mut counts = vec![in alloc; 0u32; states as usize]?;
+    for state in 0..states {
+        count_arcs(&mut counts, a.arcs(state));
+    }
+    Ok(counts)
+}
+
+/// A state of a reversal that is made, with a list of its own for the arcs that are put one by one.
+#[derive(Drop)]
+struct Turned<W> {
+    last: W,
+    arcs: Vec<FstArc<W>>,
+}
+
+impl<W> Model for Turned<W> {
+    ghost use Rattle.fst_machine.specs.Machine.{State};
+
+    ghost Value = { State W };
+
+    ghost view = { λ s. record { final = s.last; arcs = s.arcs.items } };
+}
+
+/// Puts what becomes of each state, without its arcs but with room for them, behind the others.
 fn put_bare<W: Weight>(
     alloc: Global,
-    states: &mut StateList<W>,
+    states: &mut Vec<Turned<W>>,
     a: &Fst<W>,
+    counts: &[u32],
 ) -> Result<(), AllocError>
-    requires { arc_total states.old ≤ most_arcs }
-    ensures { OnOk result (map (valued_state W.value) states.new ≡ map (valued_state W.value) states.old ++ map (turned_bare W.KIND (valued W.value a.now)) (range_with_len 0 (length a.now.states))) }
+    requires { length counts.now ≡ length a.now.states }
+    ensures { OnOk result (map (valued_state W.value) states.new.items ≡ map (valued_state W.value) states.old.items ++ map (turned_bare W.KIND (valued W.value a.now)) (range_with_len 0 (length a.now.states))) }
 {
-    let none = Vec::new(alloc);
     for state in 0..a.states() {
-        states.push(weight_at(a.start(), state), &none)?;
+        let arcs = Vec::with_capacity(alloc, counts[state as usize] as usize)?;
+        let last = weight_at(a.start(), state);
+        states.push(Turned { last, arcs })?;
     }
     Ok(())
 }
 
 /// Puts each of these arcs, back to `place`, behind those of the state one place beyond where it leads.
 fn put_arcs_back<W: Weight>(
-    fst: &mut Fst<W>,
+    states: &mut Vec<Turned<W>>,
     arcs: &[FstArc<W>],
     place: u32,
 ) -> Result<(), AllocError>
-    requires good { All (IsArc W.value (length fst.old.states - 1)) arcs.now }
-    requires place { place < length fst.old.states }
-    ensures states { OnOk result (map (valued_state W.value) fst.new.states ≡ put_back place (map (valued_arc W.value) arcs.now) (map (valued_state W.value) fst.old.states)) }
-    ensures size { OnOk result (length fst.new.states ≡ length fst.old.states) }
-    ensures start { OnOk result (fst.new.start ≡ fst.old.start) }
+    requires good { All (IsArc W.value (length states.old.items - 1)) arcs.now }
+    ensures states { OnOk result (map (valued_state W.value) states.new.items ≡ put_back place (map (valued_arc W.value) arcs.now) (map (valued_state W.value) states.old.items)) }
+    ensures size { OnOk result (length states.new.items ≡ length states.old.items) }
 {
-    let _states = fst.states();
     for arc in arcs {
         let turned = FstArc {
             ilabel: arc.ilabel,
@@ -82,41 +121,58 @@ fn put_arcs_back<W: Weight>(
             weight: arc.weight,
             next: place,
         };
-        // The size of the result was computed, so that only memory can be wanting.
-        let Ok(()) = fst.add_arc(1 + arc.next, turned) else {
-            return Err(AllocError);
-        };
+        let state = &mut states[1 + arc.next as usize];
+        state.arcs.push(turned)?;
     }
     Ok(())
 }
 
 /// Puts the arcs of each state, back to where it stands one place further on, where they led.
-fn put_all_back<W: Weight>(fst: &mut Fst<W>, a: &Fst<W>) -> Result<(), AllocError>
-    requires { length fst.old.states ≡ length a.now.states + 1 }
-    ensures states { OnOk result (map (valued_state W.value) fst.new.states ≡ put_all 1 (map (valued_state W.value) a.now.states) (map (valued_state W.value) fst.old.states)) }
-    ensures start { OnOk result (fst.new.start ≡ fst.old.start) }
+fn put_all_back<W: Weight>(states: &mut Vec<Turned<W>>, a: &Fst<W>) -> Result<(), AllocError>
+    requires { length states.old.items ≡ length a.now.states + 1 }
+    ensures { OnOk result (map (valued_state W.value) states.new.items ≡ put_all 1 (map (valued_state W.value) a.now.states) (map (valued_state W.value) states.old.items)) }
 {
     for state in 0..a.states() {
-        put_arcs_back(fst, a.arcs(state), state + 1)?;
+        put_arcs_back(states, a.arcs(state), state + 1)?;
     }
     Ok(())
 }
 
-/// The reversal, which is not too big; so many states are reserved.
-fn build<W: Weight>(alloc: Global, a: &Fst<W>, states: u32) -> Result<Fst<W>, AllocError>
+/// The states, whose arcs are that many, side by side.
+fn gather<W: Weight>(
+    alloc: Global,
+    turned: &[Turned<W>],
+    arcs: u32,
+) -> Result<StateList<W>, AllocError>
+    requires { arc_total turned.now ≤ most_arcs }
+    ensures { IfOk result (λ states. states ≡ turned.now) }
+{
+    let mut states = StateList::with_capacity(alloc, turned.len(), arcs as usize)?;
+    for state in turned {
+        states.push(state.last, &state.arcs)?;
+    }
+    Ok(states)
+}
+
+/// The reversal, which is not too big; so many states and arcs are reserved.
+fn build<W: Weight>(alloc: Global, a: &Fst<W>, states: u32, arcs: u32) -> Result<Fst<W>, AllocError>
     requires states { length (reverse_of W.KIND (valued W.value a.now)).states ≤ most_states }
     requires arcs { arc_total (reverse_of W.KIND (valued W.value a.now)).states ≤ most_arcs }
     ensures { IfOk result (λ m. valued W.value m ≡ reverse_of W.KIND (valued W.value a.now)) }
 {
     let _states = a.states();
+    let counts = count_all(alloc, a)?;
     let mut own = Vec::new(alloc);
     put_finals(&mut own, a)?;
-    let mut list = StateList::with_capacity(alloc, states as usize, own.len())?;
-    list.push(W::zero(), &own)?;
-    put_bare(alloc, &mut list, a)?;
-    let mut fst = list.into_machine(Some(0));
-    put_all_back(&mut fst, a)?;
-    Ok(fst)
+    let mut turned = Vec::with_capacity(alloc, states as usize)?;
+    turned.push(Turned {
+        last: W::zero(),
+        arcs: own,
+    })?;
+    put_bare(alloc, &mut turned, a, counts.as_slice())?;
+    put_all_back(&mut turned, a)?;
+    let list = gather(alloc, turned.as_slice(), arcs)?;
+    Ok(list.into_machine(Some(0)))
 }
 
 /// The reversal of a machine: a new start, which is not final, with an epsilon arc to each final state, by
@@ -132,7 +188,7 @@ pub fn reverse<W: Weight>(alloc: Global, a: &Fst<W>) -> Result<Fst<W>, RationalF
     if let Some(fault) = check_size(states, arcs) {
         return Err(fault);
     }
-    match build(alloc, a, states) {
+    match build(alloc, a, states, arcs) {
         Ok(turned) => Ok(turned),
         Err(_) => Err(RationalFault::Memory),
     }

@@ -9,3 +9,4 @@ pub mod Epsilons
 pub mod Alongside
 pub mod Rearranged
 pub mod Valued
+pub mod Joined

@@ -6,3 +6,4 @@ pub mod Renumbered
 pub mod Counted
 pub mod Sorting
 pub mod Beside
+pub mod Targets

@@ -13,6 +13,7 @@ mod sorted;
 mod sorting;
 mod sources;
 mod summary;
+mod targets;
 mod useful;
 
 pub use connected::connect;

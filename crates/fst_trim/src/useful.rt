@@ -3,7 +3,7 @@
 ghost use Rattle.std.specs.Prelude.{◌≡◌, ◌≢◌, ◌<◌, ◌≤◌, ◌&&◌, ℕ, List, [], All, false, length, get_or, IfOk, OnOk};
 ghost use Rattle.std.specs.Bool.{Decides};
 ghost use Rattle.fst_semiring.specs.Cost.{infinite};
-ghost use Rattle.fst_machine.specs.BreadthFirst.{Apart, Grows, Has};
+ghost use Rattle.fst_machine.specs.BreadthFirst.{Apart, Grows, Has, IsWalked};
 ghost use Rattle.fst_machine.specs.Cycles.{IsAccessible, IsCoaccessible, IsUseful};
 ghost use Rattle.fst_machine.specs.Graph.{graph_of};
 ghost use Rattle.fst_machine.specs.Machine.{valued};
@@ -11,7 +11,8 @@ ghost use Rattle.fst_machine.specs.Marks.{Marks};
 ghost use Rattle.fst_trim.specs.Finals.{FoundFinals};
 
 use crate::sources::sources_of;
-use fst_machine::{Fst, find, walk};
+use crate::targets::targets_of;
+use fst_machine::{Fst, find};
 use fst_semiring::Weight;
 use std::alloc::{AllocError, Global};
 
@@ -22,17 +23,37 @@ pub(crate) fn is_final<W: Weight>(weight: W) -> bool
     W::key(weight.widen()).class != 2
 }
 
-/// Marks for so many states, just those of the list marked.
-fn marks_of(alloc: Global, states: u32, names: &[u32]) -> Result<Vec<bool>, AllocError>
-    requires { All (λ name. name < states) names.now }
-    ensures size { IfOk result (λ marks. length marks.items ≡ states) }
-    ensures marks { IfOk result (λ marks. Marks marks.items names.now) }
+/// Adds each of these states, if it is not among those that were found.
+fn find_each(names: &mut Vec<u32>, seen: &mut Vec<bool>, states: &[u32]) -> Result<(), AllocError>
+    requires marks { Marks seen.old.items names.old.items }
+    requires within { All (λ state. state < length seen.old.items) states.now }
+    ensures grows { OnOk result (Grows names.old.items states.now names.new.items) }
+    ensures marks { OnOk result (Marks seen.new.items names.new.items) }
+    ensures size { length seen.new.items ≡ length seen.old.items }
 {
-    let mut marks = vec![in alloc; false; states as usize]?;
-    for name in names {
-        marks[*name as usize] = true;
+    for state in states {
+        find(names, seen, *state)?;
     }
-    Ok(marks)
+    Ok(())
+}
+
+/// Marks the states that a state reaches, by a walk.
+fn reach<W: Weight>(alloc: Global, fst: &Fst<W>, start: u32) -> Result<Vec<bool>, AllocError>
+    requires { start < length fst.now.states }
+    ensures size { IfOk result (λ marks. length marks.items ≡ length fst.now.states) }
+    ensures marks { IfOk result (λ marks. (names : List ℕ) × IsWalked (graph_of (valued W.value fst.now)) start names × Marks marks.items names) }
+{
+    let targets = targets_of(alloc, fst)?;
+    let mut seen = vec![in alloc; false; fst.states() as usize]?;
+    let mut names = Vec::new(alloc);
+    find(&mut names, &mut seen, start)?;
+    let mut taken = 0;
+    while taken < names.len() {
+        let states = targets.of(names[taken]);
+        find_each(&mut names, &mut seen, states)?;
+        taken += 1;
+    }
+    Ok(seen)
 }
 
 /// Marks the states that the start reaches.
@@ -40,14 +61,12 @@ pub(crate) fn accessible<W: Weight>(alloc: Global, fst: &Fst<W>) -> Result<Vec<b
     ensures size { IfOk result (λ marks. length marks.items ≡ length fst.now.states) }
     ensures marks { IfOk result (λ marks. (p : ℕ) → Decides (get_or marks.items p false) (IsAccessible (graph_of (valued W.value fst.now)) p)) }
 {
-    let states = fst.states();
     match fst.start() {
         Some(start) => {
-            let names = walk(alloc, fst, start)?;
-            let marks = marks_of(alloc, states, names.as_slice())?;
+            let marks = reach(alloc, fst, start)?;
             Ok(marks)
         }
-        None => Ok(vec![in alloc; false; states as usize]?),
+        None => Ok(vec![in alloc; false; fst.states() as usize]?),
     }
 }
 
@@ -69,20 +88,6 @@ pub(crate) fn find_finals<W: Weight>(
             continue;
         }
         find(names, seen, state)?;
-    }
-    Ok(())
-}
-
-/// Adds each of these states, if it is not among those that were found.
-fn find_each(names: &mut Vec<u32>, seen: &mut Vec<bool>, states: &[u32]) -> Result<(), AllocError>
-    requires marks { Marks seen.old.items names.old.items }
-    requires within { All (λ state. state < length seen.old.items) states.now }
-    ensures grows { OnOk result (Grows names.old.items states.now names.new.items) }
-    ensures marks { OnOk result (Marks seen.new.items names.new.items) }
-    ensures size { length seen.new.items ≡ length seen.old.items }
-{
-    for state in states {
-        find(names, seen, *state)?;
     }
     Ok(())
 }

@@ -1,27 +1,12 @@
-use Rattle.std.proofs.Common.{◌≡◌, ℕ, ◌++◌, ◌∷◌, [], List, Some, length, map, refl, sym, ap, ap₂, ◌∙◌, arith}
-use Rattle.std.specs.List.{range_with_len}
+use Rattle.std.proofs.Common.{◌≡◌, Some, length, map, refl, sym, ap, ◌∙◌, arith}
 use Rattle.std.proofs.lemmas.List.{length-map}
-use Rattle.fst_semiring.specs.Cost.{Cost, infinite}
-use Rattle.fst_machine.specs.Machine.{Arc, Machine, State, valued, valued_arc, valued_state}
-use Rattle.fst_rational.specs.Backing.{put_all, turned_bare}
-use Rattle.fst_rational.specs.Constructions.{final_arcs, reverse_of}
-use Rattle.fst_rational.proofs.States.{IsMachine-valued}
-use Rattle.fst_rational.proofs.Putting.{head_put, put_machine}
-use Rattle.fst_rational.proofs.Backing.{IsMachine-base, base, length-base, put_all-reverse}
+use Rattle.fst_machine.specs.Machine.{arc_total, valued, valued_state}
+use Rattle.fst_rational.specs.Backing.{put_all}
+use Rattle.fst_rational.specs.Constructions.{reverse_of}
+use Rattle.fst_rational.proofs.States.{IsMachine-valued, arc_total-valued}
+use Rattle.fst_rational.proofs.Putting.{put_machine, put_valued}
+use Rattle.fst_rational.proofs.Backing.{IsMachine-reverse, base, base_made, length-base, put_all-reverse}
 use Rattle.fst_rational.proofs.reversal.build.Goals as goal
-
-pub into_machine-fst-requires-after_bounds : goal.into_machine-fst-requires-after_bounds
-into_machine-fst-requires-after_bounds g c κs within =
-    let value = g.W.Weight.value in
-    let kind = g.W.Weight.KIND in
-    let a = valued value c.args.a.now in
-    let good = IsMachine-valued value c.args.a.now c.states-states.ensures.machine in
-    let head : State Cost = record { final = infinite; arcs = final_arcs 1 a.states } in
-    let own : map (valued_arc value) c.put_finals.new.own.items ≡ head.arcs = c.in_ok-put_finals.ensures ∙ ap (λ (os : List (Arc g.row.W.Denot ℕ)). map (valued_arc value) os ++ final_arcs 1 a.states) c.new-own.ensures.items in
-    let first : map (valued_state value) c.push.new.self ≡ head ∷ [] = head_put value head c.in_ok-list.list c.push.new.self c.zero.result c.put_finals.new.own.items c.deref.result.now c.in_ok-list.ensures c.zero.ensures c.deref.ensures.value own c.in_ok-push.ensures.ok in
-    let count : length a.states ≡ length c.args.a.now.states = length-map c.args.a.now.states (valued_state value) in
-    let put : map (valued_state value) c.put_bare.new.states ≡ base kind a good = c.in_ok-put_bare.ensures ∙ ap₂ (λ (ss : List (State Cost)) (n : ℕ). ss ++ map (turned_bare kind a) (range_with_len 0 n)) first (sym count) in
-    put_machine value (record { start = Some 0; states = base kind a good }) (Some 0) c.put_bare.new.states refl put (IsMachine-base kind a good c.requires.states c.requires.arcs)
 
 pub put_all_back-requires-after_bounds : goal.put_all_back-requires-after_bounds
 put_all_back-requires-after_bounds g c κs within =
@@ -29,14 +14,32 @@ put_all_back-requires-after_bounds g c κs within =
     let kind = g.W.Weight.KIND in
     let a = valued value c.args.a.now in
     let good = IsMachine-valued value c.args.a.now c.states-states.ensures.machine in
-    let head : State Cost = record { final = infinite; arcs = final_arcs 1 a.states } in
-    let own : map (valued_arc value) c.put_finals.new.own.items ≡ head.arcs = c.in_ok-put_finals.ensures ∙ ap (λ (os : List (Arc g.row.W.Denot ℕ)). map (valued_arc value) os ++ final_arcs 1 a.states) c.new-own.ensures.items in
-    let first : map (valued_state value) c.push.new.self ≡ head ∷ [] = head_put value head c.in_ok-list.list c.push.new.self c.zero.result c.put_finals.new.own.items c.deref.result.now c.in_ok-list.ensures c.zero.ensures c.deref.ensures.value own c.in_ok-push.ensures.ok in
-    let count : length a.states ≡ length c.args.a.now.states = length-map c.args.a.now.states (valued_state value) in
-    let put : map (valued_state value) c.put_bare.new.states ≡ base kind a good = c.in_ok-put_bare.ensures ∙ ap₂ (λ (ss : List (State Cost)) (n : ℕ). ss ++ map (turned_bare kind a) (range_with_len 0 n)) first (sym count) in
-    let made : length c.into_machine-fst.result.states ≡ length c.put_bare.new.states = ap (λ (m : Machine g.row.W.Denot). length m.states) c.into_machine-fst.ensures in
-    let all : length (map (valued_state value) c.put_bare.new.states) ≡ length (base kind a good) = ap length put in
-    omega (arith, made, all, length-map c.put_bare.new.states (valued_state value), length-base kind a good, count)
+    let bare : map (valued_state value) c.put_bare.new.states.items ≡ base kind a good = base_made kind a good value c.zero.result c.new-own.result.items c.put_finals.new.own.items c.in_ok-turned.turned.items c.push.new.self.items c.put_bare.new.states.items (length c.args.a.now.states) c.new-own.ensures.items c.in_ok-put_finals.ensures c.in_ok-turned.ensures.items c.zero.ensures c.in_ok-push.ensures.items (sym (length-map c.args.a.now.states (valued_state value))) c.in_ok-put_bare.ensures in
+    let count : length c.put_bare.new.states.items ≡ length (base kind a good) = sym (length-map c.put_bare.new.states.items (valued_state value)) ∙ ap length bare in
+    omega (arith, count, length-base kind a good, length-map c.args.a.now.states (valued_state value))
+
+pub gather-requires-after_bounds : goal.gather-requires-after_bounds
+gather-requires-after_bounds g c κs within =
+    let value = g.W.Weight.value in
+    let kind = g.W.Weight.KIND in
+    let a = valued value c.args.a.now in
+    let good = IsMachine-valued value c.args.a.now c.states-states.ensures.machine in
+    let bare : map (valued_state value) c.put_bare.new.states.items ≡ base kind a good = base_made kind a good value c.zero.result c.new-own.result.items c.put_finals.new.own.items c.in_ok-turned.turned.items c.push.new.self.items c.put_bare.new.states.items (length c.args.a.now.states) c.new-own.ensures.items c.in_ok-put_finals.ensures c.in_ok-turned.ensures.items c.zero.ensures c.in_ok-push.ensures.items (sym (length-map c.args.a.now.states (valued_state value))) c.in_ok-put_bare.ensures in
+    let all : map (valued_state value) c.put_all_back.new.states.items ≡ (reverse_of kind a).states = c.in_ok-put_all_back.ensures ∙ (ap (put_all 1 a.states) bare ∙ put_all-reverse kind a good) in
+    let total : arc_total c.put_all_back.new.states.items ≡ arc_total (reverse_of kind a).states = sym (arc_total-valued value c.put_all_back.new.states.items) ∙ ap arc_total all in
+    let same = ap arc_total c.as_slice-2.ensures.value in
+    omega (arith, total, same, c.requires.arcs)
+
+pub into_machine-requires-after_bounds : goal.into_machine-requires-after_bounds
+into_machine-requires-after_bounds g c κs within =
+    let value = g.W.Weight.value in
+    let kind = g.W.Weight.KIND in
+    let a = valued value c.args.a.now in
+    let good = IsMachine-valued value c.args.a.now c.states-states.ensures.machine in
+    let bare : map (valued_state value) c.put_bare.new.states.items ≡ base kind a good = base_made kind a good value c.zero.result c.new-own.result.items c.put_finals.new.own.items c.in_ok-turned.turned.items c.push.new.self.items c.put_bare.new.states.items (length c.args.a.now.states) c.new-own.ensures.items c.in_ok-put_finals.ensures c.in_ok-turned.ensures.items c.zero.ensures c.in_ok-push.ensures.items (sym (length-map c.args.a.now.states (valued_state value))) c.in_ok-put_bare.ensures in
+    let all : map (valued_state value) c.put_all_back.new.states.items ≡ (reverse_of kind a).states = c.in_ok-put_all_back.ensures ∙ (ap (put_all 1 a.states) bare ∙ put_all-reverse kind a good) in
+    let states : map (valued_state value) c.in_ok-list.list ≡ (reverse_of kind a).states = ap (map (valued_state value)) (c.in_ok-list.ensures ∙ c.as_slice-2.ensures.value) ∙ all in
+    put_machine value (reverse_of kind a) (Some 0) c.in_ok-list.list refl states (IsMachine-reverse kind a good c.requires.states c.requires.arcs)
 
 pub returns : goal.returns
 returns g c =
@@ -44,12 +47,7 @@ returns g c =
     let kind = g.W.Weight.KIND in
     let a = valued value c.args.a.now in
     let good = IsMachine-valued value c.args.a.now c.states-states.ensures.machine in
-    let head : State Cost = record { final = infinite; arcs = final_arcs 1 a.states } in
-    let own : map (valued_arc value) c.put_finals.new.own.items ≡ head.arcs = c.in_ok-put_finals.ensures ∙ ap (λ (os : List (Arc g.row.W.Denot ℕ)). map (valued_arc value) os ++ final_arcs 1 a.states) c.new-own.ensures.items in
-    let first : map (valued_state value) c.push.new.self ≡ head ∷ [] = head_put value head c.in_ok-list.list c.push.new.self c.zero.result c.put_finals.new.own.items c.deref.result.now c.in_ok-list.ensures c.zero.ensures c.deref.ensures.value own c.in_ok-push.ensures.ok in
-    let count : length a.states ≡ length c.args.a.now.states = length-map c.args.a.now.states (valued_state value) in
-    let put : map (valued_state value) c.put_bare.new.states ≡ base kind a good = c.in_ok-put_bare.ensures ∙ ap₂ (λ (ss : List (State Cost)) (n : ℕ). ss ++ map (turned_bare kind a) (range_with_len 0 n)) first (sym count) in
-    let made : map (valued_state value) c.into_machine-fst.result.states ≡ base kind a good = ap (λ (m : Machine g.row.W.Denot). map (valued_state value) m.states) c.into_machine-fst.ensures ∙ put in
-    let states : map (valued_state value) c.put_all_back.new.fst.states ≡ (reverse_of kind a).states = c.in_ok-put_all_back.ensures.states ∙ (ap (put_all 1 a.states) made ∙ put_all-reverse kind a good) in
-    let start : c.put_all_back.new.fst.start ≡ Some 0 = c.in_ok-put_all_back.ensures.start ∙ ap (λ (m : Machine g.row.W.Denot). m.start) c.into_machine-fst.ensures in
-    λ i. record { start = start i; states = states i }
+    let bare : map (valued_state value) c.put_bare.new.states.items ≡ base kind a good = base_made kind a good value c.zero.result c.new-own.result.items c.put_finals.new.own.items c.in_ok-turned.turned.items c.push.new.self.items c.put_bare.new.states.items (length c.args.a.now.states) c.new-own.ensures.items c.in_ok-put_finals.ensures c.in_ok-turned.ensures.items c.zero.ensures c.in_ok-push.ensures.items (sym (length-map c.args.a.now.states (valued_state value))) c.in_ok-put_bare.ensures in
+    let all : map (valued_state value) c.put_all_back.new.states.items ≡ (reverse_of kind a).states = c.in_ok-put_all_back.ensures ∙ (ap (put_all 1 a.states) bare ∙ put_all-reverse kind a good) in
+    let states : map (valued_state value) c.in_ok-list.list ≡ (reverse_of kind a).states = ap (map (valued_state value)) (c.in_ok-list.ensures ∙ c.as_slice-2.ensures.value) ∙ all in
+    ap (valued value) c.into_machine.ensures ∙ put_valued value (reverse_of kind a) (Some 0) c.in_ok-list.list refl states

@@ -7,7 +7,6 @@ abbrev pub invariant-loop-state : goal.invariant-loop-state
 invariant-loop-state g l =
     let states = map (valued_state g.W.Weight.value) l.a.states in
     record {
-      states : put_all (l.state + 1) (drop l.state states) (map (valued_state g.W.Weight.value) l.fst.states) ≡ put_all 1 states (map (valued_state g.W.Weight.value) l.initial.fst.states);
-      size : length l.fst.states ≡ length l.a.states + 1;
-      start : l.fst.start ≡ l.initial.fst.start;
+      states : put_all (l.state + 1) (drop l.state states) (map (valued_state g.W.Weight.value) l.states.items) ≡ put_all 1 states (map (valued_state g.W.Weight.value) l.initial.states.items);
+      size : length l.states.items ≡ length l.a.states + 1;
     }

@@ -8,7 +8,6 @@ abbrev pub invariant-loop-arc : goal.invariant-loop-arc
 invariant-loop-arc g l =
     let arcs = map (valued_arc g.W.Weight.value) l.arcs in
     record {
-      states : put_back l.place (drop l.arc-index arcs) (map (valued_state g.W.Weight.value) l.fst.states) ≡ put_back l.place arcs (map (valued_state g.W.Weight.value) l.initial.fst.states);
-      size : length l.fst.states ≡ length l.initial.fst.states;
-      start : l.fst.start ≡ l.initial.fst.start;
+      states : put_back l.place (drop l.arc-index arcs) (map (valued_state g.W.Weight.value) l.states.items) ≡ put_back l.place arcs (map (valued_state g.W.Weight.value) l.initial.states.items);
+      size : length l.states.items ≡ length l.initial.states.items;
     }
