@@ -35,7 +35,7 @@ types_takes kinds bytes kind next fits e =
     let two = Takes-then bytes 0 (word 2125659606) b.0.1 (text vector) c.0.1 first second in
     (Takes-then bytes 0 (word 2125659606 ++ text vector) c.0.1 (text (name_of kind)) next two t2.0, t2.1)
 
-name_is_short : (kind : ArcType) → length (name_of kind) < 2 ^ 32
+pub name_is_short : (kind : ArcType) → length (name_of kind) < 2 ^ 32
 name_is_short Boolean = omega arith
 name_is_short Tropical = omega arith
 name_is_short MinMax = omega arith

@@ -31,7 +31,7 @@ part_again bytes at part rest within e =
     let value : take (length part) (drop at bytes) ≡ part = ap (take (length part)) e ∙ take_at part rest (length part) refl in
     record { next = at + length part; gives = rw (whole, value) refl; left = past bytes at part rest (length part) refl e; within = ends }
 
-ok_or_is : {A E : Type 0} (o : Option A) (d : E) (y : A) → ok_or o d ≡ Ok y → o ≡ Some y
+pub ok_or_is : {A E : Type 0} (o : Option A) (d : E) (y : A) → ok_or o d ≡ Ok y → o ≡ Some y
 ok_or_is None d y e = absurd cc
 ok_or_is (Some x) d y e = cc
 
@@ -40,7 +40,7 @@ found_or_later {A} test x y later true passes next e = let same : x ≡ y = cc i
 found_or_later test x y later false fails next e = next e
 
 -- what is found passes the test
-found_passes : {A : Type 0} (test : A → Bool) (xs : List A) (y : A) → find test xs ≡ Some y → test y ≡ true
+pub found_passes : {A : Type 0} (test : A → Bool) (xs : List A) (y : A) → find test xs ≡ Some y → test y ≡ true
 found_passes test [] y e = absurd cc
 found_passes test (x ∷ xs) y e = found_or_later test x y (find test xs) (test x) refl (found_passes test xs y) e
 

@@ -18,7 +18,7 @@ use Rattle.fst_binary.proofs.WeightFields.{weight_again, weight_takes}
 
 -- ---- weights
 
-mapped_is : {A D E : Type 0} (f : D → E) (r : Result A D) (y : A) → result_map_both (λ x. x) f r ≡ Ok y → r ≡ Ok y
+pub mapped_is : {A D E : Type 0} (f : D → E) (r : Result A D) (y : A) → result_map_both (λ x. x) f r ≡ Ok y → r ≡ Ok y
 mapped_is f (Ok x) y e = cc
 mapped_is f (Err d) y e = absurd cc
 
@@ -32,12 +32,12 @@ final_again kind bytes at v rest within fits e =
     let r = weight_again kind bytes at v rest within fits e in
     record { next = r.next; gives = rw r.gives refl; left = r.left; within = r.within }
 
-not_infinite : (v : Cost) → is_infinite v ≡ false → v ≢ infinite
+pub not_infinite : (v : Cost) → is_infinite v ≡ false → v ≢ infinite
 not_infinite infinite e same = absurd cc
 not_infinite best e same = absurd cc
 not_infinite (finite a b) e same = absurd cc
 
-is_finite : (v : Cost) → v ≢ infinite → is_infinite v ≡ false
+pub is_finite : (v : Cost) → v ≢ infinite → is_infinite v ≡ false
 is_finite infinite h = absurd (h refl)
 is_finite best h = refl
 is_finite (finite a b) h = refl

@@ -119,7 +119,7 @@ pub chosen : {A : Type 0} (b : Bool) (x y z : A) → cond b x y ≡ z → ((b �
 chosen true x y z e = inl (refl, e)
 chosen false x y z e = inr (refl, e)
 
-tag_takes : (bytes : List ℕ) (at tag : ℕ) → at < length bytes → slice_index bytes at ≡ tag → Takes bytes at (tag ∷ []) (at + 1)
+pub tag_takes : (bytes : List ℕ) (at tag : ℕ) → at < length bytes → slice_index bytes at ≡ tag → Takes bytes at (tag ∷ []) (at + 1)
 tag_takes bytes at tag within e =
     let next : suc at ≡ at + 1 = omega arith in
     record { within = omega (arith, within); parts = drop-cons bytes at 0 within ∙ ap (λ (t : ℕ). t ∷ drop (suc at) bytes) e ∙ ap (λ (n : ℕ). tag ∷ drop n bytes) next }
@@ -149,7 +149,7 @@ weight_takes kind bytes at v next fits e =
           ]
     ]
 
-tag_stands : (bytes : List ℕ) (at tag : ℕ) (rest : List ℕ) → at ≤ length bytes → drop at bytes ≡ tag ∷ rest → (leb (length bytes) at ≡ false) × (slice_index bytes at ≡ tag)
+pub tag_stands : (bytes : List ℕ) (at tag : ℕ) (rest : List ℕ) → at ≤ length bytes → drop at bytes ≡ tag ∷ rest → (leb (length bytes) at ≡ false) × (slice_index bytes at ≡ tag)
 tag_stands bytes at tag rest within e =
     let ends = ends_within bytes at (tag ∷ []) rest within e in
     let same : at + 0 ≡ at = omega arith in

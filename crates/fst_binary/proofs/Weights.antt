@@ -48,7 +48,7 @@ small_is n e =
     let high : int_le n (pos 1000000000000000000) ≡ true = and_right _ _ e in
     (test_passed low, test_passed high)
 
-zero_is_small : IsSmall (pos 0)
+pub zero_is_small : IsSmall (pos 0)
 zero_is_small = small_is (pos 0) refl
 
 -- numbers that pass their test make a value that has a field

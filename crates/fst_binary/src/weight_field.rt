@@ -165,8 +165,8 @@ pub fn read_weight_field<W: Weight>(
     read_field(bytes, offset)
 }
 
-/// How many bytes the field of a weight takes, at most 17.
-pub(crate) fn weight_length<W: Weight>(weight: W) -> usize
+/// How many bytes the field of a weight takes, at most 17. Takes no memory.
+pub fn weight_length<W: Weight>(weight: W) -> usize
     ensures value { result ≡ length (weight_field W.KIND (W.value weight)) }
     ensures bound { result ≤ 17 }
     ensures fits { HasField W.KIND (W.value weight) }

@@ -1,5 +1,6 @@
 -- What the parts of a command decide, from what its readers and writers give.
 use Rattle.std.proofs.Common.{◌≡◌, ◌⊎◌, ℕ, ◌≤◌, List, [], ◌∷◌, length, Option, Some, None, Result, Ok, Err, IfOk, refl, sym, ap, ◌∙◌, subst, inl, inr, arith}
+use Rattle.std.specs.Prelude.{get_or}
 use Rattle.fst_semiring.specs.declared.arc_type.ArcType.{ArcType}
 use Rattle.fst_semiring.specs.Cost.{Cost}
 use Rattle.fst_machine.specs.Machine.{Machine, valued}
@@ -30,11 +31,11 @@ use Rattle.fst_words.specs.declared.verb.Verb.{Verb}
 use Rattle.fst_command.specs.Contents.{Choices, Renaming, Typed, AreMachines, typed, typed_by, machine_of_file}
 use Rattle.fst_command.specs.declared.refusal.Refusal.{Refusal}
 use Rattle.fst_command.specs.declared.refusal.Refusal.TheVariants as refusals
-use Rattle.fst_command.specs.Causes.{bad_binary, bad_pairs, bad_symbols, kinds_differ, too_large, unprintable, Answer, no_memory, refused}
-use Rattle.fst_command.specs.Checks.{Check, IsPast, Passes, length_check, symbols_check, pairs_check, binary_check, kinds_check, size_check, print_check, operation_checks, read_limit}
+use Rattle.fst_command.specs.Causes.{Cause, bad_binary, bad_pairs, bad_symbols, kinds_differ, too_large, unprintable, Answer, no_memory, refused}
+use Rattle.fst_command.specs.Checks.{Check, HasOther, IsPast, KindsDiffer, Passes, length_check, symbols_check, pairs_check, binary_check, kinds_check, size_check, print_check, operation_checks, read_limit}
 use Rattle.fst_command.specs.Operations.{Denotes, IsLimitedBy, Operates, grown, side_of}
 use Rattle.fst_command.specs.Told.{IsMade, Tells}
-use Rattle.fst_command.specs.Steps.{Declines, DeclinesOther, JoinsTo, OperatesTo}
+use Rattle.fst_command.specs.Steps.{CombinesTo, Declines, OperatesTo}
 
 -- a result is not both a value and a fault
 pub not_both : {A E : Type 0} (r : Result A E) (x : A) (e : E) → r ≡ Ok x → r ≡ Err e → ⊥
@@ -140,11 +141,26 @@ Passes-size {X} verb options kind file files machines x reads limited cause foun
       go sizes.TooManyArcs past limits = not_both (Ok x) x sizes.TooManyArcs refl (limits.arcs.1 past)
       go sizes.Memory past limits = past
 
+-- machines of one arc type
+no_other : (first : Typed) (files : List (List ℕ)) (machines : List (Machine Cost)) (cause : Cause) → AreMachines first.kind files machines → HasOther first files cause → ⊥
+no_other first [] machines cause are has = has
+no_other first (file ∷ files) [] cause are has = absurd are
+no_other first (file ∷ files) (m ∷ machines) cause are (inl other) =
+    other.differs (ap (λ (x : Typed). x.kind) (ok_same _ _ _ are.0 other.reads))
+no_other first (file ∷ files) (m ∷ machines) cause are (inr more) = no_other first files machines cause are.1 more.1
+
+pub Passes-alike : (kind : ArcType) (files : List (List ℕ)) (machines : List (Machine Cost)) → AreMachines kind files machines → Passes (kinds_check files)
+Passes-alike kind [] machines are cause found = found
+Passes-alike kind (file ∷ files) [] are cause found = absurd are
+Passes-alike kind (file ∷ files) (m ∷ machines) are cause (first, reads, has) =
+    let same : first.kind ≡ kind = ap (λ (x : Typed). x.kind) (ok_same _ _ _ reads are.0) in
+    no_other first files machines cause (subst (λ (k : ArcType). AreMachines k files machines) (sym same) are.1) has
+
 -- a machine that was refused is past the limit, or there was no memory
-pub declines-large : (X : Type 0) (verb : Verb) (options : Options) (name content : List ℕ) (kind : ArcType) (file : List ℕ) (files : List (List ℕ)) (machines : List (Machine Cost)) (fault : RationalFault) (refusal : Refusal) → AreMachines kind (file ∷ files) machines → Passes (binary_check name content) → Passes (kinds_check (file ∷ files)) → IsLimitedBy {X = X} (grown verb options kind machines) (Err fault) → IsMade (refused (too_large fault)) refusal → (fault ≡ sizes.Memory → refusal ≡ refusals.Memory) → Declines (binary_check name content ∷ operation_checks verb options (file ∷ files)) refusal
-declines-large X verb options name content kind file files machines fault refusal reads form one limited made memory = start (grown verb options kind machines) refl limited where
+pub declines-large : (X : Type 0) (verb : Verb) (options : Options) (kind : ArcType) (file : List ℕ) (files : List (List ℕ)) (machines : List (Machine Cost)) (fault : RationalFault) (refusal : Refusal) → AreMachines kind (file ∷ files) machines → IsLimitedBy {X = X} (grown verb options kind machines) (Err fault) → IsMade (refused (too_large fault)) refusal → (fault ≡ sizes.Memory → refusal ≡ refusals.Memory) → Declines (operation_checks verb options (file ∷ files)) refusal
+declines-large X verb options kind file files machines fault refusal reads limited made memory = start (grown verb options kind machines) refl limited where
   all : Type 0
-  all = Declines (binary_check name content ∷ operation_checks verb options (file ∷ files)) refusal
+  all = Declines (operation_checks verb options (file ∷ files)) refusal
 
   starved : fault ≡ sizes.Memory → all
   starved e = inl (subst (λ (r : Refusal). Tells no_memory r) (sym (memory e)) (record { status = refl; line = refl }))
@@ -152,7 +168,7 @@ declines-large X verb options name content kind file files machines fault refusa
   told : (m : Machine Cost) → grown verb options kind machines ≡ Some m → IsPast m fault → Tells no_memory refusal ⊎ Tells (refused (too_large fault)) refusal → all
   told m grows past (inl tells) = inl tells
   told m grows past (inr tells) =
-      inr (too_large fault, inr (form, inr (one, inl (record { kind = kind; machines = machines; made = m; fault = fault; reads = reads; grows = grows; past = past; is = refl }))), tt, tells)
+      inr (too_large fault, inr (Passes-alike kind (file ∷ files) machines reads, inl (record { kind = kind; machines = machines; made = m; fault = fault; reads = reads; grows = grows; past = past; is = refl })), tt, tells)
 
   past_by : (m : Machine Cost) (f : RationalFault) → fault ≡ f → IsLimited {X = X} m (Err fault) → IsPast m f ⊎ (fault ≡ sizes.Memory)
   past_by m sizes.TooManyStates e limits = inl (limits.states.0 (ap Err e))
@@ -167,33 +183,30 @@ declines-large X verb options name content kind file files machines fault refusa
   start None e limits = starved limits
   start (Some m) e limits = go m e (past_by m fault refl limits)
 
--- machines of one arc type
-pub Passes-pair : (kind : ArcType) (a b : Machine Cost) (first second : List ℕ) → machine_of_file first ≡ Ok (record { kind = kind; machine = a }) → machine_of_file second ≡ Ok (record { kind = kind; machine = b }) → Passes (kinds_check (first ∷ second ∷ []))
-Passes-pair kind a b first second reads read cause (t, is, inl other) =
-    let mine = ok_same _ _ _ is reads in
-    let its = ok_same _ _ _ other.reads read in
-    other.differs (ap (λ (x : Typed). x.kind) mine ∙ sym (ap (λ (x : Typed). x.kind) its))
-Passes-pair kind a b first second reads read cause (t, is, inr more) = more.1
+-- a question in front that finds nothing
+pub Declines-behind : (check : Check) (checks : List Check) (refusal : Refusal) → Passes check → Declines checks refusal → Declines (check ∷ checks) refusal
+Declines-behind check checks refusal passes (inl tells) = inl tells
+Declines-behind check checks refusal passes (inr (cause, first, form, tells)) = inr (cause, inr (passes, first), form, tells)
 
--- a second file of another arc type is refused for it, where its form is right
-pub declines-kinds : (kind other : ArcType) (name second : List ℕ) (b : Machine Cost) (refusal : Refusal) → (kind ≡ other → ⊥) → machine_of_file second ≡ Ok (record { kind = other; machine = b }) → IsMade (refused (kinds_differ kind other)) refusal → DeclinesOther kind name second refusal
-declines-kinds kind other name second b refusal apart read made verb options first a reads = go (made_tells (refused (kinds_differ kind other)) refusal made) where
-  go : Tells no_memory refusal ⊎ Tells (refused (kinds_differ kind other)) refusal → Declines (binary_check name second ∷ operation_checks verb options (first ∷ second ∷ [])) refusal
+-- a file of another arc type is refused for it
+pub declines-kinds : (kind other : ArcType) (files : List (List ℕ)) (refusal : Refusal) (checks : List Check) → KindsDiffer files (kinds_differ kind other) → IsMade (refused (kinds_differ kind other)) refusal → Declines (kinds_check files ∷ checks) refusal
+declines-kinds kind other files refusal checks differ made = go (made_tells (refused (kinds_differ kind other)) refusal made) where
+  go : Tells no_memory refusal ⊎ Tells (refused (kinds_differ kind other)) refusal → Declines (kinds_check files ∷ checks) refusal
   go (inl tells) = inl tells
-  go (inr tells) =
-      inr (kinds_differ kind other, inr ((λ cause found. not_both _ _ _ read found.1), inl (record { kind = kind; machine = a }, reads, inl (record { other = record { kind = other; machine = b }; reads = read; differs = apart; is = refl }))), tt, tells)
+  go (inr tells) = inr (kinds_differ kind other, inl differ, tt, tells)
 
--- A machine was made of that of a file: no question finds a cause.
+-- A machine was made of those of files: no question finds a cause.
+pub settles-all : {X : Type 0} (verb : Verb) (options : Options) (renaming : Renaming) (kind : ArcType) (file : List ℕ) (files : List (List ℕ)) (bytes : List ℕ) (machines : List (Machine Cost)) (made : Machine Cost) (x : X) → AreMachines kind (file ∷ files) machines → Operates verb options renaming kind machines made → Denotes verb options renaming kind machines made → IsLimitedBy (grown verb options kind machines) (Ok x) → bytes ≡ spelling kind made → CombinesTo verb options renaming (file ∷ files) (Ok bytes)
+settles-all verb options renaming kind file files bytes machines made x reads operates denotes limited spells = (
+  (Passes-alike kind (file ∷ files) machines reads, (Passes-size verb options kind file files machines x reads limited, tt)),
+  record { kind = kind; machines = machines; result = made; reads = reads; operates = operates; denotes = denotes; makes = ap (λ b. b ∷ []) spells },
+)
+
+-- one was made of that of a file
 pub settles-one : {X : Type 0} (verb : Verb) (options : Options) (renaming : Renaming) (kind : ArcType) (name content bytes : List ℕ) (m made : Machine Cost) (x : X) → machine_of_file content ≡ Ok (record { kind = kind; machine = m }) → Operates verb options renaming kind (m ∷ []) made → Denotes verb options renaming kind (m ∷ []) made → IsLimitedBy (grown verb options kind (m ∷ [])) (Ok x) → bytes ≡ spelling kind made → OperatesTo verb options renaming name content (Ok bytes)
 settles-one verb options renaming kind name content bytes m made x reads operates denotes limited spells =
-    (((λ cause found. not_both _ _ _ reads found.1), (Passes-kinds content, (Passes-size verb options kind content [] (m ∷ []) x (reads, tt) limited, tt))),
-    record { kind = kind; machines = m ∷ []; result = made; reads = (reads, tt); operates = operates; denotes = denotes; makes = ap (λ b. b ∷ []) spells })
-
--- one was made of those of two files
-pub settles-two : {X : Type 0} (verb : Verb) (options : Options) (renaming : Renaming) (kind : ArcType) (first name second bytes : List ℕ) (a b made : Machine Cost) (x : X) → machine_of_file first ≡ Ok (record { kind = kind; machine = a }) → machine_of_file second ≡ Ok (record { kind = kind; machine = b }) → Operates verb options renaming kind (a ∷ b ∷ []) made → Denotes verb options renaming kind (a ∷ b ∷ []) made → IsLimitedBy (grown verb options kind (a ∷ b ∷ [])) (Ok x) → bytes ≡ spelling kind made → JoinsTo verb options renaming first name second (Ok bytes)
-settles-two verb options renaming kind first name second bytes a b made x reads read operates denotes limited spells =
-    (((λ cause found. not_both _ _ _ read found.1), (Passes-pair kind a b first second reads read, (Passes-size verb options kind first (second ∷ []) (a ∷ b ∷ []) x (reads, (read, tt)) limited, tt))),
-    record { kind = kind; machines = a ∷ b ∷ []; result = made; reads = (reads, (read, tt)); operates = operates; denotes = denotes; makes = ap (λ b. b ∷ []) spells })
+    let all = settles-all verb options renaming kind content [] bytes (m ∷ []) made x (reads, tt) operates denotes limited spells in
+    (((λ cause found. not_both _ _ _ reads found.1), all.0), all.1)
 
 -- the arcs were sorted by the side that the option names
 pub sorted-by : {V E : Type 0} (value : V → Cost) (side : Side) (word : Option (List ℕ)) (m : Machine V) (made : Result (Machine V) E) → side ≡ side_of word → IfOk made (λ c. IsArcSorted side m c) → IfOk made (λ c. IsArcSorted (side_of word) (valued value m) (valued value c))
@@ -212,3 +225,22 @@ pub declines-binary : (name content : List ℕ) (kind : ArcType) (fault : Binary
 declines-binary name content kind fault refusal checks names (inl starved) made memory =
     inl (subst (λ (r : Refusal). Tells no_memory r) (sym (memory (ap (λ (f : BinaryFault). f.kind) starved))) (record { status = refl; line = refl }))
 declines-binary name content kind fault refusal checks names (inr is) made memory = declines-file name content fault refusal checks (machine_of_file-fault content kind fault names is) made
+
+-- a list of two
+pub two_of : {X : Type 0} (xs : List X) (a b : X) → length xs ≡ 2 → a ≡ get_or xs 0 a → b ≡ get_or xs 1 b → xs ≡ a ∷ b ∷ []
+two_of [] a b long e f = absurd (omega (arith, long))
+two_of (x ∷ []) a b long e f = absurd (omega (arith, long))
+two_of (x ∷ y ∷ []) a b long e f = cc
+two_of (x ∷ y ∷ z ∷ xs) a b long e f = absurd (omega (arith, long))
+
+-- A machine was made of those of two files.
+pub settles-pair : {X : Type 0} (verb : Verb) (options : Options) (renaming : Renaming) (kind : ArcType) (files : List (List ℕ)) (bytes : List ℕ) (a b made : Machine Cost) (x : X) → AreMachines kind files (a ∷ b ∷ []) → Operates verb options renaming kind (a ∷ b ∷ []) made → Denotes verb options renaming kind (a ∷ b ∷ []) made → IsLimitedBy (grown verb options kind (a ∷ b ∷ [])) (Ok x) → bytes ≡ spelling kind made → CombinesTo verb options renaming files (Ok bytes)
+settles-pair verb options renaming kind [] bytes a b made x are operates denotes limited spells = absurd are
+settles-pair verb options renaming kind (file ∷ files) bytes a b made x are operates denotes limited spells =
+    settles-all verb options renaming kind file files bytes (a ∷ b ∷ []) made x are operates denotes limited spells
+
+-- One was refused for its size.
+pub declines-pair : (X : Type 0) (verb : Verb) (options : Options) (kind : ArcType) (files : List (List ℕ)) (a b : Machine Cost) (fault : RationalFault) (refusal : Refusal) → AreMachines kind files (a ∷ b ∷ []) → IsLimitedBy {X = X} (grown verb options kind (a ∷ b ∷ [])) (Err fault) → IsMade (refused (too_large fault)) refusal → (fault ≡ sizes.Memory → refusal ≡ refusals.Memory) → Declines (operation_checks verb options files) refusal
+declines-pair X verb options kind [] a b fault refusal are limited made memory = absurd are
+declines-pair X verb options kind (file ∷ files) a b fault refusal are limited made memory =
+    declines-large X verb options kind file files (a ∷ b ∷ []) fault refusal are limited made memory

@@ -2,9 +2,11 @@ pub mod Lines
 pub mod Checking
 pub mod Deciding
 pub mod Working
+pub mod Writing
 pub mod OptionFiles
 pub mod Settling
-pub mod Joining
+pub mod Several
+pub mod Coding
 pub mod Planned
 pub mod Completing
 pub mod Showing

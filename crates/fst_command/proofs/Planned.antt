@@ -1,14 +1,14 @@
 -- The files of a command with one output, and one or two inputs of its own.
-use Rattle.std.proofs.Common.{◌≡◌, ℕ, true, false, List, [], ◌∷◌, ◌++◌, length, Some, slice_get, refl, sym, ap, ◌∙◌, subst, arith}
+use Rattle.std.proofs.Common.{◌≡◌, ℕ, ◌<◌, zero, suc, true, false, List, [], ◌∷◌, ◌++◌, length, Some, slice_get, refl, sym, ap, ◌∙◌, subst, arith}
 use Rattle.fst_words.specs.declared.options.Options.{Options}
 use Rattle.fst_words.specs.declared.plan.Plan.{Plan}
 use Rattle.fst_words.specs.declared.verb.Verb.{Verb}
-use Rattle.fst_words.specs.declared.verb.Verb.TheVariants.{Compile, Print, Info, Invert, Reverse, Connect, Union, Concat, Closure, Project, Relabel, Arcsort}
+use Rattle.fst_words.specs.declared.verb.Verb.TheVariants.{Compile, Print, Info, Invert, Reverse, Connect, Union, Concat, Closure, Project, Relabel, Arcsort, Encode}
 use Rattle.fst_words.specs.Commands.{all_names}
-use Rattle.fst_words.specs.Plans.{outputs_of}
+use Rattle.fst_words.specs.Plans.{input_files, outputs_of}
 use Rattle.fst_words.specs.PlanLaws.{IsWhole}
-use Rattle.fst_command.specs.Operations.{is_join}
-use Rattle.fst_command.specs.Plans.{Input, binary_form, inputs_of, is_built, option_inputs, own_form, own_inputs}
+use Rattle.fst_command.specs.Operations.{is_coding, is_join}
+use Rattle.fst_command.specs.Plans.{Input, binary_form, codex_form, inputs_of, is_built, is_single, option_inputs, own_form, own_inputs}
 
 -- a list of two, and of three
 two_items : (names : List (List ℕ)) → length names ≡ 2 → (first : List ℕ) × (second : List ℕ) × (names ≡ first ∷ second ∷ [])
@@ -29,19 +29,19 @@ pub record HasFiles (plan : Plan) (inputs : List Input) (output : List ℕ) : Ty
   pub own : own_inputs plan ≡ inputs
   pub stored : outputs_of plan ≡ output ∷ []
 
-single_by : (verb : Verb) (options : Options) (first second : List ℕ) → is_built verb ≡ true → is_join verb ≡ false → HasFiles (record { command = verb; names = first ∷ second ∷ []; options = options }) (record { name = first; form = own_form verb } ∷ []) second
+single_by : (verb : Verb) (options : Options) (first second : List ℕ) → is_single verb ≡ true → HasFiles (record { command = verb; names = first ∷ second ∷ []; options = options }) (record { name = first; form = own_form verb } ∷ []) second
 unfolding outputs_of
-single_by Compile options first second built one = record { own = refl; stored = refl }
-single_by Print options first second built one = record { own = refl; stored = refl }
-single_by Info options first second built one = record { own = refl; stored = refl }
-single_by Invert options first second built one = record { own = refl; stored = refl }
-single_by Reverse options first second built one = record { own = refl; stored = refl }
-single_by Connect options first second built one = record { own = refl; stored = refl }
-single_by Closure options first second built one = record { own = refl; stored = refl }
-single_by Project options first second built one = record { own = refl; stored = refl }
-single_by Relabel options first second built one = record { own = refl; stored = refl }
-single_by Arcsort options first second built one = record { own = refl; stored = refl }
-single_by _ options first second built one = absurd cc
+single_by Compile options first second one = record { own = refl; stored = refl }
+single_by Print options first second one = record { own = refl; stored = refl }
+single_by Info options first second one = record { own = refl; stored = refl }
+single_by Invert options first second one = record { own = refl; stored = refl }
+single_by Reverse options first second one = record { own = refl; stored = refl }
+single_by Connect options first second one = record { own = refl; stored = refl }
+single_by Closure options first second one = record { own = refl; stored = refl }
+single_by Project options first second one = record { own = refl; stored = refl }
+single_by Relabel options first second one = record { own = refl; stored = refl }
+single_by Arcsort options first second one = record { own = refl; stored = refl }
+single_by _ options first second one = absurd cc
 
 join_by : (verb : Verb) (options : Options) (first second third : List ℕ) → is_join verb ≡ true → HasFiles (record { command = verb; names = first ∷ second ∷ third ∷ []; options = options }) (record { name = first; form = binary_form } ∷ record { name = second; form = binary_form } ∷ []) third
 unfolding outputs_of
@@ -49,18 +49,18 @@ join_by Union options first second third join = record { own = refl; stored = re
 join_by Concat options first second third join = record { own = refl; stored = refl }
 join_by _ options first second third join = absurd cc
 
-single_count : (verb : Verb) (n : ℕ) → is_built verb ≡ true → is_join verb ≡ false → n ≡ all_names verb n → n ≡ 2
-single_count Compile n built one e = e
-single_count Print n built one e = e
-single_count Info n built one e = e
-single_count Invert n built one e = e
-single_count Reverse n built one e = e
-single_count Connect n built one e = e
-single_count Closure n built one e = e
-single_count Project n built one e = e
-single_count Relabel n built one e = e
-single_count Arcsort n built one e = e
-single_count _ n built one e = absurd cc
+single_count : (verb : Verb) (n : ℕ) → is_single verb ≡ true → n ≡ all_names verb n → n ≡ 2
+single_count Compile n one e = e
+single_count Print n one e = e
+single_count Info n one e = e
+single_count Invert n one e = e
+single_count Reverse n one e = e
+single_count Connect n one e = e
+single_count Closure n one e = e
+single_count Project n one e = e
+single_count Relabel n one e = e
+single_count Arcsort n one e = e
+single_count _ n one e = absurd cc
 
 join_count : (verb : Verb) (n : ℕ) → is_join verb ≡ true → n ≡ all_names verb n → n ≡ 3
 join_count Union n join e = e
@@ -68,8 +68,8 @@ join_count Concat n join e = e
 join_count _ n join e = absurd cc
 
 -- a command with one input of its own has two names, one with two has three
-pub two_names : (plan : Plan) → is_built plan.command ≡ true → is_join plan.command ≡ false → IsWhole plan → length plan.names ≡ 2
-two_names plan built one whole = single_count plan.command (length plan.names) built one whole.all
+pub two_names : (plan : Plan) → is_single plan.command ≡ true → IsWhole plan → length plan.names ≡ 2
+two_names plan one whole = single_count plan.command (length plan.names) one whole.all
 
 pub three_names : (plan : Plan) → is_join plan.command ≡ true → IsWhole plan → length plan.names ≡ 3
 three_names plan join whole = join_count plan.command (length plan.names) join whole.all
@@ -81,12 +81,12 @@ pub record HasTwo (plan : Plan) (first : List ℕ) : Type 0 where
   pub inputs : inputs_of plan ≡ option_inputs plan.options ++ record { name = first; form = own_form plan.command } ∷ []
   pub stored : outputs_of plan ≡ output ∷ []
 
-pub has_two : (plan : Plan) (first : List ℕ) → is_built plan.command ≡ true → is_join plan.command ≡ false → IsWhole plan → slice_get plan.names 0 ≡ Some first → HasTwo plan first
-has_two plan first built one whole at = go (two_items plan.names (two_names plan built one whole)) where
+pub has_two : (plan : Plan) (first : List ℕ) → is_single plan.command ≡ true → IsWhole plan → slice_get plan.names 0 ≡ Some first → HasTwo plan first
+has_two plan first one whole at = go (two_items plan.names (two_names plan one whole)) where
   go : (a : List ℕ) × (b : List ℕ) × (plan.names ≡ a ∷ b ∷ []) → HasTwo plan first
   go (a, b, e) =
       let same : a ≡ first = cc (at, e) in
-      let files = subst (λ (names : List (List ℕ)). HasFiles (record { command = plan.command; names = names; options = plan.options }) (record { name = a; form = own_form plan.command } ∷ []) b) (sym e) (single_by plan.command plan.options a b built one) in
+      let files = subst (λ (names : List (List ℕ)). HasFiles (record { command = plan.command; names = names; options = plan.options }) (record { name = a; form = own_form plan.command } ∷ []) b) (sym e) (single_by plan.command plan.options a b one) in
       record {
         output = b;
         there = ap (λ names. slice_get names 1) e;
@@ -118,18 +118,23 @@ has_three plan first join whole at = go (three_items plan.names (three_names pla
         stored = files.stored;
       }
 
-pub inputs_join : (plan : Plan) (first second : List ℕ) → is_join plan.command ≡ true → IsWhole plan → slice_get plan.names 0 ≡ Some first → slice_get plan.names 1 ≡ Some second → inputs_of plan ≡ option_inputs plan.options ++ record { name = first; form = binary_form } ∷ record { name = second; form = binary_form } ∷ []
-inputs_join plan first second join whole at next =
-    let three = has_three plan first join whole at in
-    let same : three.second ≡ second = cc (three.next, next) in
-    three.inputs ∙ ap (λ (name : List ℕ). option_inputs plan.options ++ record { name = first; form = binary_form } ∷ record { name = name; form = binary_form } ∷ []) same
+-- a command with several machines has two
+pub two_files : (plan : Plan) → is_join plan.command ≡ true → IsWhole plan → length (input_files plan) ≡ 2
+two_files plan join whole = go (three_items plan.names (three_names plan join whole)) where
+  by : (verb : Verb) (options : Options) (a b c : List ℕ) → is_join verb ≡ true → length (input_files (record { command = verb; names = a ∷ b ∷ c ∷ []; options = options })) ≡ 2
+  by Union options a b c join = refl
+  by Concat options a b c join = refl
+  by _ options a b c join = absurd cc
+
+  go : (a : List ℕ) × (b : List ℕ) × (c : List ℕ) × (plan.names ≡ a ∷ b ∷ c ∷ []) → length (input_files plan) ≡ 2
+  go (a, b, c, e) = subst (λ (names : List (List ℕ)). length (input_files (record { command = plan.command; names = names; options = plan.options })) ≡ 2) (sym e) (by plan.command plan.options a b c join)
 
 -- the output of a command with one input of its own is its second name, that of one with two the third
-pub stored_second : (plan : Plan) (name : List ℕ) → is_built plan.command ≡ true → is_join plan.command ≡ false → IsWhole plan → slice_get plan.names 1 ≡ Some name → outputs_of plan ≡ name ∷ []
-stored_second plan name built one whole at = go (two_items plan.names (two_names plan built one whole)) where
+pub stored_second : (plan : Plan) (name : List ℕ) → is_single plan.command ≡ true → IsWhole plan → slice_get plan.names 1 ≡ Some name → outputs_of plan ≡ name ∷ []
+stored_second plan name one whole at = go (two_items plan.names (two_names plan one whole)) where
   go : (a : List ℕ) × (b : List ℕ) × (plan.names ≡ a ∷ b ∷ []) → outputs_of plan ≡ name ∷ []
   go (a, b, e) =
-      let two = has_two plan a built one whole (ap (λ names. slice_get names 0) e) in
+      let two = has_two plan a one whole (ap (λ names. slice_get names 0) e) in
       let same : two.output ≡ name = cc (two.there, at) in
       two.stored ∙ ap (λ n. n ∷ []) same
 
@@ -140,3 +145,120 @@ stored_third plan name join whole at = go (three_items plan.names (three_names p
       let three = has_three plan a join whole (ap (λ names. slice_get names 0) e) in
       let same : three.output ≡ name = cc (three.last, at) in
       three.stored ∙ ap (λ n. n ∷ []) same
+
+-- the files of `encode --decode`: a machine and a codex, and the machine that they stand for
+decoding_by : (verb : Verb) (options : Options) (a b c : List ℕ) → is_coding verb ≡ true → options.decode ≡ true → HasFiles (record { command = verb; names = a ∷ b ∷ c ∷ []; options = options }) (record { name = a; form = binary_form } ∷ record { name = b; form = codex_form } ∷ []) c
+unfolding outputs_of
+decoding_by Encode options a b c coding decode = record { own = rw decode refl; stored = rw decode refl }
+decoding_by _ options a b c coding decode = absurd cc
+
+-- those of `encode`: a machine, and the codex and the machine that stand for it
+pub record HasBoth (plan : Plan) (inputs : List Input) (codex machine : List ℕ) : Type 0 where
+  pub own : own_inputs plan ≡ inputs
+  pub stored : outputs_of plan ≡ codex ∷ machine ∷ []
+
+encoding_by : (verb : Verb) (options : Options) (a b c : List ℕ) → is_coding verb ≡ true → options.decode ≡ false → HasBoth (record { command = verb; names = a ∷ b ∷ c ∷ []; options = options }) (record { name = a; form = binary_form } ∷ []) b c
+unfolding outputs_of
+encoding_by Encode options a b c coding decode = record { own = rw decode refl; stored = rw decode refl }
+encoding_by _ options a b c coding decode = absurd cc
+
+coding_count : (verb : Verb) (n : ℕ) → is_coding verb ≡ true → n ≡ all_names verb n → n ≡ 3
+coding_count Encode n coding e = e
+coding_count _ n coding e = absurd cc
+
+-- `encode` has three names
+pub coding_names : (plan : Plan) → is_coding plan.command ≡ true → IsWhole plan → length plan.names ≡ 3
+coding_names plan coding whole = coding_count plan.command (length plan.names) coding whole.all
+
+pub record HasDecoding (plan : Plan) (machine codex output : List ℕ) : Type 0 where
+  pub inputs : inputs_of plan ≡ option_inputs plan.options ++ record { name = machine; form = binary_form } ∷ record { name = codex; form = codex_form } ∷ []
+  pub stored : outputs_of plan ≡ output ∷ []
+
+-- the names of a list of three
+same_three : (names : List (List ℕ)) (a b c x : List ℕ) (n : ℕ) → names ≡ a ∷ b ∷ c ∷ [] → slice_get names n ≡ Some x → slice_get (a ∷ b ∷ c ∷ []) n ≡ Some x
+same_three names a b c x n e at = ap (λ xs. slice_get xs n) (sym e) ∙ at
+
+pub has_decoding : (plan : Plan) (machine codex output : List ℕ) → is_coding plan.command ≡ true → plan.options.decode ≡ true → IsWhole plan → slice_get plan.names 0 ≡ Some machine → slice_get plan.names 1 ≡ Some codex → slice_get plan.names 2 ≡ Some output → HasDecoding plan machine codex output
+has_decoding plan machine codex output coding decode whole one two three = go (three_items plan.names (coding_names plan coding whole)) where
+  go : (a : List ℕ) × (b : List ℕ) × (c : List ℕ) × (plan.names ≡ a ∷ b ∷ c ∷ []) → HasDecoding plan machine codex output
+  go (a, b, c, e) =
+      let first : a ≡ machine = cc (same_three plan.names a b c machine 0 e one) in
+      let second : b ≡ codex = cc (same_three plan.names a b c codex 1 e two) in
+      let third : c ≡ output = cc (same_three plan.names a b c output 2 e three) in
+      let files = subst (λ (names : List (List ℕ)). HasFiles (record { command = plan.command; names = names; options = plan.options }) (record { name = a; form = binary_form } ∷ record { name = b; form = codex_form } ∷ []) c) (sym e) (decoding_by plan.command plan.options a b c coding decode) in
+      record {
+        inputs = ap (λ own. option_inputs plan.options ++ own) (files.own
+            ∙ ap (λ (name : List ℕ). record { name = name; form = binary_form } ∷ record { name = b; form = codex_form } ∷ []) first
+            ∙ ap (λ (name : List ℕ). record { name = machine; form = binary_form } ∷ record { name = name; form = codex_form } ∷ []) second);
+        stored = files.stored ∙ ap (λ n. n ∷ []) third;
+      }
+
+pub record HasEncoding (plan : Plan) (machine codex output : List ℕ) : Type 0 where
+  pub inputs : inputs_of plan ≡ option_inputs plan.options ++ record { name = machine; form = binary_form } ∷ []
+  pub stored : outputs_of plan ≡ codex ∷ output ∷ []
+
+pub has_encoding : (plan : Plan) (machine codex output : List ℕ) → is_coding plan.command ≡ true → plan.options.decode ≡ false → IsWhole plan → slice_get plan.names 0 ≡ Some machine → slice_get plan.names 1 ≡ Some codex → slice_get plan.names 2 ≡ Some output → HasEncoding plan machine codex output
+has_encoding plan machine codex output coding decode whole one two three = go (three_items plan.names (coding_names plan coding whole)) where
+  go : (a : List ℕ) × (b : List ℕ) × (c : List ℕ) × (plan.names ≡ a ∷ b ∷ c ∷ []) → HasEncoding plan machine codex output
+  go (a, b, c, e) =
+      let first : a ≡ machine = cc (same_three plan.names a b c machine 0 e one) in
+      let second : b ≡ codex = cc (same_three plan.names a b c codex 1 e two) in
+      let third : c ≡ output = cc (same_three plan.names a b c output 2 e three) in
+      let files = subst (λ (names : List (List ℕ)). HasBoth (record { command = plan.command; names = names; options = plan.options }) (record { name = a; form = binary_form } ∷ []) b c) (sym e) (encoding_by plan.command plan.options a b c coding decode) in
+      record {
+        inputs = ap (λ own. option_inputs plan.options ++ own) (files.own ∙ ap (λ (name : List ℕ). record { name = name; form = binary_form } ∷ []) first);
+        stored = files.stored ∙ ap (λ n. n ∷ c ∷ []) second ∙ ap (λ n. codex ∷ n ∷ []) third;
+      }
+
+-- a name that stands in a place
+pub name_at : (names : List (List ℕ)) (n : ℕ) → n < length names → (name : List ℕ) × (slice_get names n ≡ Some name)
+name_at [] n within = absurd (omega (arith, within))
+name_at (a ∷ names) zero within = (a, refl)
+name_at (a ∷ names) (suc n) within = name_at names n (omega (arith, within))
+
+-- the name in a place is one
+pub second : (names : List (List ℕ)) (a b : List ℕ) → slice_get names 1 ≡ Some a → slice_get names 1 ≡ Some b → a ≡ b
+second names a b e f = cc
+
+-- the inputs of `encode --decode`
+pub coding_inputs : (plan : Plan) (machine : List ℕ) → is_coding plan.command ≡ true → plan.options.decode ≡ true → IsWhole plan → slice_get plan.names 0 ≡ Some machine → (codex : List ℕ) × (slice_get plan.names 1 ≡ Some codex) × (inputs_of plan ≡ option_inputs plan.options ++ record { name = machine; form = binary_form } ∷ record { name = codex; form = codex_form } ∷ [])
+coding_inputs plan machine coding decode whole at =
+    let long = coding_names plan coding whole in
+    let codex = name_at plan.names 1 (omega (arith, long)) in
+    let output = name_at plan.names 2 (omega (arith, long)) in
+    (codex.0, codex.1, (has_decoding plan machine codex.0 output.0 coding decode whole at codex.1 output.1).inputs)
+
+pub stored_decoding : (plan : Plan) (name : List ℕ) → is_coding plan.command ≡ true → plan.options.decode ≡ true → IsWhole plan → slice_get plan.names 2 ≡ Some name → outputs_of plan ≡ name ∷ []
+stored_decoding plan name coding decode whole at =
+    let long = coding_names plan coding whole in
+    let machine = name_at plan.names 0 (omega (arith, long)) in
+    let codex = name_at plan.names 1 (omega (arith, long)) in
+    (has_decoding plan machine.0 codex.0 name coding decode whole machine.1 codex.1 at).stored
+
+-- the files of `encode`
+pub stored_encoding : (plan : Plan) (codex machine : List ℕ) → is_coding plan.command ≡ true → plan.options.decode ≡ false → IsWhole plan → slice_get plan.names 1 ≡ Some codex → slice_get plan.names 2 ≡ Some machine → outputs_of plan ≡ codex ∷ machine ∷ []
+stored_encoding plan codex machine coding encode whole at last =
+    let long = coding_names plan coding whole in
+    let file = name_at plan.names 0 (omega (arith, long)) in
+    (has_encoding plan file.0 codex machine coding encode whole file.1 at last).stored
+
+pub inputs_encoding : (plan : Plan) (file : List ℕ) → is_coding plan.command ≡ true → plan.options.decode ≡ false → IsWhole plan → slice_get plan.names 0 ≡ Some file → inputs_of plan ≡ option_inputs plan.options ++ record { name = file; form = binary_form } ∷ []
+inputs_encoding plan file coding encode whole at =
+    let long = coding_names plan coding whole in
+    let codex = name_at plan.names 1 (omega (arith, long)) in
+    let machine = name_at plan.names 2 (omega (arith, long)) in
+    (has_encoding plan file codex.0 machine.0 coding encode whole at codex.1 machine.1).inputs
+
+-- the commands that are built
+pub single_of : (verb : Verb) → is_built verb ≡ true → is_join verb ≡ false → is_coding verb ≡ false → is_single verb ≡ true
+single_of Compile built one plain = refl
+single_of Print built one plain = refl
+single_of Info built one plain = refl
+single_of Invert built one plain = refl
+single_of Reverse built one plain = refl
+single_of Connect built one plain = refl
+single_of Closure built one plain = refl
+single_of Project built one plain = refl
+single_of Relabel built one plain = refl
+single_of Arcsort built one plain = refl
+single_of _ built one plain = absurd cc

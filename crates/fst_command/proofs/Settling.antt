@@ -1,19 +1,19 @@
 -- What a command decides, from what it makes of the contents of its own inputs.
-use Rattle.std.proofs.Common.{◌≡◌, ℕ, true, List, [], ◌∷◌, ◌++◌, Result, Ok, Err, refl, sym, ap, ◌∙◌, append_assoc}
+use Rattle.std.proofs.Common.{◌≡◌, ℕ, Bool, true, false, List, [], ◌∷◌, ◌++◌, Result, Ok, Err, refl, sym, ap, ◌∙◌, subst, append_assoc}
 use Rattle.std.proofs.lemmas.List.{append-nil}
 use Rattle.fst_words.specs.declared.options.Options.{Options}
 use Rattle.fst_words.specs.declared.plan.Plan.{Plan}
 use Rattle.fst_words.specs.declared.verb.Verb.{Verb}
-use Rattle.fst_words.specs.declared.verb.Verb.TheVariants.{Compile, Print, Info, Invert, Reverse, Connect, Union, Concat, Closure, Project, Relabel, Arcsort}
+use Rattle.fst_words.specs.declared.verb.Verb.TheVariants.{Compile, Print, Info, Invert, Reverse, Connect, Union, Concat, Closure, Project, Relabel, Arcsort, Encode}
 use Rattle.fst_command.specs.declared.refusal.Refusal.{Refusal}
 use Rattle.fst_command.specs.declared.option_files.OptionFiles.{OptionFiles}
-use Rattle.fst_command.specs.Plans.{binary_form, own_form}
+use Rattle.fst_command.specs.Plans.{binary_form, codex_form, own_form}
 use Rattle.fst_command.specs.Contents.{Choices, Renaming, choices_of, own_contents, renaming_of}
-use Rattle.fst_command.specs.Checks.{binary_check, check_of, machine_checks}
-use Rattle.fst_command.specs.Operations.{is_join}
-use Rattle.fst_command.specs.Outputs.{MakesBy}
+use Rattle.fst_command.specs.Checks.{AllPass, binary_check, check_of, codex_check, coding_checks, later_checks, machine_checks}
+use Rattle.fst_command.specs.Operations.{is_coding, is_join}
+use Rattle.fst_command.specs.Outputs.{CodedBy, Makes, MakesBy}
 use Rattle.fst_command.specs.Progress.{Chosen, choices_with, renaming_in}
-use Rattle.fst_command.specs.Steps.{Decides, JoinsTo, MakesTo, Settles}
+use Rattle.fst_command.specs.Steps.{CombinesTo, Decides, DecidesOn, Declines, DecodesTo, EncodesTo, MakesTo, Settles}
 use Rattle.fst_command.proofs.Deciding.{not_both, Passes-kinds, Passes-print}
 
 -- what is decided, by the command, the options, and what the files of the options stand for
@@ -44,19 +44,47 @@ decides plan before files name content result c makes =
     rw (at_first, c.choices (content ∷ []), c.renaming (content ∷ []), c.own (content ∷ []))
     (settles_by plan.command plan.options (choices_with plan.options files.isymbols files.osymbols) (renaming_in files) name content result makes)
 
--- what a command with two machines decides of the second, by the command
-abbrev JoinSettles : Verb → Options → Choices → Renaming → List ℕ → List ℕ → List ℕ → Result (List ℕ) Refusal → Type 0
-JoinSettles verb options choices renaming first name second result = Settles (binary_check name second ∷ machine_checks verb options choices (first ∷ second ∷ [])) (MakesBy verb options choices renaming (first ∷ second ∷ [])) result
+-- what a command with several machines decides, by the command
+join_settles : (verb : Verb) (options : Options) (choices : Choices) (renaming : Renaming) (files : List (List ℕ)) (result : Result (List ℕ) Refusal) → is_join verb ≡ true → CombinesTo verb options renaming files result → Settles (machine_checks verb options choices files) (MakesBy verb options choices renaming files) result
+join_settles Union options choices renaming files result is combines = combines
+join_settles Concat options choices renaming files result is combines = combines
+join_settles _ options choices renaming files result is combines = absurd cc
 
-join_settles : (verb : Verb) (options : Options) (choices : Choices) (renaming : Renaming) (first name second : List ℕ) (result : Result (List ℕ) Refusal) → is_join verb ≡ true → JoinsTo verb options renaming first name second result → JoinSettles verb options choices renaming first name second result
-join_settles Union options choices renaming first name second result is joins = joins
-join_settles Concat options choices renaming first name second result is joins = joins
-join_settles _ options choices renaming first name second result is joins = absurd cc
+pub decides-join : (plan : Plan) (contents own : List (List ℕ)) (files : OptionFiles) (result : Result (List ℕ) Refusal) → is_join plan.command ≡ true → Chosen plan.options contents files → CombinesTo plan.command plan.options (renaming_in files) own result → Settles (later_checks plan (contents ++ own)) (Makes plan (contents ++ own)) result
+decides-join plan contents own files result is c combines =
+    rw (c.own own, c.renaming own)
+    (join_settles plan.command plan.options (choices_of plan.options (contents ++ own)) (renaming_in files) own result is combines)
 
-pub decides-join : (plan : Plan) (contents : List (List ℕ)) (files : OptionFiles) (first name second : List ℕ) (result : Result (List ℕ) Refusal) → is_join plan.command ≡ true → Chosen plan.options contents files → JoinsTo plan.command plan.options (renaming_in files) first name second result → Decides plan (contents ++ first ∷ []) (record { name = name; form = binary_form }) second result
-decides-join plan contents files first name second result is c joins =
-    let parts : (contents ++ first ∷ []) ++ second ∷ [] ≡ contents ++ first ∷ second ∷ [] = append_assoc contents (first ∷ []) (second ∷ []) in
-    let own : own_contents plan.options ((contents ++ first ∷ []) ++ second ∷ []) ≡ first ∷ second ∷ [] = ap (own_contents plan.options) parts ∙ c.own (first ∷ second ∷ []) in
-    let renaming : renaming_of plan.options ((contents ++ first ∷ []) ++ second ∷ []) ≡ renaming_in files = ap (renaming_of plan.options) parts ∙ c.renaming (first ∷ second ∷ []) in
-    rw (own, renaming)
-    (join_settles plan.command plan.options (choices_of plan.options ((contents ++ first ∷ []) ++ second ∷ [])) (renaming_in files) first name second result is joins)
+-- what `encode --decode` decides of the codex behind the machine
+coding_settles : (verb : Verb) (options : Options) (choices : Choices) (renaming : Renaming) (file name codex : List ℕ) (result : Result (List ℕ) Refusal) → is_coding verb ≡ true → options.decode ≡ true → DecodesTo file name codex result → Settles (codex_check name codex ∷ machine_checks verb options choices (file ∷ codex ∷ [])) (MakesBy verb options choices renaming (file ∷ codex ∷ [])) result
+coding_settles Encode options choices renaming file name codex result coding decode makes =
+    subst (λ (d : Bool). Settles (codex_check name codex ∷ coding_checks d (file ∷ codex ∷ [])) (CodedBy d options.encode_weights (file ∷ codex ∷ [])) result) (sym decode) makes
+coding_settles _ options choices renaming file name codex result coding decode makes = absurd cc
+
+pub decides-decoding : (plan : Plan) (contents : List (List ℕ)) (files : OptionFiles) (file name codex : List ℕ) (result : Result (List ℕ) Refusal) → is_coding plan.command ≡ true → plan.options.decode ≡ true → Chosen plan.options contents files → DecodesTo file name codex result → Decides plan (contents ++ file ∷ []) (record { name = name; form = codex_form }) codex result
+decides-decoding plan contents files file name codex result coding decode c makes =
+    let parts : (contents ++ file ∷ []) ++ codex ∷ [] ≡ contents ++ file ∷ codex ∷ [] = append_assoc contents (file ∷ []) (codex ∷ []) in
+    let own : own_contents plan.options ((contents ++ file ∷ []) ++ codex ∷ []) ≡ file ∷ codex ∷ [] = ap (own_contents plan.options) parts ∙ c.own (file ∷ codex ∷ []) in
+    rw own
+    (coding_settles plan.command plan.options (choices_of plan.options ((contents ++ file ∷ []) ++ codex ∷ [])) (renaming_of plan.options ((contents ++ file ∷ []) ++ codex ∷ [])) file name codex result coding decode makes)
+
+-- what `encode` decides of the machine
+encoding_settles : (verb : Verb) (options : Options) (choices : Choices) (renaming : Renaming) (name file : List ℕ) (made : List (List ℕ)) → is_coding verb ≡ true → options.decode ≡ false → EncodesTo options.encode_weights name file (Ok made) → AllPass (binary_check name file ∷ machine_checks verb options choices (file ∷ [])) × MakesBy verb options choices renaming (file ∷ []) made
+encoding_settles Encode options choices renaming name file made coding decode makes =
+    subst (λ (d : Bool). AllPass (binary_check name file ∷ coding_checks d (file ∷ [])) × CodedBy d options.encode_weights (file ∷ []) made) (sym decode) makes
+encoding_settles _ options choices renaming name file made coding decode makes = absurd cc
+
+encoding_declines : (verb : Verb) (options : Options) (choices : Choices) (name file : List ℕ) (refusal : Refusal) → is_coding verb ≡ true → options.decode ≡ false → EncodesTo options.encode_weights name file (Err refusal) → Declines (binary_check name file ∷ machine_checks verb options choices (file ∷ [])) refusal
+encoding_declines Encode options choices name file refusal coding decode declines =
+    subst (λ (d : Bool). Declines (binary_check name file ∷ coding_checks d (file ∷ [])) refusal) (sym decode) declines
+encoding_declines _ options choices name file refusal coding decode declines = absurd cc
+
+pub decides-encoding : (plan : Plan) (contents : List (List ℕ)) (files : OptionFiles) (name file : List ℕ) (made : List (List ℕ)) → is_coding plan.command ≡ true → plan.options.decode ≡ false → Chosen plan.options contents files → EncodesTo plan.options.encode_weights name file (Ok made) → DecidesOn plan contents (record { name = name; form = binary_form }) file made
+decides-encoding plan contents files name file made coding decode c makes =
+    rw (c.own (file ∷ []))
+    (encoding_settles plan.command plan.options (choices_of plan.options (contents ++ file ∷ [])) (renaming_of plan.options (contents ++ file ∷ [])) name file made coding decode makes)
+
+pub declines-encoding : (plan : Plan) (contents : List (List ℕ)) (files : OptionFiles) (name file : List ℕ) (refusal : Refusal) → is_coding plan.command ≡ true → plan.options.decode ≡ false → Chosen plan.options contents files → EncodesTo plan.options.encode_weights name file (Err refusal) → Decides plan contents (record { name = name; form = binary_form }) file (Err refusal)
+declines-encoding plan contents files name file refusal coding decode c declines =
+    rw (c.own (file ∷ []))
+    (encoding_declines plan.command plan.options (choices_of plan.options (contents ++ file ∷ [])) name file refusal coding decode declines)

@@ -2,25 +2,24 @@
 use Rattle.std.proofs.Common.{◌≡◌, ◌⊎◌, ℕ, ◌<◌, List, [], ◌∷◌, ◌++◌, length, Option, Some, None, IfSome, Result, Ok, Err, refl, sym, ap, ◌∙◌, subst, inl, inr, suc, arith}
 use Rattle.std.specs.Prelude.{replicate}
 use Rattle.std.proofs.lemmas.List.{length-replicate}
-use Rattle.fst_desk.specs.Seen.{Files, Seen, Rises}
-use Rattle.fst_desk.specs.Desk.{content_of, ToldHolds}
+use Rattle.fst_desk.specs.Seen.{Files, Seen}
+use Rattle.fst_desk.specs.Desk.{content_of}
 use Rattle.fst_words.specs.declared.plan.Plan.{Plan}
-use Rattle.fst_words.specs.Plans.{outputs_of}
 use Rattle.fst_command.specs.declared.refusal.Refusal.{Refusal}
 use Rattle.fst_command.specs.Plans.{Input, inputs_of}
-use Rattle.fst_command.specs.Causes.{Cause, too_long, bad_symbols, bad_pairs, bad_text, bad_binary, kinds_differ, too_large, unprintable, done, refused, no_memory, unread, unwritten}
+use Rattle.fst_command.specs.Causes.{Cause, bad_codex, undecodable, too_long, bad_symbols, bad_pairs, bad_text, bad_binary, kinds_differ, too_large, unprintable, refused, no_memory, unread}
 use Rattle.fst_command.specs.Checks.{Check, Passes, AllPass, IsFirst, form_check, input_checks, later_checks, length_check, read_limit}
-use Rattle.fst_command.specs.Outputs.{Makes, AreNamed}
-use Rattle.fst_command.specs.Outcome.{Agrees, Leaves, Prescribes, TakesMore}
+use Rattle.fst_command.specs.Outputs.{Makes}
+use Rattle.fst_command.specs.Outcome.{Agrees, TakesMore}
 use Rattle.fst_command.specs.Told.{Tells}
-use Rattle.fst_command.specs.Steps.{NotRead, ReadsTooLong, Reads, NotWritten, WriteAnswer, WritesOutput, Declines, Decides, IsOfForm, Works}
+use Rattle.fst_command.specs.Steps.{DecidesOn, Settles, NotRead, ReadsTooLong, Reads, Declines, Decides, IsOfForm, Works}
 use Rattle.fst_command.specs.Progress.{Progress, IsReady, Prepares}
-use Rattle.fst_command.proofs.Checking.{Agrees-append, AllPass-append, IsFirst-front, checks_from, contents_of, first_at, input_checks-append}
+use Rattle.fst_command.proofs.Checking.{Agrees-append, AllPass-append, IsFirst-behind, IsFirst-front, checks_from, contents_of, first_at, input_checks-append}
 use Rattle.fst_command.proofs.Deciding.{Passes-length}
 
 -- nothing is read
 pub Progress-none : (plan : Plan) (old : Seen) → Progress plan [] [] old old
-Progress-none plan old = record { agrees = tt; passes = tt; told = refl; write_faults = refl; missed = refl; showing = refl }
+Progress-none plan old = record { agrees = tt; passes = tt; told = refl; write_faults = refl; missed = refl; starved = refl; showing = refl }
 
 -- one input more is read
 pub Progress-more : (plan : Plan) (front : List Input) (contents : List (List ℕ)) (old mid new : Seen) (i : Input) (content : List ℕ) → Progress plan front contents old mid → Reads i.name mid new (Ok content) → Passes (form_check plan contents i content) → Progress plan (front ++ i ∷ []) (contents ++ content ∷ []) old new
@@ -31,6 +30,7 @@ Progress-more plan front contents old mid new i content p r form = record {
   told = r.told ∙ p.told;
   write_faults = r.write_faults ∙ p.write_faults;
   missed = r.answer.missed ∙ p.missed;
+  starved = r.starved ∙ p.starved;
   showing = r.showing ∙ p.showing;
 }
 
@@ -95,8 +95,10 @@ takes_nothing (bad_symbols name fault) taken h = tt
 takes_nothing (bad_pairs name fault) taken h = tt
 takes_nothing (bad_text name fault) taken h = tt
 takes_nothing (bad_binary name fault) taken h = tt
+takes_nothing (bad_codex name fault) taken h = tt
 takes_nothing (kinds_differ first other) taken h = tt
 takes_nothing (too_large fault) taken h = tt
+takes_nothing (undecodable fault) taken h = tt
 takes_nothing (unprintable fault) taken h = tt
 
 -- an input was read, and the first cause is found from it on
@@ -127,13 +129,13 @@ Works-declined plan front after contents old mid new i content refusal one p r (
     works-refused plan front after contents rest.0 old mid new i content cause refusal one p r rest.1 (IsFirst-front (form_check plan contents i content ∷ []) more cause first) form tells
 
 -- the last input was read, and the command refuses
-Works-refused : (plan : Plan) (front : List Input) (contents : List (List ℕ)) (old mid new : Seen) (i : Input) (content : List ℕ) (refusal : Refusal) → inputs_of plan ≡ front ++ i ∷ [] → Progress plan front contents old mid → Reads i.name mid new (Ok content) → Decides plan contents i content (Err refusal) → Works (Some plan) old new (Err refusal)
+pub Works-refused : (plan : Plan) (front : List Input) (contents : List (List ℕ)) (old mid new : Seen) (i : Input) (content : List ℕ) (refusal : Refusal) → inputs_of plan ≡ front ++ i ∷ [] → Progress plan front contents old mid → Reads i.name mid new (Ok content) → Decides plan contents i content (Err refusal) → Works (Some plan) old new (Err refusal)
 Works-refused plan front contents old mid new i content refusal one p r (inl tells) = record { answer = no_memory; ends = tells; answers = inl (r.told ∙ p.told); showing = r.showing ∙ p.showing }
 Works-refused plan front contents old mid new i content refusal one p r (inr (cause, first, form, tells)) = works-refused plan front [] contents [] old mid new i content cause refusal one p r tt first form tells
 
--- the last input was read, and the command decided on an output
-ready : (plan : Plan) (front : List Input) (contents : List (List ℕ)) (old mid new : Seen) (i : Input) (content bytes : List ℕ) → inputs_of plan ≡ front ++ i ∷ [] → Progress plan front contents old mid → Reads i.name mid new (Ok content) → Decides plan contents i content (Ok bytes) → IsReady plan bytes old new
-ready plan front contents old mid new i content bytes one p r decides = record {
+-- the last input was read, and the command decided on its outputs
+pub ready : (plan : Plan) (front : List Input) (contents made : List (List ℕ)) (old mid new : Seen) (i : Input) (content : List ℕ) → inputs_of plan ≡ front ++ i ∷ [] → Progress plan front contents old mid → Reads i.name mid new (Ok content) → DecidesOn plan contents i content made → IsReady plan made old new
+ready plan front contents made old mid new i content one p r decides = record {
   contents = contents ++ content ∷ [];
   progress = subst (λ (is : List Input). Progress plan is (contents ++ content ∷ []) old new) (sym one) (Progress-more plan front contents old mid new i content p r decides.0.0);
   passes = decides.0.1;
@@ -142,39 +144,20 @@ ready plan front contents old mid new i content bytes one p r decides = record {
 
 -- the last input was read, and the command decided
 pub prepares : (plan : Plan) (front : List Input) (contents : List (List ℕ)) (old mid new : Seen) (i : Input) (content : List ℕ) (result : Result (List ℕ) Refusal) → inputs_of plan ≡ front ++ i ∷ [] → Progress plan front contents old mid → Reads i.name mid new (Ok content) → Decides plan contents i content result → Prepares plan old new result
-prepares plan front contents old mid new i content (Ok bytes) one p r decides = ready plan front contents old mid new i content bytes one p r decides
+prepares plan front contents old mid new i content (Ok bytes) one p r decides = ready plan front contents (bytes ∷ []) old mid new i content one p r decides
 prepares plan front contents old mid new i content (Err refusal) one p r decides = Works-refused plan front contents old mid new i content refusal one p r decides
 
--- the bytes of the output are there, and were handed to the desk
-pub Works-written : (plan : Plan) (out bytes : List ℕ) (old read new : Seen) (result : Result (Unit {0}) Refusal) → outputs_of plan ≡ out ∷ [] → IsReady plan bytes old read → WritesOutput out bytes read new result → Works (Some plan) old new result
-Works-written plan out bytes old read new result single is w = go result w.answer where
-  showing : new.showing ≡ old.showing
-  showing = w.showing ∙ is.progress.showing
-
-  prescribes : (bs : List ℕ) → bytes ≡ bs → Prescribes plan old.filed.told ((out, bs) ∷ [])
-  prescribes bs e = record {
-    contents = is.contents;
-    agrees = is.progress.agrees;
-    passes = AllPass-append (input_checks plan [] (inputs_of plan) is.contents) (later_checks plan is.contents) is.progress.passes is.passes;
-    writes = record {
-      made = bs ∷ [];
-      makes = subst (λ (b : List ℕ). Makes plan is.contents (b ∷ [])) e is.makes;
-      named = subst (λ (names : List (List ℕ)). AreNamed names (bs ∷ []) ((out, bs) ∷ [])) (sym single) ([], refl, refl);
-    };
-  }
-
-  holds : (bs : List ℕ) → ToldHolds out bs read.filed.told new.filed.told → Leaves ((out, bs) ∷ []) old.filed.told new.filed.told
-  holds bs h = (new.filed.told, subst (λ (t : Option Files). ToldHolds out bs t new.filed.told) is.progress.told h, refl)
-
-  failed : (refusal : Refusal) → NotWritten out bytes read.filed new.filed refusal → Works (Some plan) old new (Err refusal)
-  failed refusal n = record {
-    answer = unwritten out;
-    ends = n.tells;
-    answers = record { rises = subst (λ (k : ℕ). Rises k new.filed.write_faults) is.progress.write_faults n.rises; before = []; front = n.front; rest = n.rest; after = []; prescribes = prescribes (n.front ++ n.rest) n.splits; leaves = holds n.front n.told };
-    showing = showing;
-  }
-
-  go : (result : Result (Unit {0}) Refusal) → WriteAnswer out bytes read.filed new.filed result → Works (Some plan) old new result
-  go (Ok u) h = record { answer = done; ends = refl; answers = ((out, bytes) ∷ [], prescribes bytes refl, holds bytes h); showing = showing }
-  go (Err refusal) (inl n) = record { answer = no_memory; ends = n.tells; answers = inl (n.told ∙ is.progress.told); showing = showing }
-  go (Err refusal) (inr n) = failed refusal n
+-- all inputs were read, and the command decided
+pub prepares-all : (plan : Plan) (contents : List (List ℕ)) (old now : Seen) (result : Result (List ℕ) Refusal) → Progress plan (inputs_of plan) contents old now → Settles (later_checks plan contents) (Makes plan contents) result → Prepares plan old now result
+prepares-all plan contents old now (Ok bytes) p settles = record { contents = contents; progress = p; passes = settles.0; makes = settles.1 }
+prepares-all plan contents old now (Err refusal) p (inl tells) = record { answer = no_memory; ends = tells; answers = inl p.told; showing = p.showing }
+prepares-all plan contents old now (Err refusal) p (inr (cause, first, form, tells)) = record {
+  answer = refused cause;
+  ends = tells;
+  answers = (
+    record { contents = contents; agrees = p.agrees; first = IsFirst-behind (input_checks plan [] (inputs_of plan) contents) (later_checks plan contents) cause p.passes first },
+    takes_nothing cause now.filed.taken form,
+    p.told,
+  );
+  showing = p.showing;
+}

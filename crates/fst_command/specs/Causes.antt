@@ -17,6 +17,11 @@ use Rattle.fst_binary.specs.declared.fault.BinaryFault.{BinaryFault}
 use Rattle.fst_binary.specs.declared.fault.BinaryKind.{BinaryKind}
 use Rattle.fst_binary.specs.declared.fault.BinaryKind.TheVariants as binary
 use Rattle.fst_binary.specs.Spelling.{name_of}
+use Rattle.fst_codex.specs.declared.fault.CodexFault.{CodexFault}
+use Rattle.fst_codex.specs.declared.fault.CodexKind.{CodexKind}
+use Rattle.fst_codex.specs.declared.fault.CodexKind.TheVariants as codexes
+use Rattle.fst_codex.specs.declared.decoding.DecodeFault.{DecodeFault}
+use Rattle.fst_codex.specs.declared.decoding.DecodeFault.TheVariants as decoding
 
 -- the causes of a refusal that words and contents decide, with the name of the input where it is its own
 pub data Cause : Type 0 where
@@ -30,10 +35,14 @@ pub data Cause : Type 0 where
   bad_text : List ℕ → TextFault → Cause
   -- the content is no binary form of a machine
   bad_binary : List ℕ → BinaryFault → Cause
-  -- a machine has another arc type than the first one
+  -- the content is no codex
+  bad_codex : List ℕ → CodexFault → Cause
+  -- a machine or a codex has another arc type than the first machine
   kinds_differ : ArcType → ArcType → Cause
   -- the machine that the command makes has too many states or arcs
   too_large : RationalFault → Cause
+  -- the machine is not decoded by the codex
+  undecodable : DecodeFault → Cause
   -- the machine has no text form with these options
   unprintable : PrintFault → Cause
 
@@ -129,6 +138,18 @@ binary_reason binary.BadNext = codes "bad next state"
 binary_reason binary.Extra = codes "extra bytes"
 binary_reason binary.Memory = codes "out of memory"
 
+-- what is wrong with a field of a codex
+abbrev pub codex_reason : CodexKind → List ℕ
+codex_reason codexes.Short = codes "too short"
+codex_reason codexes.BadMagic = codes "bad magic number"
+codex_reason codexes.UnknownArcType = codes "unknown arc type"
+codex_reason codexes.BadFlags = codes "bad flags"
+codex_reason codexes.BadCount = codes "bad count"
+codex_reason codexes.BadLabel = codes "bad label"
+codex_reason codexes.BadWeight = codes "bad weight"
+codex_reason codexes.Extra = codes "extra bytes"
+codex_reason codexes.Memory = codes "out of memory"
+
 -- the line of a fault at a place of an input
 abbrev pub placed_line : List ℕ → List ℕ → ℕ → List ℕ → List ℕ
 placed_line name unit place reason = concat (codes "fst: " ∷ name ∷ codes ": " ∷ unit ∷ codes " " ∷ decimal place ∷ codes ": " ∷ reason ∷ codes "\n" ∷ [])
@@ -140,6 +161,21 @@ two_labels_line state place = concat (codes "fst: not an acceptor at state " ∷
 -- the line of a label without a name
 abbrev pub no_symbol_line : ℕ → List ℕ
 no_symbol_line label = concat (codes "fst: no symbol for label " ∷ decimal label ∷ codes "\n" ∷ [])
+
+-- the line of a label that a codex has no entry for
+abbrev pub no_entry_line : ℕ → List ℕ
+no_entry_line label = concat (codes "fst: label " ∷ decimal label ∷ codes " is not in the codex\n" ∷ [])
+
+-- the line of a number past the range
+abbrev pub overflow_line : ℕ → List ℕ
+overflow_line state = concat (codes "fst: number too large at state " ∷ decimal state ∷ codes "\n" ∷ [])
+
+-- the line of a machine that is not decoded
+abbrev pub decode_line : DecodeFault → List ℕ
+decode_line (decoding.NotAcceptor state place) = two_labels_line state place
+decode_line (decoding.NotInCodex label) = no_entry_line label
+decode_line (decoding.Overflow state) = overflow_line state
+decode_line decoding.Memory = codes "fst: out of memory\n"
 
 -- the line of machines of two arc types
 abbrev pub kinds_line : ArcType → ArcType → List ℕ
@@ -164,8 +200,10 @@ cause_line (bad_symbols name fault) = placed_line name (codes "line") (symbols_l
 cause_line (bad_pairs name fault) = placed_line name (codes "line") (pairs_line_at fault) (pairs_reason fault)
 cause_line (bad_text name fault) = placed_line name (codes "line") (line_at fault) (text_reason fault)
 cause_line (bad_binary name fault) = placed_line name (codes "byte") fault.offset (binary_reason fault.kind)
+cause_line (bad_codex name fault) = placed_line name (codes "byte") fault.offset (codex_reason fault.kind)
 cause_line (kinds_differ first other) = kinds_line first other
 cause_line (too_large fault) = size_line fault
+cause_line (undecodable fault) = decode_line fault
 cause_line (unprintable fault) = print_line fault
 
 -- the line that a run shows, if it shows one

@@ -1,11 +1,15 @@
 -- What is asked of the inputs of a command, in which order, and what each question finds.
-use Rattle.std.specs.Prelude.{◌≡◌, ◌⊎◌, ℕ, ◌<◌, ◌≤◌, List, [], ◌∷◌, ◌++◌, length, Some, Ok, Err}
+use Rattle.std.specs.Prelude.{◌≡◌, ◌⊎◌, Bool, true, ℕ, ◌<◌, ◌≤◌, List, [], ◌∷◌, ◌++◌, length, Some, Ok, Err}
 use Rattle.fst_semiring.specs.declared.arc_type.ArcType.{ArcType}
 use Rattle.fst_semiring.specs.Cost.{Cost}
 use Rattle.fst_machine.specs.Machine.{Machine, arc_total, most_arcs, most_states}
 use Rattle.fst_rational.specs.declared.fault.RationalFault.{RationalFault}
 use Rattle.fst_rational.specs.declared.fault.RationalFault.TheVariants.{TooManyStates, TooManyArcs, Memory}
 use Rattle.fst_rational.specs.Pairs.{pairs_of_text}
+use Rattle.fst_codex.specs.Decoded.{Decodes}
+use Rattle.fst_codex.specs.Table.{Table}
+use Rattle.fst_codex.specs.declared.decoding.DecodeFault.{DecodeFault}
+use Rattle.fst_codex.specs.declared.decoding.DecodeFault.TheVariants as decoding
 use Rattle.fst_text.specs.declared.fault.PrintFault.{PrintFault}
 use Rattle.fst_text.specs.Grammar.{machine_of_text}
 use Rattle.fst_text.specs.Printed.{text_of_machine}
@@ -13,10 +17,10 @@ use Rattle.fst_symbols.specs.Reading.{table_of_text}
 use Rattle.fst_words.specs.declared.options.Options.{Options}
 use Rattle.fst_words.specs.declared.plan.Plan.{Plan}
 use Rattle.fst_words.specs.declared.verb.Verb.{Verb}
-use Rattle.fst_words.specs.declared.verb.Verb.TheVariants.{Print, Info, Invert, Reverse, Connect, Union, Concat, Closure, Project, Relabel, Arcsort}
-use Rattle.fst_command.specs.Plans.{Form, symbols_form, pairs_form, text_form, binary_form, Input, inputs_of, arc_type_of}
-use Rattle.fst_command.specs.Contents.{Choices, Typed, AreMachines, machine_of_file, choices_of, own_contents}
-use Rattle.fst_command.specs.Causes.{Cause, too_long, bad_symbols, bad_pairs, bad_text, bad_binary, kinds_differ, too_large, unprintable}
+use Rattle.fst_words.specs.declared.verb.Verb.TheVariants.{Print, Info, Invert, Reverse, Connect, Union, Concat, Closure, Project, Relabel, Arcsort, Encode}
+use Rattle.fst_command.specs.Plans.{Form, codex_form, symbols_form, pairs_form, text_form, binary_form, Input, inputs_of, arc_type_of}
+use Rattle.fst_command.specs.Contents.{TypedCodex, codex_of_file, Choices, Typed, AreMachines, machine_of_file, choices_of, own_contents}
+use Rattle.fst_command.specs.Causes.{Cause, bad_codex, undecodable, too_long, bad_symbols, bad_pairs, bad_text, bad_binary, kinds_differ, too_large, unprintable}
 use Rattle.fst_command.specs.Operations.{grown}
 
 -- the most bytes that are read of an input: the largest machine of every arc type fits
@@ -35,10 +39,16 @@ pub data Check : Type 0 where
   text_check : ArcType → Choices → List ℕ → List ℕ → Check
   -- is it the binary form of a machine
   binary_check : List ℕ → List ℕ → Check
+  -- is it a codex
+  codex_check : List ℕ → List ℕ → Check
   -- have the machines of the files one arc type
   kinds_check : List (List ℕ) → Check
   -- is the machine that the command makes of the files small enough
   size_check : Verb → Options → List (List ℕ) → Check
+  -- has the codex of the second file the arc type of the machine of the first
+  codex_kind_check : List ℕ → List ℕ → Check
+  -- is the machine of the first file decoded by the codex of the second
+  decode_check : List ℕ → List ℕ → Check
   -- has the machine of the file a text form, printed so
   print_check : Choices → List ℕ → Check
 
@@ -82,6 +92,27 @@ pub record IsTooLarge (verb : Verb) (options : Options) (files : List (List ℕ)
   pub past : IsPast made fault
   pub is : cause ≡ too_large fault
 
+-- the codex of a file has another arc type than the machine of a file
+pub record CodexDiffers (file codex : List ℕ) (cause : Cause) : Type 0 where
+  pub machine : Typed
+  pub found : TypedCodex
+  pub reads : machine_of_file file ≡ Ok machine
+  pub codex_reads : codex_of_file codex ≡ Ok found
+  pub differs : machine.kind ≡ found.kind → ⊥
+  pub is : cause ≡ kinds_differ machine.kind found.kind
+
+-- decoding the machine of a file by the codex of a file has this fault
+pub record IsUndecodable (file codex : List ℕ) (cause : Cause) : Type 0 where
+  pub kind : ArcType
+  pub machine : Machine Cost
+  pub table : Table Cost
+  pub fault : DecodeFault
+  pub reads : machine_of_file file ≡ Ok (record { kind = kind; machine = machine })
+  pub codex_reads : codex_of_file codex ≡ Ok (record { kind = kind; table = table })
+  pub decodes : Decodes kind (λ w. w) machine table (Err fault)
+  pub told : fault ≡ decoding.Memory → ⊥
+  pub is : cause ≡ undecodable fault
+
 -- the machine of the file has no text form
 pub record IsUnprintable (choices : Choices) (file : List ℕ) (cause : Cause) : Type 0 where
   pub machine : Typed
@@ -97,8 +128,11 @@ Finds (symbols_check name content) cause = (fault : _) × (table_of_text content
 Finds (pairs_check name content) cause = (fault : _) × (pairs_of_text content ≡ Err fault) × (cause ≡ bad_pairs name fault)
 Finds (text_check kind choices name content) cause = (fault : _) × (machine_of_text kind choices content ≡ Err fault) × (cause ≡ bad_text name fault)
 Finds (binary_check name content) cause = (fault : _) × (machine_of_file content ≡ Err fault) × (cause ≡ bad_binary name fault)
+Finds (codex_check name content) cause = (fault : _) × (codex_of_file content ≡ Err fault) × (cause ≡ bad_codex name fault)
 Finds (kinds_check files) cause = KindsDiffer files cause
 Finds (size_check verb options files) cause = IsTooLarge verb options files cause
+Finds (codex_kind_check file codex) cause = CodexDiffers file codex cause
+Finds (decode_check file codex) cause = IsUndecodable file codex cause
 Finds (print_check choices file) cause = IsUnprintable choices file cause
 
 -- the question finds none
@@ -119,6 +153,7 @@ abbrev pub check_of : Form → Options → Choices → List ℕ → List ℕ →
 check_of symbols_form options choices name content = symbols_check name content
 check_of pairs_form options choices name content = pairs_check name content
 check_of text_form options choices name content = text_check (arc_type_of options) choices name content
+check_of codex_form options choices name content = codex_check name content
 check_of binary_form options choices name content = binary_check name content
 
 abbrev pub form_check : Plan → List (List ℕ) → Input → List ℕ → Check
@@ -134,6 +169,11 @@ input_checks plan before (i ∷ is) (c ∷ cs) = length_check i.name c ∷ form_
 abbrev pub operation_checks : Verb → Options → List (List ℕ) → List Check
 operation_checks verb options files = kinds_check files ∷ size_check verb options files ∷ []
 
+-- what is asked of the files of `encode`, and of `encode --decode`
+abbrev pub coding_checks : Bool → List (List ℕ) → List Check
+coding_checks true (file ∷ codex ∷ []) = codex_kind_check file codex ∷ decode_check file codex ∷ []
+coding_checks _ files = kinds_check files ∷ []
+
 -- what is asked of the machines of the files before the work on them
 abbrev pub machine_checks : Verb → Options → Choices → List (List ℕ) → List Check
 machine_checks Print options choices (file ∷ files) = kinds_check (file ∷ files) ∷ print_check choices file ∷ []
@@ -147,6 +187,7 @@ machine_checks Closure options choices files = operation_checks Closure options 
 machine_checks Project options choices files = operation_checks Project options files
 machine_checks Relabel options choices files = operation_checks Relabel options files
 machine_checks Arcsort options choices files = operation_checks Arcsort options files
+machine_checks Encode options choices files = coding_checks options.decode files
 machine_checks _ options choices files = []
 
 -- what is asked behind the inputs

@@ -11,6 +11,9 @@ use Rattle.fst_rational.specs.Pairs.{pairs_of_text}
 use Rattle.fst_text.specs.Options as text
 use Rattle.fst_binary.specs.Reading.{arc_type_of_bytes, machine_of_bytes}
 use Rattle.fst_binary.specs.declared.fault.BinaryFault.{BinaryFault}
+use Rattle.fst_codex.specs.Reading.{codex_arc_type_of_bytes, codex_of_bytes}
+use Rattle.fst_codex.specs.Table.{Table}
+use Rattle.fst_codex.specs.declared.fault.CodexFault.{CodexFault}
 use Rattle.fst_words.specs.declared.options.Options.{Options}
 
 -- how texts are read and printed
@@ -96,3 +99,22 @@ AreMachines kind [] [] = Unit {0}
 AreMachines kind [] (m ∷ machines) = ⊥
 AreMachines kind (file ∷ files) [] = ⊥
 AreMachines kind (file ∷ files) (m ∷ machines) = (machine_of_file file ≡ Ok (record { kind = kind; machine = m })) × AreMachines kind files machines
+
+-- a codex with its arc type
+pub record TypedCodex : Type 0 where
+  pub kind : ArcType
+  pub table : Table Cost
+
+-- the codex of a kind, as read
+abbrev pub typed_codex : ArcType → Result (Table Cost) CodexFault → Result TypedCodex CodexFault
+typed_codex kind (Ok t) = Ok (record { kind = kind; table = t })
+typed_codex kind (Err fault) = Err fault
+
+-- the codex that a file names the kind of
+abbrev pub codex_by : List ℕ → Result ArcType CodexFault → Result TypedCodex CodexFault
+codex_by bytes (Ok kind) = typed_codex kind (codex_of_bytes kind bytes)
+codex_by bytes (Err fault) = Err fault
+
+-- the codex of a file, or the first fault of its form
+abbrev pub codex_of_file : List ℕ → Result TypedCodex CodexFault
+codex_of_file bytes = codex_by bytes (codex_arc_type_of_bytes bytes)

@@ -11,3 +11,5 @@ pub mod Outcome
 pub mod Told
 pub mod Steps
 pub mod Progress
+pub mod Several
+pub mod Coding

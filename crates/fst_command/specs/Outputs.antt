@@ -1,5 +1,5 @@
 -- What each command is to write, given the contents of its inputs.
-use Rattle.std.specs.Prelude.{◌≡◌, ℕ, List, [], ◌∷◌, Ok}
+use Rattle.std.specs.Prelude.{◌≡◌, ℕ, Bool, true, false, List, [], ◌∷◌, Result, Ok}
 use Rattle.fst_semiring.specs.declared.arc_type.ArcType.{ArcType}
 use Rattle.fst_semiring.specs.Cost.{Cost}
 use Rattle.fst_machine.specs.Machine.{Machine}
@@ -8,14 +8,19 @@ use Rattle.fst_trim.specs.declared.summary.Info.{Info as Summary}
 use Rattle.fst_text.specs.Grammar.{machine_of_text}
 use Rattle.fst_text.specs.Printed.{text_of_machine}
 use Rattle.fst_binary.specs.Spelling.{spelling}
+use Rattle.fst_codex.specs.Decoded.{Decodes, GivesBack}
+use Rattle.fst_codex.specs.Encoded.{IsEncoded}
+use Rattle.fst_codex.specs.Spelling.{codex_spelling}
+use Rattle.fst_codex.specs.Table.{Table}
+use Rattle.fst_codex.specs.declared.decoding.DecodeFault.{DecodeFault}
 use Rattle.fst_words.specs.declared.options.Options.{Options}
 use Rattle.fst_words.specs.declared.plan.Plan.{Plan}
-use Rattle.fst_words.specs.declared.verb.Verb.TheVariants.{Compile, Print, Info, Invert, Reverse, Connect, Union, Concat, Closure, Project, Relabel, Arcsort}
+use Rattle.fst_words.specs.declared.verb.Verb.TheVariants.{Compile, Print, Info, Invert, Reverse, Connect, Union, Concat, Closure, Project, Relabel, Arcsort, Encode}
 use Rattle.fst_words.specs.declared.verb.Verb.{Verb}
 use Rattle.fst_words.specs.Plans.{outputs_of}
 use Rattle.fst_command.specs.Plans.{arc_type_of}
 use Rattle.fst_command.specs.Operations.{Denotes, Operates}
-use Rattle.fst_command.specs.Contents.{Choices, Renaming, Typed, AreMachines, machine_of_file, choices_of, own_contents, renaming_of}
+use Rattle.fst_command.specs.Contents.{codex_of_file, Choices, Renaming, Typed, AreMachines, machine_of_file, choices_of, own_contents, renaming_of}
 use Rattle.fst_command.specs.Descriptions.{info_text}
 
 -- an output: its name and its bytes
@@ -60,6 +65,37 @@ pub record Operated (verb : Verb) (options : Options) (renaming : Renaming) (con
   pub denotes : Denotes verb options renaming kind machines result
   pub makes : made ≡ spelling kind result ∷ []
 
+-- `encode` makes the codex, and the binary form of the machine that it stands for, which decodes to the machine
+-- of the file again
+pub record Encoded (weights : Bool) (contents made : List (List ℕ)) : Type 0 where
+  pub file : List ℕ
+  pub machine : Typed
+  pub result : Machine Cost
+  pub table : Table Cost
+  pub read : contents ≡ file ∷ []
+  pub reads : machine_of_file file ≡ Ok machine
+  pub encodes : IsEncoded machine.kind weights machine.machine result table
+  pub again : (back : Result (Machine Cost) DecodeFault) → Decodes machine.kind (λ w. w) result table back → GivesBack machine.machine back
+  pub makes : made ≡ codex_spelling machine.kind table ∷ spelling machine.kind result ∷ []
+
+-- `encode --decode` makes the binary form of the machine that the machine and the codex stand for
+pub record Decoded (contents made : List (List ℕ)) : Type 0 where
+  pub file : List ℕ
+  pub codex : List ℕ
+  pub machine : Typed
+  pub table : Table Cost
+  pub result : Machine Cost
+  pub read : contents ≡ file ∷ codex ∷ []
+  pub reads : machine_of_file file ≡ Ok machine
+  pub codex_reads : codex_of_file codex ≡ Ok (record { kind = machine.kind; table = table })
+  pub decodes : Decodes machine.kind (λ w. w) machine.machine table (Ok result)
+  pub makes : made ≡ spelling machine.kind result ∷ []
+
+-- with the flag for decoding, and without it
+abbrev pub CodedBy : Bool → Bool → List (List ℕ) → List (List ℕ) → Type 0
+CodedBy true weights contents made = Decoded contents made
+CodedBy false weights contents made = Encoded weights contents made
+
 -- what a command makes of the contents of its own inputs, for each of its outputs
 abbrev pub MakesBy : Verb → Options → Choices → Renaming → List (List ℕ) → List (List ℕ) → Type 0
 MakesBy Compile options choices renaming contents made = Compiled options choices contents made
@@ -74,6 +110,7 @@ MakesBy Closure options choices renaming contents made = Operated Closure option
 MakesBy Project options choices renaming contents made = Operated Project options renaming contents made
 MakesBy Relabel options choices renaming contents made = Operated Relabel options renaming contents made
 MakesBy Arcsort options choices renaming contents made = Operated Arcsort options renaming contents made
+MakesBy Encode options choices renaming contents made = CodedBy options.decode options.encode_weights contents made
 MakesBy _ options choices renaming contents made = ⊥
 
 abbrev pub Makes : Plan → List (List ℕ) → List (List ℕ) → Type 0

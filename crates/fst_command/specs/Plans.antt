@@ -1,9 +1,9 @@
 -- What is asked of the words of a command line that names a command of this program.
-use Rattle.std.specs.Prelude.{ℕ, Bool, true, false, List, ◌++◌, map, Option, Some, None, option_and_then, option_to_list, unwrap_or, if◌then◌else◌}
+use Rattle.std.specs.Prelude.{◌∷◌, ℕ, Bool, true, false, List, ◌++◌, map, Option, Some, None, option_and_then, option_to_list, unwrap_or, if◌then◌else◌}
 use Rattle.fst_semiring.specs.declared.arc_type.ArcType.{ArcType}
 use Rattle.fst_semiring.specs.declared.arc_type.ArcType.TheVariants.{Tropical}
 use Rattle.fst_words.specs.declared.verb.Verb.{Verb}
-use Rattle.fst_words.specs.declared.verb.Verb.TheVariants.{Compile, Print, Info, Invert, Reverse, Connect, Union, Concat, Closure, Project, Relabel, Arcsort}
+use Rattle.fst_words.specs.declared.verb.Verb.TheVariants.{Compile, Print, Info, Invert, Reverse, Connect, Union, Concat, Closure, Project, Relabel, Arcsort, Encode}
 use Rattle.fst_words.specs.declared.options.Options.{Options}
 use Rattle.fst_words.specs.declared.plan.Plan.{Plan}
 use Rattle.fst_words.specs.Plans.{input_files}
@@ -23,7 +23,22 @@ is_built Closure = true
 is_built Project = true
 is_built Relabel = true
 is_built Arcsort = true
+is_built Encode = true
 is_built _ = false
+
+-- those with one input of their own and one output
+abbrev pub is_single : Verb → Bool
+is_single Compile = true
+is_single Print = true
+is_single Info = true
+is_single Invert = true
+is_single Reverse = true
+is_single Connect = true
+is_single Closure = true
+is_single Project = true
+is_single Relabel = true
+is_single Arcsort = true
+is_single _ = false
 
 -- the plan, where its command is built
 abbrev pub built_plan : Plan → Option Plan
@@ -43,6 +58,8 @@ pub data Form : Type 0 where
   text_form : Form
   -- a machine in the binary form
   binary_form : Form
+  -- a codex
+  codex_form : Form
 
 -- an input of a command
 pub record Input : Type 0 where
@@ -58,9 +75,14 @@ abbrev pub own_form : Verb → Form
 own_form Compile = text_form
 own_form _ = binary_form
 
+-- the inputs of these names: the second of `encode --decode` is a codex
+abbrev pub inputs_for : Verb → List (List ℕ) → List Input
+inputs_for Encode (machine ∷ codexes) = record { name = machine; form = binary_form } ∷ inputs_with codex_form codexes
+inputs_for verb names = inputs_with (own_form verb) names
+
 -- the inputs that the words name behind the command
 abbrev pub own_inputs : Plan → List Input
-own_inputs plan = inputs_with (own_form plan.command) (input_files plan)
+own_inputs plan = inputs_for plan.command (input_files plan)
 
 -- the file of an option, where the option stands
 abbrev pub option_input : Form → Option (List ℕ) → List Input

@@ -21,6 +21,7 @@ pub record Progress (plan : Plan) (front : List Input) (contents : List (List �
   pub told : now.filed.told ≡ old.filed.told
   pub write_faults : now.filed.write_faults ≡ old.filed.write_faults
   pub missed : now.filed.missed ≡ old.filed.missed
+  pub starved : now.filed.starved ≡ old.filed.starved
   pub showing : now.showing ≡ old.showing
 
 -- how texts are read and printed, by the options and these tables
@@ -54,18 +55,27 @@ abbrev pub ReadsOptions : Plan → Seen → Seen → Result OptionFiles Refusal 
 ReadsOptions plan old new (Ok files) = OptionsRead plan files old new
 ReadsOptions plan old new (Err refusal) = Works (Some plan) old new (Err refusal)
 
--- all inputs are read, no question finds a cause, and these are the bytes of the one output
-pub record IsReady (plan : Plan) (bytes : List ℕ) (old now : Seen) : Type 0 where
+-- all inputs are read, no question finds a cause, and these are the bytes of the outputs
+pub record IsReady (plan : Plan) (made : List (List ℕ)) (old now : Seen) : Type 0 where
   pub contents : List (List ℕ)
   pub progress : Progress plan (inputs_of plan) contents old now
   pub passes : AllPass (later_checks plan contents)
-  pub makes : Makes plan contents (bytes ∷ [])
+  pub makes : Makes plan contents made
 
--- preparing the output, or how the command ended
+-- preparing the one output, or how the command ended
 abbrev pub Prepares : Plan → Seen → Seen → Result (List ℕ) Refusal → Type 0
-Prepares plan old new (Ok bytes) = IsReady plan bytes old new
+Prepares plan old new (Ok bytes) = IsReady plan (bytes ∷ []) old new
 Prepares plan old new (Err refusal) = Works (Some plan) old new (Err refusal)
 
 -- preparing the output where the files of the options were read before
 abbrev pub PreparesBehind : Plan → OptionFiles → Seen → Seen → Result (List ℕ) Refusal → Type 0
 PreparesBehind plan files mid new result = (old : Seen) → OptionsRead plan files old mid → Prepares plan old new result
+
+-- preparing two outputs where the files of the options were read before
+abbrev pub PreparesBoth : Plan → OptionFiles → Seen → Seen → Result (List (List ℕ)) Refusal → Type 0
+PreparesBoth plan files mid new (Ok made) = (old : Seen) → OptionsRead plan files old mid → IsReady plan made old new
+PreparesBoth plan files mid new (Err refusal) = (old : Seen) → OptionsRead plan files old mid → Works (Some plan) old new (Err refusal)
+
+-- ending a command where the files of the options were read before
+abbrev pub WorksBehind : Plan → OptionFiles → Seen → Seen → Result Unit Refusal → Type 0
+WorksBehind plan files mid new result = (old : Seen) → OptionsRead plan files old mid → Works (Some plan) old new result

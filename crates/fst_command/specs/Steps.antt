@@ -1,5 +1,5 @@
 -- What the steps of a command promise: reading an input, writing an output, and the whole command.
-use Rattle.std.specs.Prelude.{◌≡◌, ◌⊎◌, ℕ, ◌<◌, ◌≤◌, List, [], ◌∷◌, ◌++◌, length, Option, Some, None, IfSome, Result, Ok, Err}
+use Rattle.std.specs.Prelude.{◌≡◌, Bool, ◌⊎◌, ℕ, ◌<◌, ◌≤◌, List, [], ◌∷◌, ◌++◌, length, Option, Some, None, IfSome, Result, Ok, Err}
 use Rattle.fst_desk.specs.Seen.{Filed, Seen, Rises}
 use Rattle.fst_desk.specs.Desk.{content_of, ToldHolds}
 use Rattle.fst_semiring.specs.declared.arc_type.ArcType.{ArcType}
@@ -14,9 +14,9 @@ use Rattle.fst_words.specs.declared.verb.Verb.{Verb}
 use Rattle.fst_words.specs.declared.verb.Verb.TheVariants.{Compile, Print, Info, Invert, Reverse, Connect, Closure, Project, Relabel, Arcsort}
 use Rattle.fst_command.specs.Plans.{Input, arc_type_of}
 use Rattle.fst_command.specs.Contents.{Choices, Renaming, Typed, machine_of_file}
-use Rattle.fst_command.specs.Causes.{Cause, too_long, bad_symbols, bad_pairs, bad_text, bad_binary, kinds_differ, too_large, unprintable, Answer, done, refused, no_memory, unread, unwritten}
-use Rattle.fst_command.specs.Checks.{Check, text_check, binary_check, kinds_check, print_check, read_limit, Passes, AllPass, IsFirst, form_check, operation_checks, later_checks}
-use Rattle.fst_command.specs.Outputs.{Described, Makes, Operated}
+use Rattle.fst_command.specs.Causes.{Cause, bad_codex, undecodable, too_long, bad_symbols, bad_pairs, bad_text, bad_binary, kinds_differ, too_large, unprintable, Answer, done, refused, no_memory, unread, unwritten}
+use Rattle.fst_command.specs.Checks.{Check, codex_check, codex_kind_check, decode_check, text_check, binary_check, kinds_check, print_check, read_limit, AllPass, IsFirst, form_check, operation_checks, later_checks}
+use Rattle.fst_command.specs.Outputs.{Decoded, Encoded, Described, Makes, Operated}
 use Rattle.fst_command.specs.Outcome.{Answers}
 use Rattle.fst_command.specs.declared.refusal.Refusal.{Refusal}
 use Rattle.fst_command.specs.Told.{Tells}
@@ -47,6 +47,7 @@ ReadAnswer name old new (Err refusal) = Tells no_memory refusal ⊎ (NotRead nam
 pub record Reads (name : List ℕ) (old new : Seen) (result : Result (List ℕ) Refusal) : Type 0 where
   pub told : new.filed.told ≡ old.filed.told
   pub write_faults : new.filed.write_faults ≡ old.filed.write_faults
+  pub starved : new.filed.starved ≡ old.filed.starved
   pub showing : new.showing ≡ old.showing
   pub answer : ReadAnswer name old.filed new.filed result
 
@@ -74,6 +75,38 @@ pub record WritesOutput (name bytes : List ℕ) (old new : Seen) (result : Resul
   pub showing : new.showing ≡ old.showing
   pub answer : WriteAnswer name bytes old.filed new.filed result
 
+-- a store that found no memory
+pub record Starves (old new : Filed) (refusal : Refusal) : Type 0 where
+  pub tells : Tells no_memory refusal
+  pub rises : Rises old.starved new.starved
+  pub told : new.told ≡ old.told
+
+-- what each answer of a store says of an output
+abbrev pub StoreAnswer : List ℕ → List ℕ → Filed → Filed → Result Unit Refusal → Type 0
+StoreAnswer name bytes old new (Ok _) = ToldHolds name bytes old.told new.told × (new.write_faults ≡ old.write_faults) × (new.starved ≡ old.starved)
+StoreAnswer name bytes old new (Err refusal) = Starves old new refusal ⊎ NotWritten name bytes old new refusal
+
+-- storing the output of that name: nothing is shown
+pub record StoresOutput (name bytes : List ℕ) (old new : Seen) (result : Result Unit Refusal) : Type 0 where
+  pub showing : new.showing ≡ old.showing
+  pub answer : StoreAnswer name bytes old.filed new.filed result
+
+-- the first of two outputs stands whole, and the second does not
+pub record StopsBehind (name bytes other more : List ℕ) (old new : Filed) (refusal : Refusal) : Type 0 where
+  pub mid : Filed
+  pub stands : StoreAnswer name bytes old mid (Ok tt)
+  pub stops : StoreAnswer other more mid new (Err refusal)
+
+-- what each answer of writing two outputs says
+abbrev pub BothAnswer : List ℕ → List ℕ → List ℕ → List ℕ → Filed → Filed → Result Unit Refusal → Type 0
+BothAnswer name bytes other more old new (Ok _) = (mid : Filed) × StoreAnswer name bytes old mid (Ok tt) × StoreAnswer other more mid new (Ok tt)
+BothAnswer name bytes other more old new (Err refusal) = NoRoom old new refusal ⊎ (NotWritten name bytes old new refusal ⊎ StopsBehind name bytes other more old new refusal)
+
+-- writing two outputs, one behind the other: nothing is shown
+pub record WritesBoth (name bytes other more : List ℕ) (old new : Seen) (result : Result Unit Refusal) : Type 0 where
+  pub showing : new.showing ≡ old.showing
+  pub answer : BothAnswer name bytes other more old.filed new.filed result
+
 -- the cause is not that an input is too long
 abbrev pub IsOfForm : Cause → Type 0
 IsOfForm (too_long name) = ⊥
@@ -81,8 +114,10 @@ IsOfForm (bad_symbols name fault) = Unit {0}
 IsOfForm (bad_pairs name fault) = Unit {0}
 IsOfForm (bad_text name fault) = Unit {0}
 IsOfForm (bad_binary name fault) = Unit {0}
+IsOfForm (bad_codex name fault) = Unit {0}
 IsOfForm (kinds_differ first other) = Unit {0}
 IsOfForm (too_large fault) = Unit {0}
+IsOfForm (undecodable fault) = Unit {0}
 IsOfForm (unprintable fault) = Unit {0}
 
 -- the refusal tells want of memory, or the first cause that the questions find
@@ -110,6 +145,10 @@ Settles checks makes (Err refusal) = Declines checks refusal
 -- output.
 abbrev pub Decides : Plan → List (List ℕ) → Input → List ℕ → Result (List ℕ) Refusal → Type 0
 Decides plan before i content result = Settles (form_check plan before i content ∷ later_checks plan (before ++ content ∷ [])) (Makes plan (before ++ content ∷ [])) result
+
+-- the same for all its outputs
+abbrev pub DecidesOn : Plan → List (List ℕ) → Input → List ℕ → List (List ℕ) → Type 0
+DecidesOn plan before i content made = AllPass (form_check plan before i content ∷ later_checks plan (before ++ content ∷ [])) × Makes plan (before ++ content ∷ []) made
 
 -- the answer of a command that ended so
 abbrev pub Ends : Answer → Result Unit Refusal → Type 0
@@ -141,24 +180,9 @@ DescribesTo name content result = Settles (binary_check name content ∷ kinds_c
 abbrev pub OperatesTo : Verb → Options → Renaming → List ℕ → List ℕ → Result (List ℕ) Refusal → Type 0
 OperatesTo verb options renaming name content result = Settles (binary_check name content ∷ operation_checks verb options (content ∷ [])) (Operated verb options renaming (content ∷ [])) result
 
--- that of the machine that is made of the machines of two files, of which the second has this name
-abbrev pub JoinsTo : Verb → Options → Renaming → List ℕ → List ℕ → List ℕ → Result (List ℕ) Refusal → Type 0
-JoinsTo verb options renaming first name second result = Settles (binary_check name second ∷ operation_checks verb options (first ∷ second ∷ [])) (Operated verb options renaming (first ∷ second ∷ [])) result
-
--- A second file of another arc type than the first is refused: by the first fault of its form, or else by its
--- arc type.
-abbrev pub DeclinesOther : ArcType → List ℕ → List ℕ → Refusal → Type 0
-DeclinesOther kind name second refusal = (verb : Verb) (options : Options) (first : List ℕ) (a : Machine Cost) → machine_of_file first ≡ Ok (record { kind = kind; machine = a }) → Declines (binary_check name second ∷ operation_checks verb options (first ∷ second ∷ [])) refusal
-
--- the second of two files was read behind the first, or why there is no output
-abbrev pub SecondAnswer : Verb → Options → Renaming → List ℕ → List ℕ → Seen → Seen → Result (List ℕ) Refusal → Type 0
-SecondAnswer verb options renaming first name old new (Ok bytes) = (second : List ℕ) × Reads name old new (Ok second) × JoinsTo verb options renaming first name second (Ok bytes)
-SecondAnswer verb options renaming first name old new (Err refusal) = Reads name old new (Err refusal) ⊎ ((second : List ℕ) × Reads name old new (Ok second) × JoinsTo verb options renaming first name second (Err refusal))
-
--- the machine of the first file was read, before the second, or why there is no output
-abbrev pub FirstAnswer : Verb → Options → Renaming → List ℕ → List ℕ → List ℕ → Seen → Seen → Result (List ℕ) Refusal → Type 0
-FirstAnswer verb options renaming name first other old new (Ok bytes) = Passes (binary_check name first) × SecondAnswer verb options renaming first other old new (Ok bytes)
-FirstAnswer verb options renaming name first other old new (Err refusal) = (Declines (binary_check name first ∷ []) refusal × (new ≡ old)) ⊎ (Passes (binary_check name first) × SecondAnswer verb options renaming first other old new (Err refusal))
+-- that of the machine that is made of the machines of several files, which were read
+abbrev pub CombinesTo : Verb → Options → Renaming → List (List ℕ) → Result (List ℕ) Refusal → Type 0
+CombinesTo verb options renaming files result = Settles (operation_checks verb options files) (Operated verb options renaming files) result
 
 -- what a command with one input of its own makes of its content
 abbrev pub MakesTo : Verb → Options → Choices → Renaming → List ℕ → List ℕ → Result (List ℕ) Refusal → Type 0
@@ -173,3 +197,13 @@ MakesTo Project options choices renaming name content result = OperatesTo Projec
 MakesTo Relabel options choices renaming name content result = OperatesTo Relabel options renaming name content result
 MakesTo Arcsort options choices renaming name content result = OperatesTo Arcsort options renaming name content result
 MakesTo _ options choices renaming name content result = ⊥
+
+-- the codex and the machine that stand for the machine of a file, or why there are none
+abbrev pub EncodesTo : Bool → List ℕ → List ℕ → Result (List (List ℕ)) Refusal → Type 0
+EncodesTo weights name content (Ok made) = AllPass (binary_check name content ∷ kinds_check (content ∷ []) ∷ []) × Encoded weights (content ∷ []) made
+EncodesTo weights name content (Err refusal) = Declines (binary_check name content ∷ kinds_check (content ∷ []) ∷ []) refusal
+
+-- the binary form of the machine that the machine of a file and the codex of a second file, which has this name,
+-- stand for, or why there is none
+abbrev pub DecodesTo : List ℕ → List ℕ → List ℕ → Result (List ℕ) Refusal → Type 0
+DecodesTo file name codex result = Settles (codex_check name codex ∷ codex_kind_check file codex ∷ decode_check file codex ∷ []) (Decoded (file ∷ codex ∷ [])) result

@@ -1,7 +1,9 @@
 //! Reading an input and writing an output, each with its refusals.
 
 ghost use Rattle.std.specs.Result.{result_map_both};
-ghost use Rattle.fst_command.specs.Steps.{Reads, WritesOutput};
+ghost use Rattle.fst_command.specs.Steps.{Reads, StoresOutput, WritesBoth, WritesOutput};
+ghost use Rattle.fst_command.specs.Causes.{unwritten};
+ghost use Rattle.fst_command.specs.Told.{Tells};
 
 use crate::refusal::{Refusal, longer, not_read, not_written};
 use fst_desk::{Desk, FetchFault, StoreFault};
@@ -22,6 +24,23 @@ pub fn read_input<D: Desk>(alloc: Global, desk: &mut D, name: &str) -> Result<Ve
     }
 }
 
+/// Stores an output, of which the refusal is made already.
+fn store_output<D: Desk>(
+    desk: &mut D,
+    name: &str,
+    bytes: &[u8],
+    refusal: Refusal,
+) -> Result<(), Refusal>
+    requires { Tells (unwritten name.now) refusal }
+    ensures { StoresOutput name.now bytes.now (D.seen desk.old) (D.seen desk.new) result }
+{
+    match desk.store(name, bytes) {
+        Ok(()) => Ok(()),
+        Err(StoreFault::Failed) => Err(refusal),
+        Err(StoreFault::Memory) => Err(Refusal::Memory),
+    }
+}
+
 /// Writes an output. The line of a write fault is made before the first byte is written, so that want of
 /// memory for it leaves every file as it was.
 pub fn write_output<D: Desk>(
@@ -36,9 +55,31 @@ pub fn write_output<D: Desk>(
     if refusal.is_memory() {
         return Err(refusal);
     }
-    match desk.store(name, bytes) {
-        Ok(()) => Ok(()),
-        Err(StoreFault::Failed) => Err(refusal),
-        Err(StoreFault::Memory) => Err(Refusal::Memory),
+    store_output(desk, name, bytes, refusal)
+}
+
+/// Writes two outputs, one behind the other. The lines of both write faults are made before the first byte is
+/// written. Where the second output is not written, the first stands whole.
+pub fn write_both<D: Desk>(
+    alloc: Global,
+    desk: &mut D,
+    name: &str,
+    bytes: &[u8],
+    other: &str,
+    more: &[u8],
+) -> Result<(), Refusal>
+    ensures { WritesBoth name.now bytes.now other.now more.now (D.seen desk.old) (D.seen desk.new) result }
+{
+    let refusal = not_written(alloc, name);
+    if refusal.is_memory() {
+        return Err(refusal);
+    }
+    let later = not_written(alloc, other);
+    if later.is_memory() {
+        return Err(later);
+    }
+    match store_output(desk, name, bytes, refusal) {
+        Ok(()) => store_output(desk, other, more, later),
+        Err(refusal) => Err(refusal),
     }
 }

@@ -1,21 +1,24 @@
-//! The commands that make one machine of two, all in the binary form.
+//! The commands that make one machine of several, all in the binary form.
 
-ghost use Rattle.std.specs.Prelude.{◌≡◌, ◌≢◌, [], ◌∷◌, List, ℕ, IfOk, Ok, true};
+ghost use Rattle.std.specs.Prelude.{◌≡◌, [], ◌∷◌, List, ℕ, IfOk, None, Ok, Some, length, map, slice_get, true};
 ghost use Rattle.std.specs.Result.{result_map_both};
 ghost use Rattle.fst_machine.specs.Machine.{valued};
 ghost use Rattle.fst_binary.specs.Reading.{arc_type_of_bytes};
-ghost use Rattle.fst_command.specs.Contents.{Renaming, machine_of_file};
+ghost use Rattle.fst_words.specs.PlanLaws.{IsWhole};
+ghost use Rattle.fst_words.specs.Plans.{input_files};
+ghost use Rattle.fst_command.specs.Contents.{AreMachines, Renaming};
 ghost use Rattle.fst_command.specs.Operations.{Denotes, IsLimitedBy, Operates, grown, is_join};
-ghost use Rattle.fst_command.specs.Steps.{DeclinesOther, FirstAnswer, JoinsTo};
+ghost use Rattle.fst_command.specs.Several.{AreOf, PreparesSeveral};
+ghost use Rattle.fst_command.specs.Steps.{CombinesTo};
 
-use crate::files::read_input;
+use crate::machines::{Machines, first_machine, read_others};
 use crate::refusal::{Refusal, kinds_apart, not_binary, too_large};
-use fst_binary::{arc_type, decode, encode};
+use fst_binary::{arc_type, encode};
 use fst_desk::Desk;
 use fst_machine::Fst;
 use fst_rational::{RationalFault, concat, union};
 use fst_semiring::{ArcType, Boolean, Lexicographic, MinMax, Tropical, Weight};
-use fst_words::{Options, Verb};
+use fst_words::{Options, Plan, Verb};
 use std::alloc::Global;
 
 /// The machine that a command makes of two machines.
@@ -37,142 +40,81 @@ fn join_of<W: Weight>(
     }
 }
 
-/// Why a second file of another arc type than the first is refused: a fault of its form comes first. Its arc
-/// type is that of the weights.
-fn refusal_as<W: Weight>(alloc: Global, kind: ArcType, name: &str, content: &[u8]) -> Refusal
-    requires other { arc_type_of_bytes content.now ≡ Ok W.KIND }
-    requires differ { kind ≢ W.KIND }
-    ensures { DeclinesOther kind name.now content.now result }
+/// The bytes of the machine that a command makes of two machines, which are given up before the bytes are made.
+fn joined<W: Weight>(alloc: Global, verb: Verb, list: Vec<Fst<W>>) -> Result<Vec<u8>, Refusal>
+    requires join { is_join verb ≡ true }
+    requires two { length list.items ≡ 2 }
+    ensures { (options : Options) (renaming : Renaming) (files : List (List ℕ)) → AreMachines W.KIND files (map (valued W.value) list.items) → CombinesTo verb options renaming files (result_map_both (λ v. v.items) (λ e. e) result) }
 {
-    let _machine: Fst<W> = match decode(alloc, content) {
-        Ok(machine) => machine,
-        Err(fault) => return not_binary(alloc, name, fault),
-    };
-    kinds_apart(alloc, kind, W::KIND)
-}
-
-/// Why a second file of another arc type than the first is refused.
-fn refusal_of_other(
-    alloc: Global,
-    kind: ArcType,
-    other: ArcType,
-    name: &str,
-    content: &[u8],
-) -> Refusal
-    requires other { arc_type_of_bytes content.now ≡ Ok other }
-    requires differ { kind ≢ other }
-    ensures { DeclinesOther kind name.now content.now result }
-{
-    match other {
-        ArcType::Boolean => refusal_as::<Boolean>(alloc, kind, name, content),
-        ArcType::Tropical => refusal_as::<Tropical>(alloc, kind, name, content),
-        ArcType::MinMax => refusal_as::<MinMax>(alloc, kind, name, content),
-        ArcType::Lexicographic => refusal_as::<Lexicographic>(alloc, kind, name, content),
-    }
-}
-
-/// The bytes of the machine that a command makes of a first machine and that of a second file of the same arc
-/// type. Both machines are given up before the bytes are made.
-fn joined_alike<W: Weight>(
-    alloc: Global,
-    verb: Verb,
-    first: Fst<W>,
-    name: &str,
-    content: Vec<u8>,
-) -> Result<Vec<u8>, Refusal>
-    requires verb { is_join verb ≡ true }
-    requires kind { arc_type_of_bytes content.items ≡ Ok W.KIND }
-    ensures { (options : Options) (renaming : Renaming) (file : List ℕ) → machine_of_file file ≡ Ok (record { kind = W.KIND; machine = valued W.value first }) → JoinsTo verb options renaming file name.now content.items (result_map_both (λ v. v.items) (λ e. e) result) }
-{
-    let second: Fst<W> = match decode(alloc, content.as_slice()) {
-        Ok(second) => second,
-        Err(fault) => return Err(not_binary(alloc, name, fault)),
-    };
-    drop(content);
-    let made = match join_of(alloc, verb, &first, &second) {
+    let made = match join_of(alloc, verb, &list[0], &list[1]) {
         Ok(made) => made,
         Err(fault) => return Err(too_large(alloc, fault)),
     };
-    drop(first);
-    drop(second);
+    drop(list);
     match encode(alloc, &made) {
         Ok(bytes) => Ok(bytes),
         Err(_) => Err(Refusal::Memory),
     }
 }
 
-/// The bytes of the machine that a command makes of a first machine and that of a second file.
-fn joined_with<W: Weight>(
-    alloc: Global,
-    verb: Verb,
-    first: Fst<W>,
-    name: &str,
-    content: Vec<u8>,
-) -> Result<Vec<u8>, Refusal>
-    requires { is_join verb ≡ true }
-    ensures { (options : Options) (renaming : Renaming) (file : List ℕ) → machine_of_file file ≡ Ok (record { kind = W.KIND; machine = valued W.value first }) → JoinsTo verb options renaming file name.now content.items (result_map_both (λ v. v.items) (λ e. e) result) }
+/// The bytes of the machine that a command makes of the machines of its files, where they have one arc type.
+fn combined<W: Weight>(alloc: Global, verb: Verb, machines: Machines<W>) -> Result<Vec<u8>, Refusal>
+    requires join { is_join verb ≡ true }
+    requires two { machines.other ≡ None → length machines.list.items ≡ 2 }
+    ensures { (options : Options) (renaming : Renaming) (files : List (List ℕ)) → AreOf W.KIND files (map (valued W.value) machines.list.items) machines.other → CombinesTo verb options renaming files (result_map_both (λ v. v.items) (λ e. e) result) }
 {
-    match arc_type(content.as_slice()) {
-        Ok(kind) => {
-            if kind == W::KIND {
-                joined_alike(alloc, verb, first, name, content)
-            } else {
-                Err(refusal_of_other(alloc, W::KIND, kind, name, content.as_slice()))
-            }
-        }
-        Err(fault) => Err(not_binary(alloc, name, fault)),
+    match machines.other {
+        Some(other) => Err(kinds_apart(alloc, W::KIND, other)),
+        None => joined(alloc, verb, machines.list),
     }
 }
 
-/// Reads the machine of a first file, whose arc type is that of the weights, and behind it the second file. The
-/// first file is given up before the second is read.
-fn joined_as<W: Weight, D: Desk>(
+/// Reads the machine of a first file, whose arc type is that of the weights, and behind it the others. Each file
+/// is given up before the next is read.
+fn prepared_as<W: Weight, D: Desk>(
     alloc: Global,
     desk: &mut D,
-    verb: Verb,
+    plan: &Plan,
     name: &str,
     content: Vec<u8>,
-    other: &str,
 ) -> Result<Vec<u8>, Refusal>
-    requires verb { is_join verb ≡ true }
+    requires join { is_join plan.now.command ≡ true }
+    requires whole { IsWhole plan.now }
+    requires named { slice_get (input_files plan.now) 0 ≡ Some name.now }
     requires kind { arc_type_of_bytes content.items ≡ Ok W.KIND }
-    ensures { (options : Options) (renaming : Renaming) → FirstAnswer verb options renaming name.now content.items other.now (D.seen desk.old) (D.seen desk.new) (result_map_both (λ v. v.items) (λ e. e) result) }
+    ensures { PreparesSeveral plan.now name.now content.items (D.seen desk.old) (D.seen desk.new) (result_map_both (λ v. v.items) (λ e. e) result) }
 {
-    let first: Fst<W> = match decode(alloc, content.as_slice()) {
-        Ok(first) => first,
-        Err(fault) => return Err(not_binary(alloc, name, fault)),
-    };
-    drop(content);
-    let second = match read_input(alloc, desk, other) {
-        Ok(second) => second,
+    let mut machines: Machines<W> = match first_machine(alloc, name, content) {
+        Ok(machines) => machines,
         Err(refusal) => return Err(refusal),
     };
-    joined_with(alloc, verb, first, other, second)
+    match read_others(alloc, desk, plan, &mut machines) {
+        Ok(()) => {}
+        Err(refusal) => return Err(refusal),
+    }
+    combined(alloc, plan.command, machines)
 }
 
-/// The bytes of the machine that a command makes of the machine of a first file and that of a second, which
-/// is read behind it.
-pub fn joined<D: Desk>(
+/// The bytes of the machine that a command makes of the machine of a first file and those of others, which are
+/// read behind it.
+pub fn prepared<D: Desk>(
     alloc: Global,
     desk: &mut D,
-    verb: Verb,
+    plan: &Plan,
     name: &str,
     content: Vec<u8>,
-    other: &str,
 ) -> Result<Vec<u8>, Refusal>
-    requires { is_join verb ≡ true }
-    ensures { (options : Options) (renaming : Renaming) → FirstAnswer verb options renaming name.now content.items other.now (D.seen desk.old) (D.seen desk.new) (result_map_both (λ v. v.items) (λ e. e) result) }
+    requires join { is_join plan.now.command ≡ true }
+    requires whole { IsWhole plan.now }
+    requires named { slice_get (input_files plan.now) 0 ≡ Some name.now }
+    ensures { PreparesSeveral plan.now name.now content.items (D.seen desk.old) (D.seen desk.new) (result_map_both (λ v. v.items) (λ e. e) result) }
 {
     match arc_type(content.as_slice()) {
-        Ok(ArcType::Boolean) => {
-            joined_as::<Boolean, D>(alloc, desk, verb, name, content, other)
-        }
-        Ok(ArcType::Tropical) => {
-            joined_as::<Tropical, D>(alloc, desk, verb, name, content, other)
-        }
-        Ok(ArcType::MinMax) => joined_as::<MinMax, D>(alloc, desk, verb, name, content, other),
+        Ok(ArcType::Boolean) => prepared_as::<Boolean, D>(alloc, desk, plan, name, content),
+        Ok(ArcType::Tropical) => prepared_as::<Tropical, D>(alloc, desk, plan, name, content),
+        Ok(ArcType::MinMax) => prepared_as::<MinMax, D>(alloc, desk, plan, name, content),
         Ok(ArcType::Lexicographic) => {
-            joined_as::<Lexicographic, D>(alloc, desk, verb, name, content, other)
+            prepared_as::<Lexicographic, D>(alloc, desk, plan, name, content)
         }
         Err(fault) => Err(not_binary(alloc, name, fault)),
     }

@@ -6,11 +6,14 @@
 #![tactic(auto)]
 
 mod carrying;
+mod decoding;
 mod descriptions;
+mod encoding;
 mod files;
 mod forms;
 mod joins;
 mod kinds;
+mod machines;
 mod operations;
 mod option_files;
 mod refusal;

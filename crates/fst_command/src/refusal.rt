@@ -1,11 +1,12 @@
 //! Why a command ended without its outputs: the status and the line that follow.
 
 ghost use Rattle.std.specs.Prelude.{◌≡◌, ◌↔◌, IsTrue, IfOk, string_bytes};
-ghost use Rattle.fst_command.specs.Causes.{refused, too_long, bad_symbols, bad_pairs, bad_text, bad_binary, kinds_differ, too_large, unprintable, unread, unwritten, line_at, placed_line, no_symbol_line, two_labels_line, symbols_line_at, symbols_reason, pairs_line_at, pairs_reason, text_reason, binary_reason};
+ghost use Rattle.fst_command.specs.Causes.{refused, bad_codex, undecodable, codex_reason, no_entry_line, overflow_line, too_long, bad_symbols, bad_pairs, bad_text, bad_binary, kinds_differ, too_large, unprintable, unread, unwritten, line_at, placed_line, no_symbol_line, two_labels_line, symbols_line_at, symbols_reason, pairs_line_at, pairs_reason, text_reason, binary_reason};
 ghost use Rattle.fst_command.specs.Told.{IsMade, MakesLine, told_line, told_status};
 
 use crate::kinds::kind_name;
 use fst_binary::{BinaryFault, BinaryKind};
+use fst_codex::{CodexFault, CodexKind, DecodeFault};
 use fst_rational::{PairsFault, RationalFault};
 use fst_semiring::ArcType;
 use fst_symbols::SymbolsFault;
@@ -299,5 +300,64 @@ pub fn kinds_apart(alloc: Global, kind: ArcType, other: ArcType) -> Refusal
 {
     let first = kind_name(kind);
     let second = kind_name(other);
-    made(1, format!(in alloc; "fst: arc types differ: {first} and {second}\n"))
+    made(
+        1,
+        format!(in alloc; "fst: arc types differ: {first} and {second}\n"),
+    )
+}
+
+/// What is wrong with a field of a codex.
+fn reason_of_codex(kind: CodexKind) -> &'static str
+    ensures { result.now ≡ codex_reason kind }
+{
+    match kind {
+        CodexKind::Short => "too short",
+        CodexKind::BadMagic => "bad magic number",
+        CodexKind::UnknownArcType => "unknown arc type",
+        CodexKind::BadFlags => "bad flags",
+        CodexKind::BadCount => "bad count",
+        CodexKind::BadLabel => "bad label",
+        CodexKind::BadWeight => "bad weight",
+        CodexKind::Extra => "extra bytes",
+        CodexKind::Memory => "out of memory",
+    }
+}
+
+/// The content under the name is no codex.
+pub fn not_codex(alloc: Global, name: &str, fault: CodexFault) -> Refusal
+    ensures made { IsMade (refused (bad_codex name.now fault)) result }
+    ensures memory { fault.kind ≡ CodexKind.Memory → result ≡ Refusal.Memory }
+{
+    if matches!(fault.kind, CodexKind::Memory) {
+        return Refusal::Memory;
+    }
+    let reason = reason_of_codex(fault.kind);
+    made(1, fault_line(alloc, name, "byte", fault.offset, reason))
+}
+
+/// The line of a label that a codex has no entry for.
+fn entry_line(alloc: Global, label: u32) -> Result<String, AllocError>
+    ensures { IfOk result (λ line. string_bytes line ≡ no_entry_line label) }
+{
+    format!(in alloc; "fst: label {label} is not in the codex\n")
+}
+
+/// The line of a number past the range.
+fn number_line(alloc: Global, state: u32) -> Result<String, AllocError>
+    ensures { IfOk result (λ line. string_bytes line ≡ overflow_line state) }
+{
+    format!(in alloc; "fst: number too large at state {state}\n")
+}
+
+/// The machine is not decoded by the codex.
+pub fn not_decoded(alloc: Global, fault: DecodeFault) -> Refusal
+    ensures made { IsMade (refused (undecodable fault)) result }
+    ensures memory { fault ≡ DecodeFault.Memory → result ≡ Refusal.Memory }
+{
+    match fault {
+        DecodeFault::NotAcceptor { state, place } => made(1, arc_line(alloc, state, place)),
+        DecodeFault::NotInCodex { label } => made(1, entry_line(alloc, label)),
+        DecodeFault::Overflow { state } => made(1, number_line(alloc, state)),
+        DecodeFault::Memory => Refusal::Memory,
+    }
 }

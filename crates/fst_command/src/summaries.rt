@@ -14,11 +14,7 @@ use fst_trim::info;
 use std::alloc::Global;
 
 /// What is said of the machine of a file, whose arc type is that of its weights.
-fn summarized_as<W: Weight>(
-    alloc: Global,
-    name: &str,
-    content: Vec<u8>,
-) -> Result<Vec<u8>, Refusal>
+fn summarized_as<W: Weight>(alloc: Global, name: &str, content: Vec<u8>) -> Result<Vec<u8>, Refusal>
     requires { arc_type_of_bytes content.items ≡ Ok W.KIND }
     ensures { DescribesTo name.now content.items (result_map_both (λ v. v.items) (λ e. e) result) }
 {

@@ -6,6 +6,7 @@ use std::alloc::Global;
 use std::test::Fail;
 use std::thread::Threads;
 
+mod coding;
 mod operations;
 
 /// A text of two states and one arc, and its binary form.

@@ -30,6 +30,7 @@ fn is_ready(verb: Verb) -> bool
             | Verb::Project
             | Verb::Relabel
             | Verb::Arcsort
+            | Verb::Encode
     )
 }
 

@@ -172,7 +172,7 @@ module _ {V : Type 0} (value : V → Cost) where
   arcs_with_valued p m = sum_valued (λ s. count_by p s.arcs) (λ s. count_by (λ a. p (valued_arc value a)) s.arcs) (λ s. fold-map (λ n a. n + cond (p a) 1 0) (valued_arc value) 0 s.arcs) m.states
 
 -- costs are their own values
-valued_costs : (m : Machine Cost) → m ≡ valued (λ w. w) m
+pub valued_costs : (m : Machine Cost) → m ≡ valued (λ w. w) m
 valued_costs m = ap (λ (states : List (State Cost)). record { start = m.start; states = states }) (sym (ap (λ (f : State Cost → State Cost). map f m.states) (λ i s. record { final = s.final; arcs = map-id s.arcs i }) ∙ map-id m.states))
 
 -- a test of one property decides another that holds where it does

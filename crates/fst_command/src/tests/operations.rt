@@ -96,10 +96,7 @@ fn joins_and_repeats(rt: HostRuntime) -> Result<(), Fail> {
             &["closure", "--closure_plus", "m", "r"],
             b"0\t1\t1\t2\t5\n1\t0\t0\t0\t3\n1\t3\n",
         ),
-        (
-            &["reverse", "m", "r"],
-            b"0\t2\t0\t0\t3\n1\n2\t1\t1\t2\t5\n",
-        ),
+        (&["reverse", "m", "r"], b"0\t2\t0\t0\t3\n1\n2\t1\t1\t2\t5\n"),
     ] {
         assert!(rt; makes(&rt, alloc, &mut desk, words, text)?, "{words:?}");
     }
@@ -128,10 +125,7 @@ fn sorts_and_trims(rt: HostRuntime) -> Result<(), Fail> {
             &["arcsort", "--sort_type=ilabel", "n", "r"],
             b"0\t1\t1\t7\t4\n0\t1\t2\t7\t3\n1\n",
         ),
-        (
-            &["arcsort", "n", "r"],
-            b"0\t1\t1\t7\t4\n0\t1\t2\t7\t3\n1\n",
-        ),
+        (&["arcsort", "n", "r"], b"0\t1\t1\t7\t4\n0\t1\t2\t7\t3\n1\n"),
     ] {
         assert!(rt; makes(&rt, alloc, &mut desk, words, text)?, "{words:?}");
     }
@@ -143,17 +137,21 @@ fn describes_a_machine(rt: HostRuntime) -> Result<(), Fail> {
     let alloc = rt.alloc();
     let mut desk = desk_with(&rt, alloc, TICKET, b"")?;
     assert_eq!(rt; status_of(&rt, alloc, &mut desk, &["info", "m", "i"])?, 0);
-    assert!(rt; holds(
-        &desk,
-        "i",
-        b"arc type\ttropical\nstates\t2\narcs\t1\nstart\t0\nfinal states\t1\ninput epsilons\t0\noutput epsilons\t0\ninput/output epsilons\t0\naccessible states\t2\ncoaccessible states\t2\nconnected states\t2\nacceptor\tno\ninput sorted\tyes\noutput sorted\tyes\ndeterministic\tyes\n",
-    ));
+    assert!(rt;
+        holds(
+            &desk,
+            "i",
+            b"arc type\ttropical\nstates\t2\narcs\t1\nstart\t0\nfinal states\t1\ninput epsilons\t0\noutput epsilons\t0\ninput/output epsilons\t0\naccessible states\t2\ncoaccessible states\t2\nconnected states\t2\nacceptor\tno\ninput sorted\tyes\noutput sorted\tyes\ndeterministic\tyes\n",
+        )
+    );
     assert_eq!(rt; status_of(&rt, alloc, &mut desk, &["info", "n"])?, 0);
-    assert!(rt; holds(
-        &desk,
-        "-",
-        b"arc type\ttropical\nstates\t0\narcs\t0\nstart\tnone\nfinal states\t0\ninput epsilons\t0\noutput epsilons\t0\ninput/output epsilons\t0\naccessible states\t0\ncoaccessible states\t0\nconnected states\t0\nacceptor\tyes\ninput sorted\tyes\noutput sorted\tyes\ndeterministic\tyes\n",
-    ));
+    assert!(rt;
+        holds(
+            &desk,
+            "-",
+            b"arc type\ttropical\nstates\t0\narcs\t0\nstart\tnone\nfinal states\t0\ninput epsilons\t0\noutput epsilons\t0\ninput/output epsilons\t0\naccessible states\t0\ncoaccessible states\t0\nconnected states\t0\nacceptor\tyes\ninput sorted\tyes\noutput sorted\tyes\ndeterministic\tyes\n",
+        )
+    );
     Ok(())
 }
 
@@ -192,7 +190,10 @@ fn refuses_machines_by_the_first_cause(rt: HostRuntime) -> Result<(), Fail> {
             &["relabel", "--relabel_opairs=q", "x", "r"],
             b"fst: q: line 2: label given twice\n",
         ),
-        (&["reverse", "t", "r"], b"fst: t: byte 0: bad magic number\n"),
+        (
+            &["reverse", "t", "r"],
+            b"fst: t: byte 0: bad magic number\n",
+        ),
         (&["info", "x", "r"], b"fst: x: byte 112: too short\n"),
     ] {
         let mut desk = faulty_desk(&rt, alloc)?;

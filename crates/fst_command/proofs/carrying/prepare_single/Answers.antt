@@ -14,7 +14,7 @@ returns-in-Err g c old read =
     let mid = g.D.Desk.seen c.args.desk.now in
     let new = g.D.Desk.seen c.read_input.new.desk in
     let first = c.item.result.now in
-    let two = has_two plan first c.requires.built c.requires.single c.requires.whole c.item.ensures in
+    let two = has_two plan first c.requires.single c.requires.whole c.item.ensures in
     Works-unread plan (option_inputs plan.options) [] read.contents old mid new (record { name = first; form = own_form plan.command }) c.in-Err.refusal two.inputs read.progress
     (subst (λ (name : List ℕ). Reads name mid new (Err c.in-Err.refusal)) c.text-name.ensures c.in-Err.ensures)
 
@@ -26,7 +26,7 @@ returns g c old read =
     let new = g.D.Desk.seen c.read_input.new.desk in
     let first = c.item.result.now in
     let content = c.in-Ok.content.items in
-    let two = has_two plan first c.requires.built c.requires.single c.requires.whole c.item.ensures in
+    let two = has_two plan first c.requires.single c.requires.whole c.item.ensures in
     let settled = result_map_both (λ v. v.items) (λ e. e) c.made.result in
     prepares plan (option_inputs plan.options) read.contents old mid new (record { name = first; form = own_form plan.command }) content settled two.inputs read.progress
     (subst (λ (name : List ℕ). Reads name mid new (Ok content)) c.text-name.ensures c.in-Ok.ensures)

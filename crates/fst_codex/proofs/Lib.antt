@@ -1,0 +1,11 @@
+pub mod Keys
+pub mod Putting
+pub mod TurnedBack
+pub mod Undone
+pub mod EntryLoops
+pub mod Fields
+pub mod Taken
+pub mod Again
+pub mod Whole
+pub mod Valued
+pub mod Found

@@ -1,0 +1,15 @@
+mod Entries
+mod Chains
+mod Marking
+mod Calling
+mod Searching
+mod Counting
+mod Settling
+mod Expanding
+mod Emitting
+mod Unfolding
+mod Waiting
+mod Valuing
+mod Goodness
+mod Totalling
+mod Answering

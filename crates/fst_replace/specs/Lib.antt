@@ -1,0 +1,6 @@
+pub mod Rules
+pub mod Calls
+pub mod Walks
+pub mod Expansion
+pub mod Totals
+pub mod Answers
