@@ -41,6 +41,11 @@ OPERATIONS = [
     ("connect", "{0}"),
     ("info", "{0}"),
 ]
+# `encode` both ways, in whose words {0} is a machine beside which stand its codex and what is encoded.
+CODING = [
+    ("encode", "--encode_labels {0} {0}.codex"),
+    ("encode --decode", "--decode {0}.encoded {0}.codex"),
+]
 # Those that go along the paths of a machine: they also take the longest chain.
 DEEP = ["connect", "info"]
 
@@ -92,13 +97,21 @@ def operation(fst, command, words, files, pairs, scratch):
     return [fst, command, *ours], ["fst" + command, *theirs]
 
 
+def coding_cases(fst, files, scratch):
+    """The rows of `encode`, both ways, on a machine."""
+    for encode, file in zip(([fst, "encode"], ["fstencode"]), files):
+        subprocess.run([*encode, "--encode_labels", file, file + ".codex", file + ".encoded"], check=True)
+    return [(name, *operation(fst, "encode", words, files, None, scratch), TIME, MEMORY) for name, words in CODING]
+
+
 def operation_cases(fst, size, scratch):
     """The rows of the operations on a random machine of that many arcs."""
     text, pairs = (os.path.join(scratch, f"{name}.{size}.txt") for name in ("dense", "pairs"))
     subprocess.run([sys.executable, MACHINES, text, str(size)], check=True)
     subprocess.run([sys.executable, MACHINES, "--pairs", pairs, str(PAIRS)], check=True)
     files = machine_files(fst, text, scratch)
-    return [(command, *operation(fst, command, words, files, pairs, scratch), TIME, MEMORY) for command, words in OPERATIONS]
+    rows = [(command, *operation(fst, command, words, files, pairs, scratch), TIME, MEMORY) for command, words in OPERATIONS]
+    return rows + coding_cases(fst, files, scratch)
 
 
 def chain_cases(fst, scratch):

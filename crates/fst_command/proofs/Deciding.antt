@@ -35,7 +35,7 @@ use Rattle.fst_command.specs.Causes.{Cause, bad_binary, bad_pairs, bad_symbols, 
 use Rattle.fst_command.specs.Checks.{Check, HasOther, IsPast, KindsDiffer, Passes, length_check, symbols_check, pairs_check, binary_check, kinds_check, size_check, print_check, operation_checks, read_limit}
 use Rattle.fst_command.specs.Operations.{Denotes, IsLimitedBy, Operates, grown, side_of}
 use Rattle.fst_command.specs.Told.{IsMade, Tells}
-use Rattle.fst_command.specs.Steps.{CombinesTo, Declines, OperatesTo}
+use Rattle.fst_command.specs.Steps.{JoinsTo, Declines, OperatesTo}
 
 -- a result is not both a value and a fault
 pub not_both : {A E : Type 0} (r : Result A E) (x : A) (e : E) → r ≡ Ok x → r ≡ Err e → ⊥
@@ -196,7 +196,7 @@ declines-kinds kind other files refusal checks differ made = go (made_tells (ref
   go (inr tells) = inr (kinds_differ kind other, inl differ, tt, tells)
 
 -- A machine was made of those of files: no question finds a cause.
-pub settles-all : {X : Type 0} (verb : Verb) (options : Options) (renaming : Renaming) (kind : ArcType) (file : List ℕ) (files : List (List ℕ)) (bytes : List ℕ) (machines : List (Machine Cost)) (made : Machine Cost) (x : X) → AreMachines kind (file ∷ files) machines → Operates verb options renaming kind machines made → Denotes verb options renaming kind machines made → IsLimitedBy (grown verb options kind machines) (Ok x) → bytes ≡ spelling kind made → CombinesTo verb options renaming (file ∷ files) (Ok bytes)
+pub settles-all : {X : Type 0} (verb : Verb) (options : Options) (renaming : Renaming) (kind : ArcType) (file : List ℕ) (files : List (List ℕ)) (bytes : List ℕ) (machines : List (Machine Cost)) (made : Machine Cost) (x : X) → AreMachines kind (file ∷ files) machines → Operates verb options renaming kind machines made → Denotes verb options renaming kind machines made → IsLimitedBy (grown verb options kind machines) (Ok x) → bytes ≡ spelling kind made → JoinsTo verb options renaming (file ∷ files) (Ok bytes)
 settles-all verb options renaming kind file files bytes machines made x reads operates denotes limited spells = (
   (Passes-alike kind (file ∷ files) machines reads, (Passes-size verb options kind file files machines x reads limited, tt)),
   record { kind = kind; machines = machines; result = made; reads = reads; operates = operates; denotes = denotes; makes = ap (λ b. b ∷ []) spells },
@@ -234,7 +234,7 @@ two_of (x ∷ y ∷ []) a b long e f = cc
 two_of (x ∷ y ∷ z ∷ xs) a b long e f = absurd (omega (arith, long))
 
 -- A machine was made of those of two files.
-pub settles-pair : {X : Type 0} (verb : Verb) (options : Options) (renaming : Renaming) (kind : ArcType) (files : List (List ℕ)) (bytes : List ℕ) (a b made : Machine Cost) (x : X) → AreMachines kind files (a ∷ b ∷ []) → Operates verb options renaming kind (a ∷ b ∷ []) made → Denotes verb options renaming kind (a ∷ b ∷ []) made → IsLimitedBy (grown verb options kind (a ∷ b ∷ [])) (Ok x) → bytes ≡ spelling kind made → CombinesTo verb options renaming files (Ok bytes)
+pub settles-pair : {X : Type 0} (verb : Verb) (options : Options) (renaming : Renaming) (kind : ArcType) (files : List (List ℕ)) (bytes : List ℕ) (a b made : Machine Cost) (x : X) → AreMachines kind files (a ∷ b ∷ []) → Operates verb options renaming kind (a ∷ b ∷ []) made → Denotes verb options renaming kind (a ∷ b ∷ []) made → IsLimitedBy (grown verb options kind (a ∷ b ∷ [])) (Ok x) → bytes ≡ spelling kind made → JoinsTo verb options renaming files (Ok bytes)
 settles-pair verb options renaming kind [] bytes a b made x are operates denotes limited spells = absurd are
 settles-pair verb options renaming kind (file ∷ files) bytes a b made x are operates denotes limited spells =
     settles-all verb options renaming kind file files bytes (a ∷ b ∷ []) made x are operates denotes limited spells

@@ -11,3 +11,5 @@ pub mod Planned
 pub mod Completing
 pub mod Showing
 pub mod Describing
+pub mod Rules
+pub mod Replacing

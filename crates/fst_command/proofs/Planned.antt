@@ -1,13 +1,14 @@
 -- The files of a command with one output, and one or two inputs of its own.
-use Rattle.std.proofs.Common.{◌≡◌, ℕ, ◌<◌, zero, suc, true, false, List, [], ◌∷◌, ◌++◌, length, Some, slice_get, refl, sym, ap, ◌∙◌, subst, arith}
+use Rattle.std.proofs.Common.{◌≡◌, ℕ, ◌<◌, ◌≤◌, ◌-◌, zero, suc, Bool, true, false, List, [], ◌∷◌, ◌++◌, length, take, drop, Some, slice_get, refl, sym, ap, ◌∙◌, subst, arith}
 use Rattle.fst_words.specs.declared.options.Options.{Options}
 use Rattle.fst_words.specs.declared.plan.Plan.{Plan}
 use Rattle.fst_words.specs.declared.verb.Verb.{Verb}
-use Rattle.fst_words.specs.declared.verb.Verb.TheVariants.{Compile, Print, Info, Invert, Reverse, Connect, Union, Concat, Closure, Project, Relabel, Arcsort, Encode}
+use Rattle.fst_words.specs.declared.verb.Verb.TheVariants.{Compile, Print, Info, Invert, Reverse, Connect, Union, Concat, Closure, Project, Relabel, Arcsort, Encode, Replace}
 use Rattle.fst_words.specs.Commands.{all_names}
-use Rattle.fst_words.specs.Plans.{input_files, outputs_of}
+use Rattle.fst_words.specs.Plans.{input_files, is_replace, output_place, outputs_of}
 use Rattle.fst_words.specs.PlanLaws.{IsWhole}
-use Rattle.fst_command.specs.Operations.{is_coding, is_join}
+use Rattle.fst_command.specs.Operations.{is_coding, is_join, is_several}
+use Rattle.fst_command.proofs.Rules.{some_files}
 use Rattle.fst_command.specs.Plans.{Input, binary_form, codex_form, inputs_of, is_built, is_single, option_inputs, own_form, own_inputs}
 
 -- a list of two, and of three
@@ -250,7 +251,7 @@ inputs_encoding plan file coding encode whole at =
     (has_encoding plan file codex.0 machine.0 coding encode whole at codex.1 machine.1).inputs
 
 -- the commands that are built
-pub single_of : (verb : Verb) → is_built verb ≡ true → is_join verb ≡ false → is_coding verb ≡ false → is_single verb ≡ true
+pub single_of : (verb : Verb) → is_built verb ≡ true → is_several verb ≡ false → is_coding verb ≡ false → is_single verb ≡ true
 single_of Compile built one plain = refl
 single_of Print built one plain = refl
 single_of Info built one plain = refl
@@ -262,3 +263,51 @@ single_of Project built one plain = refl
 single_of Relabel built one plain = refl
 single_of Arcsort built one plain = refl
 single_of _ built one plain = absurd cc
+
+-- of the commands with several machines all but `replace` have two
+pub join_of_several : (verb : Verb) → is_several verb ≡ true → is_replace verb ≡ false → is_join verb ≡ true
+join_of_several Union several other = refl
+join_of_several Concat several other = refl
+join_of_several _ several other = absurd cc
+
+joined_by : (verb : Verb) (options : Options) (names : List (List ℕ)) → is_join verb ≡ true → input_files (record { command = verb; names = names; options = options }) ≡ take 2 names
+joined_by Union options names join = refl
+joined_by Concat options names join = refl
+joined_by _ options names join = absurd cc
+
+taken_in : (names : List (List ℕ)) (n p : ℕ) (x : List ℕ) → p < n → slice_get names p ≡ Some x → slice_get (take n names) p ≡ Some x
+taken_in [] n p x within e = absurd cc
+taken_in (a ∷ names) zero p x within e = absurd (omega (arith, within))
+taken_in (a ∷ names) (suc n) zero x within e = e
+taken_in (a ∷ names) (suc n) (suc p) x within e = taken_in names n p x (omega (arith, within)) e
+
+pub joined_in : (plan : Plan) (place : ℕ) (name : List ℕ) → is_join plan.command ≡ true → IsWhole plan → place < length (input_files plan) → slice_get plan.names place ≡ Some name → slice_get (input_files plan) place ≡ Some name
+joined_in plan place name join whole within at =
+    let two = two_files plan join whole in
+    subst (λ (files : List (List ℕ)). slice_get files place ≡ Some name) (sym (joined_by plan.command plan.options plan.names join)) (taken_in plan.names 2 place name (omega (arith, two, within)) at)
+
+-- the output of `replace` is the last name
+place_of_output : (verb : Verb) (decode : Bool) (n : ℕ) → is_replace verb ≡ true → output_place verb decode n ≡ n - 1
+place_of_output Replace decode n replace = refl
+place_of_output _ decode n replace = absurd cc
+
+last_name : (names : List (List ℕ)) (n : ℕ) (x : List ℕ) → length names ≡ suc n → slice_get names n ≡ Some x → drop n names ≡ x ∷ []
+last_name [] n x long e = absurd (omega (arith, long))
+last_name (a ∷ []) zero x long e = cc
+last_name (a ∷ b ∷ names) zero x long e = absurd (omega (arith, long))
+last_name (a ∷ names) (suc n) x long e = last_name names n x (omega (arith, long)) e
+
+pub stored_last : (plan : Plan) (name : List ℕ) → is_replace plan.command ≡ true → 1 ≤ length plan.names → slice_get plan.names (length plan.names - 1) ≡ Some name → outputs_of plan ≡ name ∷ []
+unfolding outputs_of
+stored_last plan name replace some at =
+    ap (λ n. drop n plan.names) (place_of_output plan.command plan.options.decode (length plan.names) replace)
+    ∙ last_name plan.names (length plan.names - 1) name (omega (arith, some)) at
+
+-- a command with several machines has one at least
+pub some_several : (plan : Plan) → is_several plan.command ≡ true → IsWhole plan → 0 < length (input_files plan)
+some_several plan several whole = go (is_replace plan.command) refl where
+  go : (b : Bool) → is_replace plan.command ≡ b → 0 < length (input_files plan)
+  go true e = some_files plan e whole
+  go false e =
+      let two = two_files plan (join_of_several plan.command several e) whole in
+      omega arith

@@ -7,7 +7,7 @@ use Rattle.fst_semiring.specs.Cost.{Cost}
 use Rattle.fst_machine.specs.Machine.{Machine}
 use Rattle.fst_words.specs.declared.plan.Plan.{Plan}
 use Rattle.fst_words.specs.declared.verb.Verb.{Verb}
-use Rattle.fst_words.specs.declared.verb.Verb.TheVariants.{Union, Concat}
+use Rattle.fst_words.specs.declared.verb.Verb.TheVariants.{Union, Concat, Replace}
 use Rattle.fst_words.specs.Plans.{input_files}
 use Rattle.fst_command.specs.declared.refusal.Refusal.{Refusal}
 use Rattle.fst_command.specs.declared.option_files.OptionFiles.{OptionFiles}
@@ -15,7 +15,7 @@ use Rattle.fst_command.specs.Plans.{Input, binary_form, inputs_for, inputs_of, i
 use Rattle.fst_command.specs.Contents.{Typed, AreMachines, machine_of_file}
 use Rattle.fst_command.specs.Causes.{Cause, kinds_differ}
 use Rattle.fst_command.specs.Checks.{HasOther, Passes, binary_check}
-use Rattle.fst_command.specs.Operations.{is_join}
+use Rattle.fst_command.specs.Operations.{is_several}
 use Rattle.fst_command.specs.Progress.{OptionsRead, Progress}
 use Rattle.fst_command.specs.Several.{AreOf, IsAddedAlike, IsAddedOther, SeveralRead}
 use Rattle.fst_command.specs.Steps.{Declines, Reads, Works}
@@ -46,19 +46,20 @@ take_one_more : {X : Type 0} (xs : List X) (i : ℕ) (x : X) → slice_get xs i 
 take_one_more xs i x e = ap (λ n. take n xs) (plus_one i) ∙ take_suc xs i x e
 
 -- a command with several machines names files in the binary form
-own_by : (verb : Verb) (names : List (List ℕ)) → is_join verb ≡ true → inputs_for verb names ≡ inputs_with binary_form names
+own_by : (verb : Verb) (names : List (List ℕ)) → is_several verb ≡ true → inputs_for verb names ≡ inputs_with binary_form names
 own_by Union names join = refl
 own_by Concat names join = refl
+own_by Replace names join = refl
 own_by _ names join = absurd cc
 
-pub own_several : (plan : Plan) → is_join plan.command ≡ true → own_inputs plan ≡ inputs_with binary_form (input_files plan)
+pub own_several : (plan : Plan) → is_several plan.command ≡ true → own_inputs plan ≡ inputs_with binary_form (input_files plan)
 own_several plan join = own_by plan.command (input_files plan) join
 
-pub count_several : (plan : Plan) → is_join plan.command ≡ true → length (own_inputs plan) ≡ length (input_files plan)
+pub count_several : (plan : Plan) → is_several plan.command ≡ true → length (own_inputs plan) ≡ length (input_files plan)
 count_several plan join = ap length (own_several plan join) ∙ length-map (input_files plan) (λ name. record { name = name; form = binary_form })
 
 -- the input in a place
-pub input_at : (plan : Plan) (place : ℕ) (name : List ℕ) → is_join plan.command ≡ true → slice_get (input_files plan) place ≡ Some name → slice_get (own_inputs plan) place ≡ Some (record { name = name; form = binary_form })
+pub input_at : (plan : Plan) (place : ℕ) (name : List ℕ) → is_several plan.command ≡ true → slice_get (input_files plan) place ≡ Some name → slice_get (own_inputs plan) place ≡ Some (record { name = name; form = binary_form })
 input_at plan place name join at =
     subst (λ (is : List Input). slice_get is place ≡ Some (record { name = name; form = binary_form })) (sym (own_several plan join))
     (named (input_files plan) place at) where
@@ -121,7 +122,7 @@ passes-added kind name content old new was is (inl added) cause found = not_both
 passes-added kind name content old new was is (inr added) cause found = not_both _ _ _ added.reads found.1
 
 -- one more of the files was read
-pub several-next : (plan : Plan) (files : OptionFiles) (kind : ArcType) (place : ℕ) (ms ns : List (Machine Cost)) (was is : Option ArcType) (old now new : Seen) (name content : List ℕ) → is_join plan.command ≡ true → 1 ≤ place → SeveralRead plan files kind place ms was old now → slice_get (input_files plan) place ≡ Some name → Reads name now new (Ok content) → IsAddedAlike kind content ms ns was is ⊎ IsAddedOther kind content was is → SeveralRead plan files kind (place + 1) ns is old new
+pub several-next : (plan : Plan) (files : OptionFiles) (kind : ArcType) (place : ℕ) (ms ns : List (Machine Cost)) (was is : Option ArcType) (old now new : Seen) (name content : List ℕ) → is_several plan.command ≡ true → 1 ≤ place → SeveralRead plan files kind place ms was old now → slice_get (input_files plan) place ≡ Some name → Reads name now new (Ok content) → IsAddedAlike kind content ms ns was is ⊎ IsAddedOther kind content was is → SeveralRead plan files kind (place + 1) ns is old new
 several-next plan files kind place ms ns was is old now new name content join few s at reads added =
     let i : Input = record { name = name; form = binary_form } in
     let own_at = input_at plan place name join at in
@@ -141,21 +142,21 @@ several-next plan files kind place ms ns was is old now new name content join fe
     }
 
 -- one more could not be read
-pub several-unread : (plan : Plan) (files : OptionFiles) (kind : ArcType) (place : ℕ) (ms : List (Machine Cost)) (was : Option ArcType) (old now new : Seen) (name : List ℕ) (refusal : Refusal) → is_join plan.command ≡ true → SeveralRead plan files kind place ms was old now → slice_get (input_files plan) place ≡ Some name → Reads name now new (Err refusal) → Works (Some plan) old new (Err refusal)
+pub several-unread : (plan : Plan) (files : OptionFiles) (kind : ArcType) (place : ℕ) (ms : List (Machine Cost)) (was : Option ArcType) (old now new : Seen) (name : List ℕ) (refusal : Refusal) → is_several plan.command ≡ true → SeveralRead plan files kind place ms was old now → slice_get (input_files plan) place ≡ Some name → Reads name now new (Err refusal) → Works (Some plan) old new (Err refusal)
 several-unread plan files kind place ms was old now new name refusal join s at reads =
     let i : Input = record { name = name; form = binary_form } in
     Works-unread plan (option_inputs plan.options ++ take place (own_inputs plan)) (drop (place + 1) (own_inputs plan)) (s.options ++ s.own) old now new i refusal
     (inputs_at plan place i (input_at plan place name join at)) s.progress reads
 
 -- one more was read and is no machine
-pub several-declined : (plan : Plan) (files : OptionFiles) (kind : ArcType) (place : ℕ) (ms : List (Machine Cost)) (was : Option ArcType) (old now new : Seen) (name content : List ℕ) (refusal : Refusal) → is_join plan.command ≡ true → SeveralRead plan files kind place ms was old now → slice_get (input_files plan) place ≡ Some name → Reads name now new (Ok content) → Declines (binary_check name content ∷ []) refusal → Works (Some plan) old new (Err refusal)
+pub several-declined : (plan : Plan) (files : OptionFiles) (kind : ArcType) (place : ℕ) (ms : List (Machine Cost)) (was : Option ArcType) (old now new : Seen) (name content : List ℕ) (refusal : Refusal) → is_several plan.command ≡ true → SeveralRead plan files kind place ms was old now → slice_get (input_files plan) place ≡ Some name → Reads name now new (Ok content) → Declines (binary_check name content ∷ []) refusal → Works (Some plan) old new (Err refusal)
 several-declined plan files kind place ms was old now new name content refusal join s at reads declines =
     let i : Input = record { name = name; form = binary_form } in
     Works-declined plan (option_inputs plan.options ++ take place (own_inputs plan)) (drop (place + 1) (own_inputs plan)) (s.options ++ s.own) old now new i content refusal
     (inputs_at plan place i (input_at plan place name join at)) s.progress reads declines
 
 -- the first of the files was read
-pub several-first : (plan : Plan) (files : OptionFiles) (kind : ArcType) (ms : List (Machine Cost)) (old mid now : Seen) (name content : List ℕ) → is_join plan.command ≡ true → OptionsRead plan files old mid → slice_get (input_files plan) 0 ≡ Some name → Reads name mid now (Ok content) → AreMachines kind (content ∷ []) ms → SeveralRead plan files kind 1 ms None old now
+pub several-first : (plan : Plan) (files : OptionFiles) (kind : ArcType) (ms : List (Machine Cost)) (old mid now : Seen) (name content : List ℕ) → is_several plan.command ≡ true → OptionsRead plan files old mid → slice_get (input_files plan) 0 ≡ Some name → Reads name mid now (Ok content) → AreMachines kind (content ∷ []) ms → SeveralRead plan files kind 1 ms None old now
 several-first plan files kind [] old mid now name content join o at reads are = absurd are
 several-first plan files kind (m ∷ ms) old mid now name content join o at reads are =
     let i : Input = record { name = name; form = binary_form } in
@@ -172,14 +173,14 @@ several-first plan files kind (m ∷ ms) old mid now name content join o at read
     }
 
 -- the first of the files is no machine
-pub first-declined : (plan : Plan) (files : OptionFiles) (old mid now : Seen) (name content : List ℕ) (refusal : Refusal) → is_join plan.command ≡ true → OptionsRead plan files old mid → slice_get (input_files plan) 0 ≡ Some name → Reads name mid now (Ok content) → Declines (binary_check name content ∷ []) refusal → Works (Some plan) old now (Err refusal)
+pub first-declined : (plan : Plan) (files : OptionFiles) (old mid now : Seen) (name content : List ℕ) (refusal : Refusal) → is_several plan.command ≡ true → OptionsRead plan files old mid → slice_get (input_files plan) 0 ≡ Some name → Reads name mid now (Ok content) → Declines (binary_check name content ∷ []) refusal → Works (Some plan) old now (Err refusal)
 first-declined plan files old mid now name content refusal join o at reads declines =
     let i : Input = record { name = name; form = binary_form } in
     let inputs = ap (λ own. option_inputs plan.options ++ own) (split_suc (own_inputs plan) 0 i (input_at plan 0 name join at)) in
     Works-declined plan (option_inputs plan.options) (drop 1 (own_inputs plan)) o.contents old mid now i content refusal inputs o.progress reads declines
 
 -- the first of the files could not be read
-pub first-unread : (plan : Plan) (files : OptionFiles) (old mid now : Seen) (name : List ℕ) (refusal : Refusal) → is_join plan.command ≡ true → OptionsRead plan files old mid → slice_get (input_files plan) 0 ≡ Some name → Reads name mid now (Err refusal) → Works (Some plan) old now (Err refusal)
+pub first-unread : (plan : Plan) (files : OptionFiles) (old mid now : Seen) (name : List ℕ) (refusal : Refusal) → is_several plan.command ≡ true → OptionsRead plan files old mid → slice_get (input_files plan) 0 ≡ Some name → Reads name mid now (Err refusal) → Works (Some plan) old now (Err refusal)
 first-unread plan files old mid now name refusal join o at reads =
     let i : Input = record { name = name; form = binary_form } in
     let inputs = ap (λ own. option_inputs plan.options ++ own) (split_suc (own_inputs plan) 0 i (input_at plan 0 name join at)) in
@@ -190,7 +191,7 @@ take_all [] = refl
 take_all (x ∷ xs) = ap (λ ys. x ∷ ys) (take_all xs)
 
 -- all of the files were read
-pub several-all : (plan : Plan) (files : OptionFiles) (kind : ArcType) (ms : List (Machine Cost)) (other : Option ArcType) (old now : Seen) → is_join plan.command ≡ true → (s : SeveralRead plan files kind (length (input_files plan)) ms other old now) → Progress plan (inputs_of plan) (s.options ++ s.own) old now
+pub several-all : (plan : Plan) (files : OptionFiles) (kind : ArcType) (ms : List (Machine Cost)) (other : Option ArcType) (old now : Seen) → is_several plan.command ≡ true → (s : SeveralRead plan files kind (length (input_files plan)) ms other old now) → Progress plan (inputs_of plan) (s.options ++ s.own) old now
 several-all plan files kind ms other old now join s =
     subst (λ (is : List Input). Progress plan (option_inputs plan.options ++ is) (s.options ++ s.own) old now)
     (ap (λ n. take n (own_inputs plan)) (sym (count_several plan join)) ∙ take_all (own_inputs plan)) s.progress

@@ -7,7 +7,7 @@ use Rattle.fst_desk.specs.Desk.{content_of}
 use Rattle.fst_words.specs.declared.plan.Plan.{Plan}
 use Rattle.fst_command.specs.declared.refusal.Refusal.{Refusal}
 use Rattle.fst_command.specs.Plans.{Input, inputs_of}
-use Rattle.fst_command.specs.Causes.{Cause, bad_codex, undecodable, too_long, bad_symbols, bad_pairs, bad_text, bad_binary, kinds_differ, too_large, unprintable, refused, no_memory, unread}
+use Rattle.fst_command.specs.Causes.{Cause, recursive, bad_codex, undecodable, too_long, bad_symbols, bad_pairs, bad_text, bad_binary, kinds_differ, too_large, unprintable, refused, no_memory, unread}
 use Rattle.fst_command.specs.Checks.{Check, Passes, AllPass, IsFirst, form_check, input_checks, later_checks, length_check, read_limit}
 use Rattle.fst_command.specs.Outputs.{Makes}
 use Rattle.fst_command.specs.Outcome.{Agrees, TakesMore}
@@ -97,6 +97,7 @@ takes_nothing (bad_text name fault) taken h = tt
 takes_nothing (bad_binary name fault) taken h = tt
 takes_nothing (bad_codex name fault) taken h = tt
 takes_nothing (kinds_differ first other) taken h = tt
+takes_nothing (recursive label) taken h = tt
 takes_nothing (too_large fault) taken h = tt
 takes_nothing (undecodable fault) taken h = tt
 takes_nothing (unprintable fault) taken h = tt

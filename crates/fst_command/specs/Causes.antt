@@ -39,6 +39,8 @@ pub data Cause : Type 0 where
   bad_codex : List ℕ → CodexFault → Cause
   -- a machine or a codex has another arc type than the first machine
   kinds_differ : ArcType → ArcType → Cause
+  -- a rule can call itself
+  recursive : ℕ → Cause
   -- the machine that the command makes has too many states or arcs
   too_large : RationalFault → Cause
   -- the machine is not decoded by the codex
@@ -181,6 +183,10 @@ decode_line decoding.Memory = codes "fst: out of memory\n"
 abbrev pub kinds_line : ArcType → ArcType → List ℕ
 kinds_line first other = concat (codes "fst: arc types differ: " ∷ name_of first ∷ codes " and " ∷ name_of other ∷ codes "\n" ∷ [])
 
+-- the line of a rule that can call itself
+abbrev pub recursive_line : ℕ → List ℕ
+recursive_line label = concat (codes "fst: label " ∷ decimal label ∷ codes " is recursive\n" ∷ [])
+
 -- the line of a machine that is too large
 abbrev pub size_line : RationalFault → List ℕ
 size_line sizes.TooManyStates = codes "fst: too many states\n"
@@ -202,6 +208,7 @@ cause_line (bad_text name fault) = placed_line name (codes "line") (line_at faul
 cause_line (bad_binary name fault) = placed_line name (codes "byte") fault.offset (binary_reason fault.kind)
 cause_line (bad_codex name fault) = placed_line name (codes "byte") fault.offset (codex_reason fault.kind)
 cause_line (kinds_differ first other) = kinds_line first other
+cause_line (recursive label) = recursive_line label
 cause_line (too_large fault) = size_line fault
 cause_line (undecodable fault) = decode_line fault
 cause_line (unprintable fault) = print_line fault

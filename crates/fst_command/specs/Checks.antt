@@ -10,6 +10,9 @@ use Rattle.fst_codex.specs.Decoded.{Decodes}
 use Rattle.fst_codex.specs.Table.{Table}
 use Rattle.fst_codex.specs.declared.decoding.DecodeFault.{DecodeFault}
 use Rattle.fst_codex.specs.declared.decoding.DecodeFault.TheVariants as decoding
+use Rattle.fst_replace.specs.Answers.{IsRecursiveLabel}
+use Rattle.fst_replace.specs.Calls.{HasNoRecursion, called}
+use Rattle.fst_replace.specs.Expansion.{replaced}
 use Rattle.fst_text.specs.declared.fault.PrintFault.{PrintFault}
 use Rattle.fst_text.specs.Grammar.{machine_of_text}
 use Rattle.fst_text.specs.Printed.{text_of_machine}
@@ -17,10 +20,10 @@ use Rattle.fst_symbols.specs.Reading.{table_of_text}
 use Rattle.fst_words.specs.declared.options.Options.{Options}
 use Rattle.fst_words.specs.declared.plan.Plan.{Plan}
 use Rattle.fst_words.specs.declared.verb.Verb.{Verb}
-use Rattle.fst_words.specs.declared.verb.Verb.TheVariants.{Print, Info, Invert, Reverse, Connect, Union, Concat, Closure, Project, Relabel, Arcsort, Encode}
-use Rattle.fst_command.specs.Plans.{Form, codex_form, symbols_form, pairs_form, text_form, binary_form, Input, inputs_of, arc_type_of}
-use Rattle.fst_command.specs.Contents.{TypedCodex, codex_of_file, Choices, Typed, AreMachines, machine_of_file, choices_of, own_contents}
-use Rattle.fst_command.specs.Causes.{Cause, bad_codex, undecodable, too_long, bad_symbols, bad_pairs, bad_text, bad_binary, kinds_differ, too_large, unprintable}
+use Rattle.fst_words.specs.declared.verb.Verb.TheVariants.{Print, Info, Invert, Reverse, Connect, Union, Concat, Closure, Project, Relabel, Arcsort, Encode, Replace}
+use Rattle.fst_command.specs.Plans.{Form, codex_form, symbols_form, pairs_form, text_form, binary_form, Input, inputs_of, arc_type_of, rule_labels}
+use Rattle.fst_command.specs.Contents.{ruled, TypedCodex, codex_of_file, Choices, Typed, AreMachines, machine_of_file, choices_of, own_contents}
+use Rattle.fst_command.specs.Causes.{Cause, recursive, bad_codex, undecodable, too_long, bad_symbols, bad_pairs, bad_text, bad_binary, kinds_differ, too_large, unprintable}
 use Rattle.fst_command.specs.Operations.{grown}
 
 -- the most bytes that are read of an input: the largest machine of every arc type fits
@@ -43,6 +46,10 @@ pub data Check : Type 0 where
   codex_check : List ℕ → List ℕ → Check
   -- have the machines of the files one arc type
   kinds_check : List (List ℕ) → Check
+  -- can no rule that the root reaches call itself
+  recursion_check : List ℕ → List (List ℕ) → Check
+  -- is the machine of the rules small enough
+  expansion_check : List ℕ → List (List ℕ) → Check
   -- is the machine that the command makes of the files small enough
   size_check : Verb → Options → List (List ℕ) → Check
   -- has the codex of the second file the arc type of the machine of the first
@@ -92,6 +99,25 @@ pub record IsTooLarge (verb : Verb) (options : Options) (files : List (List ℕ)
   pub past : IsPast made fault
   pub is : cause ≡ too_large fault
 
+-- a rule can call itself, and this is the label of the first
+pub record IsRecursive (labels : List ℕ) (files : List (List ℕ)) (cause : Cause) : Type 0 where
+  pub kind : ArcType
+  pub machines : List (Machine Cost)
+  pub label : ℕ
+  pub reads : AreMachines kind files machines
+  pub recurs : IsRecursiveLabel (ruled labels machines) label
+  pub is : cause ≡ recursive label
+
+-- no rule can call itself, and the machine of the rules is past a limit
+pub record IsTooExpanded (labels : List ℕ) (files : List (List ℕ)) (cause : Cause) : Type 0 where
+  pub kind : ArcType
+  pub machines : List (Machine Cost)
+  pub fault : RationalFault
+  pub reads : AreMachines kind files machines
+  pub ends : HasNoRecursion (called (ruled labels machines))
+  pub past : IsPast (replaced (ruled labels machines)) fault
+  pub is : cause ≡ too_large fault
+
 -- the codex of a file has another arc type than the machine of a file
 pub record CodexDiffers (file codex : List ℕ) (cause : Cause) : Type 0 where
   pub machine : Typed
@@ -131,6 +157,8 @@ Finds (binary_check name content) cause = (fault : _) × (machine_of_file conten
 Finds (codex_check name content) cause = (fault : _) × (codex_of_file content ≡ Err fault) × (cause ≡ bad_codex name fault)
 Finds (kinds_check files) cause = KindsDiffer files cause
 Finds (size_check verb options files) cause = IsTooLarge verb options files cause
+Finds (recursion_check labels files) cause = IsRecursive labels files cause
+Finds (expansion_check labels files) cause = IsTooExpanded labels files cause
 Finds (codex_kind_check file codex) cause = CodexDiffers file codex cause
 Finds (decode_check file codex) cause = IsUndecodable file codex cause
 Finds (print_check choices file) cause = IsUnprintable choices file cause
@@ -169,30 +197,35 @@ input_checks plan before (i ∷ is) (c ∷ cs) = length_check i.name c ∷ form_
 abbrev pub operation_checks : Verb → Options → List (List ℕ) → List Check
 operation_checks verb options files = kinds_check files ∷ size_check verb options files ∷ []
 
+-- what is asked of the files of `replace`, which have these labels
+abbrev pub replace_checks : List ℕ → List (List ℕ) → List Check
+replace_checks labels files = kinds_check files ∷ recursion_check labels files ∷ expansion_check labels files ∷ []
+
 -- what is asked of the files of `encode`, and of `encode --decode`
 abbrev pub coding_checks : Bool → List (List ℕ) → List Check
 coding_checks true (file ∷ codex ∷ []) = codex_kind_check file codex ∷ decode_check file codex ∷ []
 coding_checks _ files = kinds_check files ∷ []
 
 -- what is asked of the machines of the files before the work on them
-abbrev pub machine_checks : Verb → Options → Choices → List (List ℕ) → List Check
-machine_checks Print options choices (file ∷ files) = kinds_check (file ∷ files) ∷ print_check choices file ∷ []
-machine_checks Info options choices files = kinds_check files ∷ []
-machine_checks Invert options choices files = operation_checks Invert options files
-machine_checks Reverse options choices files = operation_checks Reverse options files
-machine_checks Connect options choices files = operation_checks Connect options files
-machine_checks Union options choices files = operation_checks Union options files
-machine_checks Concat options choices files = operation_checks Concat options files
-machine_checks Closure options choices files = operation_checks Closure options files
-machine_checks Project options choices files = operation_checks Project options files
-machine_checks Relabel options choices files = operation_checks Relabel options files
-machine_checks Arcsort options choices files = operation_checks Arcsort options files
-machine_checks Encode options choices files = coding_checks options.decode files
-machine_checks _ options choices files = []
+abbrev pub machine_checks : Verb → List ℕ → Options → Choices → List (List ℕ) → List Check
+machine_checks Print labels options choices (file ∷ files) = kinds_check (file ∷ files) ∷ print_check choices file ∷ []
+machine_checks Info labels options choices files = kinds_check files ∷ []
+machine_checks Invert labels options choices files = operation_checks Invert options files
+machine_checks Reverse labels options choices files = operation_checks Reverse options files
+machine_checks Connect labels options choices files = operation_checks Connect options files
+machine_checks Union labels options choices files = operation_checks Union options files
+machine_checks Concat labels options choices files = operation_checks Concat options files
+machine_checks Closure labels options choices files = operation_checks Closure options files
+machine_checks Project labels options choices files = operation_checks Project options files
+machine_checks Relabel labels options choices files = operation_checks Relabel options files
+machine_checks Arcsort labels options choices files = operation_checks Arcsort options files
+machine_checks Encode labels options choices files = coding_checks options.decode files
+machine_checks Replace labels options choices files = replace_checks labels files
+machine_checks _ labels options choices files = []
 
 -- what is asked behind the inputs
 abbrev pub later_checks : Plan → List (List ℕ) → List Check
-later_checks plan contents = machine_checks plan.command plan.options (choices_of plan.options contents) (own_contents plan.options contents)
+later_checks plan contents = machine_checks plan.command (rule_labels plan) plan.options (choices_of plan.options contents) (own_contents plan.options contents)
 
 -- all that is asked of a command, in order
 abbrev pub checks_of : Plan → List (List ℕ) → List Check

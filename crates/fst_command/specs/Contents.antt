@@ -14,6 +14,7 @@ use Rattle.fst_binary.specs.declared.fault.BinaryFault.{BinaryFault}
 use Rattle.fst_codex.specs.Reading.{codex_arc_type_of_bytes, codex_of_bytes}
 use Rattle.fst_codex.specs.Table.{Table}
 use Rattle.fst_codex.specs.declared.fault.CodexFault.{CodexFault}
+use Rattle.fst_replace.specs.Rules.{Labelled}
 use Rattle.fst_words.specs.declared.options.Options.{Options}
 
 -- how texts are read and printed
@@ -118,3 +119,12 @@ codex_by bytes (Err fault) = Err fault
 -- the codex of a file, or the first fault of its form
 abbrev pub codex_of_file : List ℕ → Result TypedCodex CodexFault
 codex_of_file bytes = codex_by bytes (codex_arc_type_of_bytes bytes)
+
+-- machines under labels, in order
+abbrev pub ruled_by : {V : Type 0} → List ℕ → List (Machine V) → List (Labelled V)
+ruled_by [] machines = []
+ruled_by (label ∷ labels) [] = []
+ruled_by (label ∷ labels) (m ∷ machines) = record { label = label; machine = m } ∷ ruled_by labels machines
+
+abbrev pub ruled : List ℕ → List (Machine Cost) → List (Labelled Cost)
+ruled labels machines = ruled_by labels machines

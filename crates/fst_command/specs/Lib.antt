@@ -13,3 +13,4 @@ pub mod Steps
 pub mod Progress
 pub mod Several
 pub mod Coding
+pub mod Replacing

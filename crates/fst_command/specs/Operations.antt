@@ -18,7 +18,7 @@ use Rattle.fst_trim.specs.declared.side.Side.{Side}
 use Rattle.fst_trim.specs.declared.side.Side.TheVariants.{Input, Output}
 use Rattle.fst_words.specs.declared.options.Options.{Options}
 use Rattle.fst_words.specs.declared.verb.Verb.{Verb}
-use Rattle.fst_words.specs.declared.verb.Verb.TheVariants.{Invert, Reverse, Connect, Union, Concat, Closure, Project, Relabel, Arcsort, Encode}
+use Rattle.fst_words.specs.declared.verb.Verb.TheVariants.{Invert, Reverse, Connect, Union, Concat, Closure, Project, Relabel, Arcsort, Encode, Replace}
 use Rattle.fst_command.specs.Contents.{Renaming}
 
 -- the commands that make a machine of one machine
@@ -46,6 +46,13 @@ abbrev pub is_join : Verb → Bool
 is_join Union = true
 is_join Concat = true
 is_join _ = false
+
+-- the commands that make a machine of several
+abbrev pub is_several : Verb → Bool
+is_several Union = true
+is_several Concat = true
+is_several Replace = true
+is_several _ = false
 
 -- the command that encodes and decodes
 abbrev pub is_coding : Verb → Bool

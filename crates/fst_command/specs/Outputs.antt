@@ -13,14 +13,15 @@ use Rattle.fst_codex.specs.Encoded.{IsEncoded}
 use Rattle.fst_codex.specs.Spelling.{codex_spelling}
 use Rattle.fst_codex.specs.Table.{Table}
 use Rattle.fst_codex.specs.declared.decoding.DecodeFault.{DecodeFault}
+use Rattle.fst_replace.specs.Expansion.{replaced}
 use Rattle.fst_words.specs.declared.options.Options.{Options}
 use Rattle.fst_words.specs.declared.plan.Plan.{Plan}
-use Rattle.fst_words.specs.declared.verb.Verb.TheVariants.{Compile, Print, Info, Invert, Reverse, Connect, Union, Concat, Closure, Project, Relabel, Arcsort, Encode}
+use Rattle.fst_words.specs.declared.verb.Verb.TheVariants.{Compile, Print, Info, Invert, Reverse, Connect, Union, Concat, Closure, Project, Relabel, Arcsort, Encode, Replace}
 use Rattle.fst_words.specs.declared.verb.Verb.{Verb}
 use Rattle.fst_words.specs.Plans.{outputs_of}
-use Rattle.fst_command.specs.Plans.{arc_type_of}
+use Rattle.fst_command.specs.Plans.{arc_type_of, rule_labels}
 use Rattle.fst_command.specs.Operations.{Denotes, Operates}
-use Rattle.fst_command.specs.Contents.{codex_of_file, Choices, Renaming, Typed, AreMachines, machine_of_file, choices_of, own_contents, renaming_of}
+use Rattle.fst_command.specs.Contents.{codex_of_file, ruled, Choices, Renaming, Typed, AreMachines, machine_of_file, choices_of, own_contents, renaming_of}
 use Rattle.fst_command.specs.Descriptions.{info_text}
 
 -- an output: its name and its bytes
@@ -91,30 +92,40 @@ pub record Decoded (contents made : List (List ℕ)) : Type 0 where
   pub decodes : Decodes machine.kind (λ w. w) machine.machine table (Ok result)
   pub makes : made ≡ spelling machine.kind result ∷ []
 
+-- `replace` makes the binary form of the machine of the rules
+pub record Replaced (labels : List ℕ) (contents made : List (List ℕ)) : Type 0 where
+  pub kind : ArcType
+  pub machines : List (Machine Cost)
+  pub result : Machine Cost
+  pub reads : AreMachines kind contents machines
+  pub replaces : result ≡ replaced (ruled labels machines)
+  pub makes : made ≡ spelling kind result ∷ []
+
 -- with the flag for decoding, and without it
 abbrev pub CodedBy : Bool → Bool → List (List ℕ) → List (List ℕ) → Type 0
 CodedBy true weights contents made = Decoded contents made
 CodedBy false weights contents made = Encoded weights contents made
 
 -- what a command makes of the contents of its own inputs, for each of its outputs
-abbrev pub MakesBy : Verb → Options → Choices → Renaming → List (List ℕ) → List (List ℕ) → Type 0
-MakesBy Compile options choices renaming contents made = Compiled options choices contents made
-MakesBy Print options choices renaming contents made = Printed choices contents made
-MakesBy Info options choices renaming contents made = Described contents made
-MakesBy Invert options choices renaming contents made = Operated Invert options renaming contents made
-MakesBy Reverse options choices renaming contents made = Operated Reverse options renaming contents made
-MakesBy Connect options choices renaming contents made = Operated Connect options renaming contents made
-MakesBy Union options choices renaming contents made = Operated Union options renaming contents made
-MakesBy Concat options choices renaming contents made = Operated Concat options renaming contents made
-MakesBy Closure options choices renaming contents made = Operated Closure options renaming contents made
-MakesBy Project options choices renaming contents made = Operated Project options renaming contents made
-MakesBy Relabel options choices renaming contents made = Operated Relabel options renaming contents made
-MakesBy Arcsort options choices renaming contents made = Operated Arcsort options renaming contents made
-MakesBy Encode options choices renaming contents made = CodedBy options.decode options.encode_weights contents made
-MakesBy _ options choices renaming contents made = ⊥
+abbrev pub MakesBy : Verb → List ℕ → Options → Choices → Renaming → List (List ℕ) → List (List ℕ) → Type 0
+MakesBy Compile labels options choices renaming contents made = Compiled options choices contents made
+MakesBy Print labels options choices renaming contents made = Printed choices contents made
+MakesBy Info labels options choices renaming contents made = Described contents made
+MakesBy Invert labels options choices renaming contents made = Operated Invert options renaming contents made
+MakesBy Reverse labels options choices renaming contents made = Operated Reverse options renaming contents made
+MakesBy Connect labels options choices renaming contents made = Operated Connect options renaming contents made
+MakesBy Union labels options choices renaming contents made = Operated Union options renaming contents made
+MakesBy Concat labels options choices renaming contents made = Operated Concat options renaming contents made
+MakesBy Closure labels options choices renaming contents made = Operated Closure options renaming contents made
+MakesBy Project labels options choices renaming contents made = Operated Project options renaming contents made
+MakesBy Relabel labels options choices renaming contents made = Operated Relabel options renaming contents made
+MakesBy Arcsort labels options choices renaming contents made = Operated Arcsort options renaming contents made
+MakesBy Encode labels options choices renaming contents made = CodedBy options.decode options.encode_weights contents made
+MakesBy Replace labels options choices renaming contents made = Replaced labels contents made
+MakesBy _ labels options choices renaming contents made = ⊥
 
 abbrev pub Makes : Plan → List (List ℕ) → List (List ℕ) → Type 0
-Makes plan contents = MakesBy plan.command plan.options (choices_of plan.options contents) (renaming_of plan.options contents) (own_contents plan.options contents)
+Makes plan contents = MakesBy plan.command (rule_labels plan) plan.options (choices_of plan.options contents) (renaming_of plan.options contents) (own_contents plan.options contents)
 
 -- the outputs of these names have these bytes, in order
 abbrev pub AreNamed : List (List ℕ) → List (List ℕ) → List Output → Type 0

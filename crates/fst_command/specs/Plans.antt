@@ -1,12 +1,14 @@
 -- What is asked of the words of a command line that names a command of this program.
 use Rattle.std.specs.Prelude.{◌∷◌, ℕ, Bool, true, false, List, ◌++◌, map, Option, Some, None, option_and_then, option_to_list, unwrap_or, if◌then◌else◌}
+use Rattle.std.specs.List.{filter_map}
 use Rattle.fst_semiring.specs.declared.arc_type.ArcType.{ArcType}
 use Rattle.fst_semiring.specs.declared.arc_type.ArcType.TheVariants.{Tropical}
 use Rattle.fst_words.specs.declared.verb.Verb.{Verb}
-use Rattle.fst_words.specs.declared.verb.Verb.TheVariants.{Compile, Print, Info, Invert, Reverse, Connect, Union, Concat, Closure, Project, Relabel, Arcsort, Encode}
+use Rattle.fst_words.specs.declared.verb.Verb.TheVariants.{Compile, Print, Info, Invert, Reverse, Connect, Union, Concat, Closure, Project, Relabel, Arcsort, Encode, Replace}
 use Rattle.fst_words.specs.declared.options.Options.{Options}
 use Rattle.fst_words.specs.declared.plan.Plan.{Plan}
-use Rattle.fst_words.specs.Plans.{input_files}
+use Rattle.fst_words.specs.Plans.{input_files, pair_labels}
+use Rattle.fst_words.specs.Values.{label_of}
 use Rattle.fst_words.specs.Plans as words
 
 -- the commands that are built; the words of the others are refused
@@ -24,6 +26,7 @@ is_built Project = true
 is_built Relabel = true
 is_built Arcsort = true
 is_built Encode = true
+is_built Replace = true
 is_built _ = false
 
 -- those with one input of their own and one output
@@ -99,3 +102,7 @@ inputs_of plan = option_inputs plan.options ++ own_inputs plan
 -- the arc type of the machine that is compiled
 abbrev pub arc_type_of : Options → ArcType
 arc_type_of options = unwrap_or options.arc_type Tropical
+
+-- the labels of the rules of `replace`, in order
+abbrev pub rule_labels : Plan → List ℕ
+rule_labels plan = filter_map label_of (pair_labels plan.names)

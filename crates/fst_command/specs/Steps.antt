@@ -11,12 +11,12 @@ use Rattle.fst_binary.specs.Spelling.{spelling}
 use Rattle.fst_words.specs.declared.options.Options.{Options}
 use Rattle.fst_words.specs.declared.plan.Plan.{Plan}
 use Rattle.fst_words.specs.declared.verb.Verb.{Verb}
-use Rattle.fst_words.specs.declared.verb.Verb.TheVariants.{Compile, Print, Info, Invert, Reverse, Connect, Closure, Project, Relabel, Arcsort}
+use Rattle.fst_words.specs.declared.verb.Verb.TheVariants.{Compile, Print, Info, Invert, Reverse, Connect, Union, Concat, Closure, Project, Replace, Relabel, Arcsort}
 use Rattle.fst_command.specs.Plans.{Input, arc_type_of}
 use Rattle.fst_command.specs.Contents.{Choices, Renaming, Typed, machine_of_file}
-use Rattle.fst_command.specs.Causes.{Cause, bad_codex, undecodable, too_long, bad_symbols, bad_pairs, bad_text, bad_binary, kinds_differ, too_large, unprintable, Answer, done, refused, no_memory, unread, unwritten}
-use Rattle.fst_command.specs.Checks.{Check, codex_check, codex_kind_check, decode_check, text_check, binary_check, kinds_check, print_check, read_limit, AllPass, IsFirst, form_check, operation_checks, later_checks}
-use Rattle.fst_command.specs.Outputs.{Decoded, Encoded, Described, Makes, Operated}
+use Rattle.fst_command.specs.Causes.{Cause, recursive, bad_codex, undecodable, too_long, bad_symbols, bad_pairs, bad_text, bad_binary, kinds_differ, too_large, unprintable, Answer, done, refused, no_memory, unread, unwritten}
+use Rattle.fst_command.specs.Checks.{Check, codex_check, codex_kind_check, decode_check, text_check, binary_check, kinds_check, print_check, read_limit, AllPass, IsFirst, form_check, operation_checks, later_checks, replace_checks}
+use Rattle.fst_command.specs.Outputs.{Decoded, Encoded, Described, Makes, Operated, Replaced}
 use Rattle.fst_command.specs.Outcome.{Answers}
 use Rattle.fst_command.specs.declared.refusal.Refusal.{Refusal}
 use Rattle.fst_command.specs.Told.{Tells}
@@ -116,6 +116,7 @@ IsOfForm (bad_text name fault) = Unit {0}
 IsOfForm (bad_binary name fault) = Unit {0}
 IsOfForm (bad_codex name fault) = Unit {0}
 IsOfForm (kinds_differ first other) = Unit {0}
+IsOfForm (recursive label) = Unit {0}
 IsOfForm (too_large fault) = Unit {0}
 IsOfForm (undecodable fault) = Unit {0}
 IsOfForm (unprintable fault) = Unit {0}
@@ -180,9 +181,20 @@ DescribesTo name content result = Settles (binary_check name content ∷ kinds_c
 abbrev pub OperatesTo : Verb → Options → Renaming → List ℕ → List ℕ → Result (List ℕ) Refusal → Type 0
 OperatesTo verb options renaming name content result = Settles (binary_check name content ∷ operation_checks verb options (content ∷ [])) (Operated verb options renaming (content ∷ [])) result
 
--- that of the machine that is made of the machines of several files, which were read
-abbrev pub CombinesTo : Verb → Options → Renaming → List (List ℕ) → Result (List ℕ) Refusal → Type 0
-CombinesTo verb options renaming files result = Settles (operation_checks verb options files) (Operated verb options renaming files) result
+-- that of the machine that is made of the machines of two files, which were read
+abbrev pub JoinsTo : Verb → Options → Renaming → List (List ℕ) → Result (List ℕ) Refusal → Type 0
+JoinsTo verb options renaming files result = Settles (operation_checks verb options files) (Operated verb options renaming files) result
+
+-- that of the machine of rules, whose files were read
+abbrev pub ReplacesTo : List ℕ → List (List ℕ) → Result (List ℕ) Refusal → Type 0
+ReplacesTo labels files result = Settles (replace_checks labels files) (Replaced labels files) result
+
+-- that of the machine that a command makes of the machines of several files, which were read
+abbrev pub CombinesTo : Verb → List ℕ → Options → Renaming → List (List ℕ) → Result (List ℕ) Refusal → Type 0
+CombinesTo Union labels options renaming files result = JoinsTo Union options renaming files result
+CombinesTo Concat labels options renaming files result = JoinsTo Concat options renaming files result
+CombinesTo Replace labels options renaming files result = ReplacesTo labels files result
+CombinesTo _ labels options renaming files result = ⊥
 
 -- what a command with one input of its own makes of its content
 abbrev pub MakesTo : Verb → Options → Choices → Renaming → List ℕ → List ℕ → Result (List ℕ) Refusal → Type 0

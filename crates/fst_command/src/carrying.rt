@@ -4,7 +4,7 @@ ghost use Rattle.std.specs.Prelude.{◌≡◌, [], ◌∷◌, Some, true, false}
 ghost use Rattle.std.specs.Result.{result_map_both};
 ghost use Rattle.fst_words.specs.PlanLaws.{IsWhole};
 ghost use Rattle.fst_words.specs.Plans.{outputs_of};
-ghost use Rattle.fst_command.specs.Operations.{is_coding, is_join};
+ghost use Rattle.fst_command.specs.Operations.{is_coding, is_several};
 ghost use Rattle.fst_command.specs.Plans.{is_built, is_single};
 ghost use Rattle.fst_command.specs.Progress.{PreparesBehind, PreparesBoth, WorksBehind, choices_with, renaming_in};
 ghost use Rattle.fst_command.specs.Steps.{MakesTo, Works};
@@ -14,7 +14,7 @@ use crate::encoding::{Coded, encoded};
 use crate::files::{read_input, write_both, write_output};
 use crate::forms::{compiled, printed};
 use crate::joins::prepared;
-use crate::machines::machine_name;
+use crate::machines::{machine_name, replaces};
 use crate::operations::operated;
 use crate::option_files::{OptionFiles, read_options};
 use crate::refusal::Refusal;
@@ -26,10 +26,10 @@ use fst_words::{Options, Plan, Verb};
 use std::alloc::Global;
 
 /// Whether a command makes a machine of several.
-fn joins(verb: Verb) -> bool
-    ensures { result ≡ is_join verb }
+fn combines(verb: Verb) -> bool
+    ensures { result ≡ is_several verb }
 {
-    matches!(verb, Verb::Union | Verb::Concat)
+    matches!(verb, Verb::Union | Verb::Concat | Verb::Replace)
 }
 
 /// Whether a command encodes or decodes.
@@ -98,13 +98,13 @@ fn prepare_single<D: Desk>(
 }
 
 /// The bytes of the output of a command that makes a machine of several.
-fn prepare_join<D: Desk>(
+fn prepare_several<D: Desk>(
     alloc: Global,
     desk: &mut D,
     plan: &Plan,
     files: &OptionFiles,
 ) -> Result<Vec<u8>, Refusal>
-    requires join { is_join plan.now.command ≡ true }
+    requires several { is_several plan.now.command ≡ true }
     requires whole { IsWhole plan.now }
     ensures { PreparesBehind plan.now files.now (D.seen desk.old) (D.seen desk.new) (result_map_both (λ v. v.items) (λ e. e) result) }
 {
@@ -168,8 +168,8 @@ fn prepare<D: Desk>(
     requires whole { IsWhole plan.now }
     ensures { PreparesBehind plan.now files.now (D.seen desk.old) (D.seen desk.new) (result_map_both (λ v. v.items) (λ e. e) result) }
 {
-    if joins(plan.command) {
-        prepare_join(alloc, desk, plan, files)
+    if combines(plan.command) {
+        prepare_several(alloc, desk, plan, files)
     } else if codes(plan.command) {
         prepare_decoding(alloc, desk, plan, files)
     } else {
@@ -184,7 +184,10 @@ fn output_name(plan: &Plan) -> &str
     requires whole { IsWhole plan.now }
     ensures { outputs_of plan.now ≡ result.now ∷ [] }
 {
-    if joins(plan.command) {
+    let names = plan.names.len();
+    if replaces(plan.command) {
+        plan.names.item(names - 1).text()
+    } else if combines(plan.command) {
         plan.names.item(2).text()
     } else if codes(plan.command) {
         plan.names.item(2).text()

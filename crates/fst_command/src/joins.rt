@@ -7,12 +7,14 @@ ghost use Rattle.fst_binary.specs.Reading.{arc_type_of_bytes};
 ghost use Rattle.fst_words.specs.PlanLaws.{IsWhole};
 ghost use Rattle.fst_words.specs.Plans.{input_files};
 ghost use Rattle.fst_command.specs.Contents.{AreMachines, Renaming};
-ghost use Rattle.fst_command.specs.Operations.{Denotes, IsLimitedBy, Operates, grown, is_join};
+ghost use Rattle.fst_command.specs.Operations.{Denotes, IsLimitedBy, Operates, grown, is_join, is_several};
+ghost use Rattle.fst_command.specs.Plans.{rule_labels};
 ghost use Rattle.fst_command.specs.Several.{AreOf, PreparesSeveral};
-ghost use Rattle.fst_command.specs.Steps.{CombinesTo};
+ghost use Rattle.fst_command.specs.Steps.{CombinesTo, JoinsTo};
 
-use crate::machines::{Machines, first_machine, read_others};
+use crate::machines::{Machines, first_machine, read_others, replaces};
 use crate::refusal::{Refusal, kinds_apart, not_binary, too_large};
+use crate::replacement::replaced;
 use fst_binary::{arc_type, encode};
 use fst_desk::Desk;
 use fst_machine::Fst;
@@ -44,7 +46,7 @@ fn join_of<W: Weight>(
 fn joined<W: Weight>(alloc: Global, verb: Verb, list: Vec<Fst<W>>) -> Result<Vec<u8>, Refusal>
     requires join { is_join verb ≡ true }
     requires two { length list.items ≡ 2 }
-    ensures { (options : Options) (renaming : Renaming) (files : List (List ℕ)) → AreMachines W.KIND files (map (valued W.value) list.items) → CombinesTo verb options renaming files (result_map_both (λ v. v.items) (λ e. e) result) }
+    ensures { (options : Options) (renaming : Renaming) (files : List (List ℕ)) → AreMachines W.KIND files (map (valued W.value) list.items) → JoinsTo verb options renaming files (result_map_both (λ v. v.items) (λ e. e) result) }
 {
     let made = match join_of(alloc, verb, &list[0], &list[1]) {
         Ok(made) => made,
@@ -58,14 +60,25 @@ fn joined<W: Weight>(alloc: Global, verb: Verb, list: Vec<Fst<W>>) -> Result<Vec
 }
 
 /// The bytes of the machine that a command makes of the machines of its files, where they have one arc type.
-fn combined<W: Weight>(alloc: Global, verb: Verb, machines: Machines<W>) -> Result<Vec<u8>, Refusal>
-    requires join { is_join verb ≡ true }
-    requires two { machines.other ≡ None → length machines.list.items ≡ 2 }
-    ensures { (options : Options) (renaming : Renaming) (files : List (List ℕ)) → AreOf W.KIND files (map (valued W.value) machines.list.items) machines.other → CombinesTo verb options renaming files (result_map_both (λ v. v.items) (λ e. e) result) }
+fn combined<W: Weight>(
+    alloc: Global,
+    plan: &Plan,
+    machines: Machines<W>,
+) -> Result<Vec<u8>, Refusal>
+    requires several { is_several plan.now.command ≡ true }
+    requires whole { IsWhole plan.now }
+    requires all { machines.other ≡ None → length machines.list.items ≡ length (input_files plan.now) }
+    ensures { (options : Options) (renaming : Renaming) (files : List (List ℕ)) → AreOf W.KIND files (map (valued W.value) machines.list.items) machines.other → CombinesTo plan.now.command (rule_labels plan.now) options renaming files (result_map_both (λ v. v.items) (λ e. e) result) }
 {
     match machines.other {
         Some(other) => Err(kinds_apart(alloc, W::KIND, other)),
-        None => joined(alloc, verb, machines.list),
+        None => {
+            if replaces(plan.command) {
+                replaced(alloc, plan, machines.list)
+            } else {
+                joined(alloc, plan.command, machines.list)
+            }
+        }
     }
 }
 
@@ -78,7 +91,7 @@ fn prepared_as<W: Weight, D: Desk>(
     name: &str,
     content: Vec<u8>,
 ) -> Result<Vec<u8>, Refusal>
-    requires join { is_join plan.now.command ≡ true }
+    requires several { is_several plan.now.command ≡ true }
     requires whole { IsWhole plan.now }
     requires named { slice_get (input_files plan.now) 0 ≡ Some name.now }
     requires kind { arc_type_of_bytes content.items ≡ Ok W.KIND }
@@ -92,7 +105,7 @@ fn prepared_as<W: Weight, D: Desk>(
         Ok(()) => {}
         Err(refusal) => return Err(refusal),
     }
-    combined(alloc, plan.command, machines)
+    combined(alloc, plan, machines)
 }
 
 /// The bytes of the machine that a command makes of the machine of a first file and those of others, which are
@@ -104,7 +117,7 @@ pub fn prepared<D: Desk>(
     name: &str,
     content: Vec<u8>,
 ) -> Result<Vec<u8>, Refusal>
-    requires join { is_join plan.now.command ≡ true }
+    requires several { is_several plan.now.command ≡ true }
     requires whole { IsWhole plan.now }
     requires named { slice_get (input_files plan.now) 0 ≡ Some name.now }
     ensures { PreparesSeveral plan.now name.now content.items (D.seen desk.old) (D.seen desk.new) (result_map_both (λ v. v.items) (λ e. e) result) }

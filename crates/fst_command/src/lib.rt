@@ -17,6 +17,7 @@ mod machines;
 mod operations;
 mod option_files;
 mod refusal;
+mod replacement;
 mod summaries;
 mod top;
 

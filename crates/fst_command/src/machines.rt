@@ -5,8 +5,8 @@ ghost use Rattle.std.specs.Result.{result_map_both};
 ghost use Rattle.fst_machine.specs.Machine.{valued};
 ghost use Rattle.fst_binary.specs.Reading.{arc_type_of_bytes};
 ghost use Rattle.fst_words.specs.PlanLaws.{IsWhole};
-ghost use Rattle.fst_words.specs.Plans.{input_files};
-ghost use Rattle.fst_command.specs.Operations.{is_join};
+ghost use Rattle.fst_words.specs.Plans.{input_files, is_replace};
+ghost use Rattle.fst_command.specs.Operations.{is_several};
 ghost use Rattle.fst_command.specs.Several.{AddAnswer, FormAnswer, OthersAnswer, SeveralRead, StartAnswer};
 ghost use Rattle.fst_command.specs.declared.option_files.OptionFiles.{OptionFiles};
 ghost use Rattle.fst_desk.specs.Seen.{Seen};
@@ -17,7 +17,7 @@ use fst_binary::{arc_type, decode};
 use fst_desk::Desk;
 use fst_machine::Fst;
 use fst_semiring::{ArcType, Boolean, Lexicographic, MinMax, Tropical, Weight};
-use fst_words::Plan;
+use fst_words::{Plan, Verb};
 use std::alloc::Global;
 
 /// The machines of files, which have one arc type; or the arc type of the first file that has another one.
@@ -143,24 +143,37 @@ fn add_file<W: Weight>(
     }
 }
 
+/// Whether a command has rules: pairs of a machine and a label.
+pub fn replaces(verb: Verb) -> bool
+    ensures { result ≡ is_replace verb }
+{
+    matches!(verb, Verb::Replace)
+}
+
 /// How many machines a command makes one of.
 pub fn machine_count(plan: &Plan) -> usize
-    requires join { is_join plan.now.command ≡ true }
+    requires several { is_several plan.now.command ≡ true }
     requires whole { IsWhole plan.now }
     ensures { result ≡ length (input_files plan.now) }
 {
-    let _names = plan.names.len();
-    2
+    let names = plan.names.len();
+    if replaces(plan.command) { names / 2 } else { 2 }
 }
 
 /// The name of the file of one of these machines, by its place from 0.
 pub fn machine_name(plan: &Plan, place: usize) -> &str
-    requires join { is_join plan.now.command ≡ true }
+    requires several { is_several plan.now.command ≡ true }
     requires whole { IsWhole plan.now }
     requires within { place < length (input_files plan.now) }
     ensures { slice_get (input_files plan.now) place ≡ Some result.now }
 {
-    plan.names.item(place).text()
+    let names = plan.names.len();
+    if replaces(plan.command) {
+        let _pairs = names / 2;
+        plan.names.item(2 * place).text()
+    } else {
+        plan.names.item(place).text()
+    }
 }
 
 /// Reads the other machines of a command where the first is read. Each file is given up before the next is read.
@@ -170,7 +183,7 @@ pub fn read_others<W: Weight, D: Desk>(
     plan: &Plan,
     machines: &mut Machines<W>,
 ) -> Result<(), Refusal>
-    requires join { is_join plan.now.command ≡ true }
+    requires several { is_several plan.now.command ≡ true }
     requires whole { IsWhole plan.now }
     requires first { (machines.old.other ≡ None) × (length machines.old.list.items ≡ 1) }
     ensures read { (old : Seen) (files : OptionFiles) → SeveralRead plan.now files W.KIND 1 (map (valued W.value) machines.old.list.items) machines.old.other old (D.seen desk.old) → OthersAnswer plan.now files W.KIND (map (valued W.value) machines.new.list.items) machines.new.other old (D.seen desk.new) result }

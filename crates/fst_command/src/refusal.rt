@@ -1,7 +1,7 @@
 //! Why a command ended without its outputs: the status and the line that follow.
 
 ghost use Rattle.std.specs.Prelude.{◌≡◌, ◌↔◌, IsTrue, IfOk, string_bytes};
-ghost use Rattle.fst_command.specs.Causes.{refused, bad_codex, undecodable, codex_reason, no_entry_line, overflow_line, too_long, bad_symbols, bad_pairs, bad_text, bad_binary, kinds_differ, too_large, unprintable, unread, unwritten, line_at, placed_line, no_symbol_line, two_labels_line, symbols_line_at, symbols_reason, pairs_line_at, pairs_reason, text_reason, binary_reason};
+ghost use Rattle.fst_command.specs.Causes.{refused, recursive, recursive_line, bad_codex, undecodable, codex_reason, no_entry_line, overflow_line, too_long, bad_symbols, bad_pairs, bad_text, bad_binary, kinds_differ, too_large, unprintable, unread, unwritten, line_at, placed_line, no_symbol_line, two_labels_line, symbols_line_at, symbols_reason, pairs_line_at, pairs_reason, text_reason, binary_reason};
 ghost use Rattle.fst_command.specs.Told.{IsMade, MakesLine, told_line, told_status};
 
 use crate::kinds::kind_name;
@@ -360,4 +360,18 @@ pub fn not_decoded(alloc: Global, fault: DecodeFault) -> Refusal
         DecodeFault::Overflow { state } => made(1, number_line(alloc, state)),
         DecodeFault::Memory => Refusal::Memory,
     }
+}
+
+/// The line of a rule that can call itself.
+fn rule_line(alloc: Global, label: u32) -> Result<String, AllocError>
+    ensures { IfOk result (λ line. string_bytes line ≡ recursive_line label) }
+{
+    format!(in alloc; "fst: label {label} is recursive\n")
+}
+
+/// A rule can call itself.
+pub fn recursive_rule(alloc: Global, label: u32) -> Refusal
+    ensures { IsMade (refused (recursive label)) result }
+{
+    made(1, rule_line(alloc, label))
 }

@@ -8,6 +8,7 @@ use std::thread::Threads;
 
 mod coding;
 mod operations;
+mod replacing;
 
 /// A text of two states and one arc, and its binary form.
 const TICKET: &[u8] = b"0 1 1 2 5\n1 3\n";
@@ -459,6 +460,7 @@ fn refuses_other_words(rt: HostRuntime) -> Result<(), Fail> {
         &["union", "-", "-", "b"],
         &["relabel", "--relabel_ipairs=-", "-", "b"],
         &["arcsort", "--sort_type=weight", "t", "b"],
+        &["replace", "t", "100", "t", "100", "b"],
         // A command of the form that is not built yet.
         &["compose", "a", "b", "c"],
     ] {
@@ -467,7 +469,7 @@ fn refuses_other_words(rt: HostRuntime) -> Result<(), Fail> {
     assert!(rt; desk.held("b").is_none());
     assert_eq!(rt;
         desk.shown_bytes().len(),
-        15 * b"fst: bad command line\n".len()
+        16 * b"fst: bad command line\n".len()
     );
 
     // A name that is missing is that of the standard streams; one name may stand in both places.

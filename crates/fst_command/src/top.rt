@@ -31,6 +31,7 @@ fn is_ready(verb: Verb) -> bool
             | Verb::Relabel
             | Verb::Arcsort
             | Verb::Encode
+            | Verb::Replace
     )
 }
 
