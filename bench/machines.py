@@ -8,10 +8,12 @@ same machine has its state numbers permuted and spread out, as multiples of the 
     machines.py --symbols TABLE COUNT [PATH ARCS]
     machines.py --chain PATH STATES
     machines.py --pairs PATH COUNT
+    machines.py --rules ROOT RULE LABEL ARCS
 
 With --symbols the labels are written by their names in a table of so many symbols, which is written too.
 With --chain each state has one arc, to the next one, and the last is final. With --pairs so many labels
-below 5,000 are given new ones.
+below 5,000 are given new ones. With --rules a root and a rule of 100 arcs are written, of which the root calls
+the rule by the label so often that with all calls replaced there are about so many arcs.
 """
 import random
 import sys
@@ -84,11 +86,35 @@ def write_pairs(path, count, seed=1):
         out.writelines(f"{old}\t{draw.randrange(5001)}\n" for old in draw.sample(range(1, 5001), count))
 
 
+def write_arc(out, draw, state, target, olabel=None):
+    """Writes an arc with some labels and weight, or with this output label."""
+    out.write(f"{state}\t{target}\t{draw.randrange(1, 201)}\t{olabel or draw.randrange(1, 201)}\t{draw.randrange(100)}\n")
+
+
+def write_rules(root, rule, label, arcs, seed=1):
+    """Writes a chain in which each other arc calls the rule, and the rule, a machine without cycles."""
+    draw = random.Random(seed)
+    calls = arcs // 102
+    with open(root, "w") as out:
+        for call in range(calls):
+            write_arc(out, draw, 2 * call, 2 * call + 1, label)
+            write_arc(out, draw, 2 * call + 1, 2 * call + 2)
+        out.write(f"{2 * calls}\t3\n")
+    with open(rule, "w") as out:
+        for state in range(25):
+            write_arc(out, draw, state, state + 1)
+            for _ in range(3):
+                write_arc(out, draw, state, min(25, state + 1 + draw.randrange(8)))
+        out.write("25\t2\n")
+
+
 if __name__ == "__main__":
     if sys.argv[1] == "--chain":
         write_chain(sys.argv[2], int(sys.argv[3]))
     elif sys.argv[1] == "--pairs":
         write_pairs(sys.argv[2], int(sys.argv[3]))
+    elif sys.argv[1] == "--rules":
+        write_rules(sys.argv[2], sys.argv[3], *map(int, sys.argv[4:6]))
     elif sys.argv[1] == "--symbols":
         write_symbols(sys.argv[2], int(sys.argv[3]))
         if len(sys.argv) > 4:

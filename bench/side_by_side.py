@@ -23,6 +23,8 @@ START = 42
 MOST_STATES = 4_194_304
 # How many labels are changed.
 PAIRS = 1000
+# The labels of the root and of the rule that it calls.
+ROOT, CALL = 1_000_000, 1_000_001
 # The bounds of an operation on the ratios of time and of memory.
 TIME, MEMORY = 0.5, 1.7
 # How many times as long an operation may take for ten times the arcs.
@@ -80,9 +82,9 @@ def lacks(argv):
     return run.returncode == 1 and b"bad command line" in run.stderr
 
 
-def machine_files(fst, text, scratch):
+def machine_files(fst, text, scratch, name="machine"):
     """The machine of a text as a file of each program."""
-    ours, theirs = os.path.join(scratch, "machine.ours"), os.path.join(scratch, "machine.theirs")
+    ours, theirs = os.path.join(scratch, name + ".ours"), os.path.join(scratch, name + ".theirs")
     subprocess.run([fst, "compile", text, ours], check=True)
     subprocess.run(["fstcompile", text, theirs], check=True)
     return ours, theirs
@@ -104,6 +106,18 @@ def coding_cases(fst, files, scratch):
     return [(name, *operation(fst, "encode", words, files, None, scratch), TIME, MEMORY) for name, words in CODING]
 
 
+def rules_cases(fst, size, scratch):
+    """The row of `replace`: a chain whose calls of one rule, replaced, make that many arcs."""
+    texts = [os.path.join(scratch, f"{name}.{size}.txt") for name in ("root", "rule")]
+    subprocess.run([sys.executable, MACHINES, "--rules", *texts, str(CALL), str(size)], check=True)
+    roots, rules = (machine_files(fst, text, scratch, name) for text, name in zip(texts, ("root", "rule")))
+    words = [[root, str(ROOT), rule, str(CALL)] for root, rule in zip(roots, rules)]
+    out = os.path.join(scratch, "out")
+    # As ours does, OpenFst's tool is to write no labels on the arcs into and out of a call.
+    plain = ["--call_arc_labeling=neither", "--return_arc_labeling=neither"]
+    return [("replace", [fst, "replace", *words[0], out + ".ours"], ["fstreplace", *plain, *words[1], out + ".theirs"], TIME, MEMORY)]
+
+
 def operation_cases(fst, size, scratch):
     """The rows of the operations on a random machine of that many arcs."""
     text, pairs = (os.path.join(scratch, f"{name}.{size}.txt") for name in ("dense", "pairs"))
@@ -111,7 +125,7 @@ def operation_cases(fst, size, scratch):
     subprocess.run([sys.executable, MACHINES, "--pairs", pairs, str(PAIRS)], check=True)
     files = machine_files(fst, text, scratch)
     rows = [(command, *operation(fst, command, words, files, pairs, scratch), TIME, MEMORY) for command, words in OPERATIONS]
-    return rows + coding_cases(fst, files, scratch)
+    return rows + coding_cases(fst, files, scratch) + rules_cases(fst, size, scratch)
 
 
 def chain_cases(fst, scratch):

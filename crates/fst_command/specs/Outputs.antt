@@ -14,6 +14,7 @@ use Rattle.fst_codex.specs.Spelling.{codex_spelling}
 use Rattle.fst_codex.specs.Table.{Table}
 use Rattle.fst_codex.specs.declared.decoding.DecodeFault.{DecodeFault}
 use Rattle.fst_replace.specs.Expansion.{replaced}
+use Rattle.fst_replace.specs.Relation.{Replaces}
 use Rattle.fst_words.specs.declared.options.Options.{Options}
 use Rattle.fst_words.specs.declared.plan.Plan.{Plan}
 use Rattle.fst_words.specs.declared.verb.Verb.TheVariants.{Compile, Print, Info, Invert, Reverse, Connect, Union, Concat, Closure, Project, Relabel, Arcsort, Encode, Replace}
@@ -92,13 +93,15 @@ pub record Decoded (contents made : List (List ℕ)) : Type 0 where
   pub decodes : Decodes machine.kind (λ w. w) machine.machine table (Ok result)
   pub makes : made ≡ spelling machine.kind result ∷ []
 
--- `replace` makes the binary form of the machine of the rules
+-- `replace` makes the binary form of the machine of the rules, which relates what the root does, where each call is
+-- read as a triple of the rule that is called
 pub record Replaced (labels : List ℕ) (contents made : List (List ℕ)) : Type 0 where
   pub kind : ArcType
   pub machines : List (Machine Cost)
   pub result : Machine Cost
   pub reads : AreMachines kind contents machines
   pub replaces : result ≡ replaced (ruled labels machines)
+  pub denotes : Replaces kind (ruled labels machines) result
   pub makes : made ≡ spelling kind result ∷ []
 
 -- with the flag for decoding, and without it

@@ -7,6 +7,7 @@ ghost use Rattle.fst_words.specs.PlanLaws.{IsWhole};
 ghost use Rattle.fst_words.specs.Plans.{input_files, is_replace};
 ghost use Rattle.fst_command.specs.Contents.{AreMachines, ruled};
 ghost use Rattle.fst_replace.specs.Expansion.{replaced};
+ghost use Rattle.fst_replace.specs.Relation.{Replaces};
 ghost use Rattle.fst_command.specs.Plans.{rule_labels};
 ghost use Rattle.fst_command.specs.Replacing.{ExpandsTo, IsRefusalOf, RulesAnswer};
 ghost use Rattle.fst_command.specs.Steps.{ReplacesTo};
@@ -89,6 +90,7 @@ fn expanded<W: Weight>(alloc: Global, plan: &Plan, list: &[Fst<W>]) -> Result<Fs
     requires whole { IsWhole plan.now }
     requires all { length list.now ≡ length (input_files plan.now) }
     ensures made { IfOk result (λ m. valued W.value m ≡ replaced (ruled (rule_labels plan.now) (map (valued W.value) list.now))) }
+    ensures denotes { IfOk result (λ m. Replaces W.KIND (ruled (rule_labels plan.now) (map (valued W.value) list.now)) (valued W.value m)) }
     ensures answer { (files : List (List ℕ)) → AreMachines W.KIND files (map (valued W.value) list.now) → ExpandsTo (rule_labels plan.now) files result }
 {
     let rules = match rules_of(alloc, plan, list) {

@@ -15,6 +15,10 @@ use Rattle.fst_machine.specs.Continuing.{Continues, epsilon_arc}
 use Rattle.fst_rational.specs.Changing.{goings, onward}
 use Rattle.fst_rational.specs.Constructions.{carried, kept}
 
+-- the arcs of a machine lead to its states
+abbrev pub HasArcs : Machine Cost → Type 0
+HasArcs a = All (λ s. All (IsArc (λ v. v) (length a.states)) s.arcs) a.states
+
 -- a place of an operand
 abbrev pub Inside : Machine Cost → ℕ → Type 0
 Inside a n = n < length a.states
@@ -24,18 +28,18 @@ pub start_inside : (a : Machine Cost) (s : ℕ) → IsMachine (λ v. v) a → a.
 start_inside a s h e = subst (λ (o : Option ℕ). IfSome o (λ s. s < length a.states)) e h.start
 
 -- an arc of a machine leads to one of its states
-pub next_inside : (a : Machine Cost) (n k : ℕ) (arc : Arc Cost ℕ) → IsMachine (λ v. v) a → slice_get ((graph_of a).arcs n) k ≡ Some arc → arc.next < length a.states
+pub next_inside : (a : Machine Cost) (n k : ℕ) (arc : Arc Cost ℕ) → HasArcs a → slice_get ((graph_of a).arcs n) k ≡ Some arc → arc.next < length a.states
 next_inside a n k arc h has = by_order (cases_lt n (length a.states))
   where
     by_order : (n < length a.states) ⊎ (length a.states ≤ n) → arc.next < length a.states
     by_order (inl low) =
-        let good : IsArc (λ v. v) (length a.states) (get_or (get_or a.states n no_state).arcs k arc) = h.arcs n no_state low k arc (slice_get_within (get_or a.states n no_state).arcs k arc has) in
+        let good : IsArc (λ v. v) (length a.states) (get_or (get_or a.states n no_state).arcs k arc) = h n no_state low k arc (slice_get_within (get_or a.states n no_state).arcs k arc has) in
         (subst (IsArc (λ v. v) (length a.states)) (get_or_from_slice_get (get_or a.states n no_state).arcs k arc arc has) good).next
     by_order (inr past) =
         let none : slice_get {X = Arc Cost ℕ} [] k ≡ Some arc = ap (λ (s : State Cost). slice_get s.arcs k) (sym (get_or_past a.states n no_state past)) ∙ has in
         absurd (let low = slice_get_within {A = Arc Cost ℕ} [] k arc none in omega (arith, low))
 
-module _ (a m : Machine Cost) (h : IsMachine (λ v. v) a) (k : ℕ) (keeps : Bool) (target : Option ℕ) (front back : List (State Cost)) (whole : m.states ≡ front ++ (map (carried k keeps target) a.states ++ back)) (before : length front ≡ k) where
+module _ (a m : Machine Cost) (h : HasArcs a) (k : ℕ) (keeps : Bool) (target : Option ℕ) (front back : List (State Cost)) (whole : m.states ≡ front ++ (map (carried k keeps target) a.states ++ back)) (before : length front ≡ k) where
   -- a state of the operand stands k places further on
   block_state : (n : ℕ) → n < length a.states → get_or m.states (k + n) no_state ≡ carried k keeps target (get_or a.states n no_state)
   block_state n low =

@@ -54,10 +54,10 @@ module _ (kind : ArcType) (a : Machine Cost) (good : IsMachine (λ v. v) a) wher
   star_first = record { final = one_of kind; arcs = entry kind 1 a.start }
 
   star_goes : Continues (λ n. 1 + n) (graph_of a) star (Inside a) 0
-  star_goes = block_continues a (star_of kind a) good 1 false (Some 0) (star_first ∷ []) [] (ap (λ ss. star_first ∷ ss) (sym (append-nil (map (carried 1 false (Some 0)) a.states)))) refl 0 refl
+  star_goes = block_continues a (star_of kind a) good.arcs 1 false (Some 0) (star_first ∷ []) [] (ap (λ ss. star_first ∷ ss) (sym (append-nil (map (carried 1 false (Some 0)) a.states)))) refl 0 refl
 
   star_final : (n : ℕ) → n < length a.states → (graph_of (star_of kind a)).final (1 + n) ≡ infinite
-  star_final n low = block_final a (star_of kind a) good 1 false (Some 0) (star_first ∷ []) [] (ap (λ ss. star_first ∷ ss) (sym (append-nil (map (carried 1 false (Some 0)) a.states)))) refl n low
+  star_final n low = block_final a (star_of kind a) good.arcs 1 false (Some 0) (star_first ∷ []) [] (ap (λ ss. star_first ∷ ss) (sym (append-nil (map (carried 1 false (Some 0)) a.states)))) refl n low
 
   -- what the new start says is a product of triples
   star_splits : (n : ℕ) (x y : List ℕ) (w : Cost) (r : RelFrom kind star 0 x y w) → length r.path < n → (triples : List Said) × IsProductOf kind a triples x y w
@@ -114,10 +114,10 @@ module _ (kind : ArcType) (a : Machine Cost) (good : IsMachine (λ v. v) a) wher
   place_same n = omega arith
 
   plus_goes : (s : ℕ) → a.start ≡ Some s → Continues (λ n. 0 + n) (graph_of a) plus (Inside a) s
-  plus_goes s starts = block_continues a (plus_of a) good 0 true a.start [] [] (sym (append-nil (map (carried 0 true a.start) a.states))) refl s starts
+  plus_goes s starts = block_continues a (plus_of a) good.arcs 0 true a.start [] [] (sym (append-nil (map (carried 0 true a.start) a.states))) refl s starts
 
   plus_final : (n : ℕ) → n < length a.states → (graph_of (plus_of a)).final (0 + n) ≡ (graph_of a).final n
-  plus_final n low = block_final a (plus_of a) good 0 true a.start [] [] (sym (append-nil (map (carried 0 true a.start) a.states))) refl n low
+  plus_final n low = block_final a (plus_of a) good.arcs 0 true a.start [] [] (sym (append-nil (map (carried 0 true a.start) a.states))) refl n low
 
   module _ (s : ℕ) (starts : a.start ≡ Some s) where
     plus_splits : (n : ℕ) (x y : List ℕ) (w : Cost) (r : RelFrom kind plus s x y w) → length r.path < n → (triples : List Said) × IsFilled triples × IsProductOf kind a triples x y w

@@ -35,11 +35,11 @@ module _ (kind : ArcType) (a b : Machine Cost) (good : IsMachine (λ v. v) a) (f
 
   -- the states of b, renamed
   seconds : Renames (λ n. k + n) (graph_of b) (graph_of m) (Inside b)
-  seconds = block_renames b m fine k true None (map (carried 0 false target) a.states) [] (ap (λ ss. map (carried 0 false target) a.states ++ ss) (sym (append-nil (map (carried k true None) b.states)))) (length-map a.states (carried 0 false target)) refl refl
+  seconds = block_renames b m fine.arcs k true None (map (carried 0 false target) a.states) [] (ap (λ ss. map (carried 0 false target) a.states ++ ss) (sym (append-nil (map (carried k true None) b.states)))) (length-map a.states (carried 0 false target)) refl refl
 
   -- no state of a is final
   no_final : (n : ℕ) → n < length a.states → (graph_of m).final (0 + n) ≡ infinite
-  no_final n low = block_final a m good 0 false target [] (map (carried k true None) b.states) refl refl n low
+  no_final n low = block_final a m good.arcs 0 false target [] (map (carried k true None) b.states) refl refl n low
 
   same_place : (n : ℕ) → n ≡ 0 + n
   same_place n = omega arith
@@ -56,15 +56,15 @@ module _ (kind : ArcType) (a b : Machine Cost) (good : IsMachine (λ v. v) a) (f
       back_none none r =
           let low = start_inside a r.first good r.starts in
           let renames : Renames (λ n. 0 + n) mute (graph_of m) (Inside a) = record {
-            arcs = λ n inside. block_arcs a m good 0 false target [] (map (carried k true None) b.states) refl refl n inside ∙ (ap (λ (o : Option ℕ). map (renamed (λ p. 0 + p)) ((graph_of a).arcs n) ++ onward ((graph_of a).final n) (option_map (λ s. k + s) o)) none ∙ append-nil (map (renamed (λ p. 0 + p)) ((graph_of a).arcs n)));
+            arcs = λ n inside. block_arcs a m good.arcs 0 false target [] (map (carried k true None) b.states) refl refl n inside ∙ (ap (λ (o : Option ℕ). map (renamed (λ p. 0 + p)) ((graph_of a).arcs n) ++ onward ((graph_of a).final n) (option_map (λ s. k + s) o)) none ∙ append-nil (map (renamed (λ p. 0 + p)) ((graph_of a).arcs n)));
             final = no_final;
-            within = λ n i arc inside has. next_inside a n i arc good has;
+            within = λ n i arc inside has. next_inside a n i arc good.arcs has;
           } in
           let says = (renamed-RelFrom (λ n. 0 + n) kind mute (graph_of m) (Inside a) renames r.first low x y w).1 (subst (λ (p : ℕ). RelFrom kind (graph_of m) p x y w) (same_place r.first) r.says) in
           says.final refl
 
       back_some : (t : ℕ) → b.start ≡ Some t → Rel kind (graph_of m) x y w → IsProduct kind (Triple kind a) (Triple kind b) x y w
-      back_some t starts r = by_case (continue_splits kind (λ n. 0 + n) (graph_of a) (graph_of m) (Inside a) (k + t) (block_continues a m good 0 false target [] (map (carried k true None) b.states) refl refl (k + t) (ap (option_map (λ s. k + s)) starts)) r.first r.first x y w (same_place r.first) (start_inside a r.first good r.starts) r.says)
+      back_some t starts r = by_case (continue_splits kind (λ n. 0 + n) (graph_of a) (graph_of m) (Inside a) (k + t) (block_continues a m good.arcs 0 false target [] (map (carried k true None) b.states) refl refl (k + t) (ap (option_map (λ s. k + s)) starts)) r.first r.first x y w (same_place r.first) (start_inside a r.first good r.starts) r.says)
         where
           by_case : Stays (λ n. 0 + n) (graph_of a) (Inside a) r.first r.says.path r.says.last ⊎ Splits kind (graph_of a) (graph_of m) (k + t) r.first x y w (length r.says.path) → IsProduct kind (Triple kind a) (Triple kind b) x y w
           by_case (inl s) = absurd (r.says.final (ap (graph_of m).final (sym s.ends) ∙ no_final s.end s.within))
@@ -94,7 +94,7 @@ module _ (kind : ArcType) (a b : Machine Cost) (good : IsMachine (λ v. v) a) (f
           let one = p.front in
           let two = p.back in
           let c = k + two.first in
-          let goes = block_continues a m good 0 false target [] (map (carried k true None) b.states) refl refl c (ap (option_map (λ s. k + s)) two.starts) in
+          let goes = block_continues a m good.arcs 0 false target [] (map (carried k true None) b.states) refl refl c (ap (option_map (λ s. k + s)) two.starts) in
           let rest = (renamed-RelFrom (λ n. k + n) kind (graph_of b) (graph_of m) (Inside b) seconds two.first (start_inside b two.first fine two.starts) p.input_back p.output_back p.weight_back).0 two.says in
           let says = continue_says kind (λ n. 0 + n) (graph_of a) (graph_of m) (Inside a) c goes one.first p.input_front p.output_front p.input_back p.output_back p.weight_front p.weight_back (start_inside a one.first good one.starts) one.says rest in
           let here : RelFrom kind (graph_of m) one.first (p.input_front ++ p.input_back) (p.output_front ++ p.output_back) (times kind p.weight_front p.weight_back) = subst (λ (q : ℕ). RelFrom kind (graph_of m) q (p.input_front ++ p.input_back) (p.output_front ++ p.output_back) (times kind p.weight_front p.weight_back)) (sym (same_place one.first)) says in

@@ -144,10 +144,10 @@ module _ (kind : ArcType) (a : Machine Cost) (good : IsMachine (λ v. v) a) wher
   there : Turns (λ (n p : ℕ). p ≡ 1 + n) (graph_of a) (graph_of m) (Inside a)
   there = record {
     arcs = λ n p k arc low has tied.
-        let inside = next_inside a n k arc good has in
+        let inside = next_inside a n k arc good.arcs has in
         let found = turned_has arc.next 1 a.states n k arc has refl in
         (found.0, back (1 + n) arc, ap (λ (z : ℕ). slice_get ((graph_of m).arcs z) found.0) tied ∙ (ap (λ arcs. slice_get arcs found.0) (arcs_at arc.next inside) ∙ found.1), refl, refl);
-    within = λ n k arc low has. next_inside a n k arc good has;
+    within = λ n k arc low has. next_inside a n k arc good.arcs has;
   }
 
   -- and the other way round

@@ -61,12 +61,12 @@ module _ (kind : ArcType) (a b : Machine Cost) (good : IsMachine (λ v. v) a) (f
   seconds = map (carried (length a.states + 1) true None) b.states
 
   renames_first : Renames (λ n. 1 + n) (graph_of a) (graph_of (union_of kind a b)) (Inside a)
-  renames_first = block_renames a (union_of kind a b) good 1 true None (fork ∷ []) seconds refl refl refl refl
+  renames_first = block_renames a (union_of kind a b) good.arcs 1 true None (fork ∷ []) seconds refl refl refl refl
 
   renames_second : Renames (λ n. (length a.states + 1) + n) (graph_of b) (graph_of (union_of kind a b)) (Inside b)
   renames_second =
       let n : length (fork ∷ firsts) ≡ length a.states + 1 = omega (arith, length-map a.states (carried 1 true None)) in
-      block_renames b (union_of kind a b) fine (length a.states + 1) true None (fork ∷ firsts) [] (ap (λ ss. fork ∷ (firsts ++ ss)) (sym (append-nil seconds))) n refl refl
+      block_renames b (union_of kind a b) fine.arcs (length a.states + 1) true None (fork ∷ firsts) [] (ap (λ ss. fork ∷ (firsts ++ ss)) (sym (append-nil seconds))) n refl refl
 
   -- a union has the triples of both
   pub union-Unites : Unites kind a b (union_of kind a b)

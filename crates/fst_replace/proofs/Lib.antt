@@ -12,4 +12,6 @@ mod Waiting
 mod Valuing
 mod Goodness
 mod Totalling
+mod Placing
+mod Reading
 mod Answering

@@ -90,7 +90,7 @@ rules_within labels (a ∷ arcs) j h = by_part (rules_within labels arcs j) (Has
     by_part more (inr k) = more k
 
 module _ {V : Type 0} (value : V → Cost) (rules : List (Labelled V)) (h : IsRules value rules) where
-  rule_machine : (i : ℕ) → IsMachine (λ v. v) (machine_at (valued_rules value rules) i)
+  pub rule_machine : (i : ℕ) → IsMachine (λ v. v) (machine_at (valued_rules value rules) i)
   rule_machine i = subst (IsMachine (λ v. v)) (sym (machine_valued value rules i)) (IsMachine-valued value (machine_at rules i) (by_order (cases_lt i (length rules))))
     where
       by_order : (i < length rules) ⊎ (length rules ≤ i) → IsMachine value (machine_at rules i)

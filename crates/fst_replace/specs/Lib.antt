@@ -3,4 +3,5 @@ pub mod Calls
 pub mod Walks
 pub mod Expansion
 pub mod Totals
+pub mod Relation
 pub mod Answers

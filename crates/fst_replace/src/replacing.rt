@@ -6,6 +6,7 @@ ghost use Rattle.fst_machine.specs.Machine.{arc_total, most_arcs, most_states, v
 ghost use Rattle.fst_replace.specs.Answers.{IsCause, IsFine, IsLimited, Recurs};
 ghost use Rattle.fst_replace.specs.Calls.{Reaches, arcs_of, calls_in, rules_in};
 ghost use Rattle.fst_replace.specs.Expansion.{expansion, replaced};
+ghost use Rattle.fst_replace.specs.Relation.{Replaces};
 ghost use Rattle.fst_replace.specs.Rules.{labels_of, machine_at, valued_rules};
 ghost use Rattle.fst_replace.specs.Totals.{IsTable};
 ghost use Rattle.fst_replace.specs.Walks.{IsClosed, IsOrdered, at_place};
@@ -189,13 +190,18 @@ fn measure<W: Weight>(
 /// rule, whose final states are not final and go on by an epsilon arc with their weight to the state to which the
 /// call arc led. (OpenFst manual, "Replace".)
 ///
+/// The machine relates what the root does, where each call is read as any triple of the rule that is called, to the
+/// depth of the number of rules.
+///
 /// It is refused where a rule that the root reaches can call itself, and where it is too big, before any of it is
 /// made.
 pub fn replace<W: Weight>(alloc: Global, rules: &Rules<'_, W>) -> Result<Fst<W>, ReplaceFault>
     ensures recursive { Recurs (valued_rules W.value rules.now) result }
     ensures limits { IsLimited (valued_rules W.value rules.now) result }
     ensures machine { IfOk result (λ m. valued W.value m ≡ replaced (valued_rules W.value rules.now)) }
+    ensures relation { IfOk result (λ m. Replaces W.KIND (valued_rules W.value rules.now) (valued W.value m)) }
 {
+    let _rules = rules.count();
     match measure(alloc, rules) {
         Ok(Ok(measured)) => {
             let shapes = measured.shapes.as_slice();

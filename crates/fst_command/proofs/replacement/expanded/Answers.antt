@@ -4,6 +4,7 @@ use Rattle.fst_machine.specs.Machine.{Machine, valued}
 use Rattle.fst_semiring.specs.Cost.{Cost}
 use Rattle.fst_replace.specs.Answers.{IsLimited, Recurs}
 use Rattle.fst_replace.specs.Expansion.{replaced}
+use Rattle.fst_replace.specs.Relation.{Replaces}
 use Rattle.fst_replace.specs.Rules.{Labelled, valued_rules}
 use Rattle.fst_command.specs.Plans.{rule_labels}
 use Rattle.fst_command.proofs.Replacing.{declines-replaced, passes-replaced}
@@ -15,6 +16,12 @@ returns-in-Ok-replace-clause-made g c =
     let value = g.W.Weight.value in
     let rules = ap (valued_rules value) c.in-Ok.ensures ∙ ruled_valued value (rule_labels c.args.plan.now) c.args.list.now in
     c.in-Ok-replace.ensures.machine ∙ ap replaced rules
+
+pub returns-in-Ok-replace-clause-denotes : goal.returns-in-Ok-replace-clause-denotes
+returns-in-Ok-replace-clause-denotes g c =
+    let value = g.W.Weight.value in
+    let rules = ap (valued_rules value) c.in-Ok.ensures ∙ ruled_valued value (rule_labels c.args.plan.now) c.args.list.now in
+    subst (λ (rs : List (Labelled Cost)). Replaces g.W.Weight.KIND rs (valued value c.in-Ok-replace.made)) rules c.in-Ok-replace.ensures.relation
 
 pub returns-in-Ok-replace-clause-answer : goal.returns-in-Ok-replace-clause-answer
 returns-in-Ok-replace-clause-answer g c files are =

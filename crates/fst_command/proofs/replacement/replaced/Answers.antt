@@ -1,6 +1,7 @@
 use Rattle.std.proofs.Common.{List, [], ◌∷◌, ℕ, map, sym, ap, ◌∙◌, subst}
 use Rattle.fst_machine.specs.Machine.{Machine, valued}
 use Rattle.fst_replace.specs.Expansion.{replaced}
+use Rattle.fst_replace.specs.Relation.{Replaces}
 use Rattle.fst_command.specs.Contents.{AreMachines, ruled}
 use Rattle.fst_command.specs.Plans.{rule_labels}
 use Rattle.fst_command.proofs.replacement.replaced.Goals as goal
@@ -18,6 +19,7 @@ returns-in-Ok-encode g c files are =
         result = valued value c.in-Ok.made;
         reads = are;
         replaces = c.in-Ok.ensures.made ∙ ap (λ (ms : List (Machine g.row.W.Denot)). replaced (ruled labels (map (valued value) ms))) list;
+        denotes = subst (λ (ms : List (Machine g.row.W.Denot)). Replaces kind (ruled labels (map (valued value) ms)) (valued value c.in-Ok.made)) list c.in-Ok.ensures.denotes;
         makes = ap (λ b. b ∷ []) c.in-Ok-encode.ensures.spelled;
       },
     )
