@@ -20,7 +20,7 @@ take_at [] (suc i) j x e = absurd (cc)
 take_at (y ∷ xs) (suc i) zero x e = (e, omega arith)
 take_at (y ∷ xs) (suc i) (suc j) x e = let rest = take_at xs i j x e in (rest.0, omega (arith, rest.1))
 
-at_take : {X : Type 0} (xs : List X) (i j : ℕ) (x : X) → slice_get xs j ≡ Some x → j < i → slice_get (take i xs) j ≡ Some x
+pub at_take : {X : Type 0} (xs : List X) (i j : ℕ) (x : X) → slice_get xs j ≡ Some x → j < i → slice_get (take i xs) j ≡ Some x
 at_take [] i j x e low = absurd (cc)
 at_take (y ∷ xs) zero j x e low = absurd (omega arith)
 at_take (y ∷ xs) (suc i) zero x e low = e

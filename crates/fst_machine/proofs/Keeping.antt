@@ -1,16 +1,15 @@
 -- The states of a machine as they are kept, and what a change of one slot makes of them.
-use Rattle.std.proofs.Common.{◌≡◌, ◌⊎◌, ℕ, ◌+◌, ◌<◌, ◌≤◌, ◌-◌, List, [], ◌∷◌, ◌++◌, length, set, get_or, take, drop, Option, refl, sym, ap, ◌∙◌, subst, inl, inr, arith}
+use Rattle.std.proofs.Common.{◌≡◌, ◌⊎◌, ℕ, ◌+◌, ◌<◌, ◌≤◌, ◌-◌, List, [], ◌∷◌, ◌++◌, length, set, get_or, take, drop, refl, sym, ap, ◌∙◌, subst, inl, inr, arith}
 use Rattle.std.specs.List.{All, AllByRecursion}
-use Rattle.std.proofs.lemmas.List.{length-map, length-append, take-append-le, drop-append-le, length-drop, map-set, map-append, take_all, drop_at}
+use Rattle.std.proofs.lemmas.List.{length-map, length-set, length-append, take-append-le, drop-append-le, length-drop, map-set, map-append, take_all, drop_at}
 use Rattle.std.proofs.Math.ListN.{get_or-map}
 use Rattle.std.proofs.lemmas.List.Elements.{All-set, All-push, All-weaker, recursion_from_All}
 use Rattle.std.proofs.lemmas.List.Sums.{sum_by_push}
-use Rattle.fst_semiring.specs.Cost.{Cost}
-use Rattle.fst_machine.specs.Machine.{Arc, State, IsArc, IsMachine, arc_total, bare_state, most_arcs, most_states, with_arc, with_final}
+use Rattle.fst_machine.specs.Machine.{Arc, State, arc_total, bare_state, most_states, with_arc, with_final}
 use Rattle.fst_machine.specs.Store.{Slot, LiesIn, own_or, slot_arcs, kept_state, kept_states}
 use Rattle.fst_machine.specs.Putting.{Puts}
 use Rattle.fst_machine.specs.KeptMachine.{IsKept}
-use Rattle.fst_machine.proofs.Changes.{IsMachine-push, IsMachine-with_arc, IsMachine-with_final}
+use Rattle.fst_machine.proofs.Changes.{arc_total-with_arc, arc_total-with_final}
 
 -- a part of the store is the same where the store has more arcs at its end
 slot_arcs-append : {V : Type 0} (store more : List (Arc V ℕ)) (s : Slot V) → LiesIn (length store) s → slot_arcs (store ++ more) s ≡ slot_arcs store s
@@ -50,35 +49,35 @@ longer_store a store new (inl e) = let same : length new ≡ length store = ap l
 longer_store a store new (inr e) = let same : length new ≡ length store + 1 = ap length e ∙ length-append store (a ∷ []) in (omega arith, omega arith)
 
 -- an arc was put
-pub IsKept-put : {V : Type 0} (value : V → Cost) (start : Option ℕ) (slots : List (Slot V)) (store new : List (Arc V ℕ)) (total i : ℕ) (a : Arc V ℕ) (before after : Slot V) → IsKept value start slots store total → i < length slots → before ≡ get_or slots i before → IsArc value (length slots) a → total < most_arcs → Puts a store before new after → IsKept value start (set slots i after) new (total + 1)
-IsKept-put {V} value start slots store new total i a before after kept within read good room puts =
-    let states = kept_states store slots in
-    let count : length states ≡ length slots = length-map slots (kept_state store) in
-    let grown = IsMachine-with_arc value (record { start = start; states = states }) i a (kept_state store before) kept.machine (omega arith) (kept_read store slots i before read) (subst (λ (n : ℕ). IsArc value n a) (sym count) good) (omega (arith, kept.counted)) in
+pub IsKept-put : {V : Type 0} (slots : List (Slot V)) (store new : List (Arc V ℕ)) (total i : ℕ) (a : Arc V ℕ) (before after : Slot V) → IsKept slots store total → i < length slots → before ≡ get_or slots i before → Puts a store before new after → IsKept (set slots i after) new (total + 1)
+IsKept-put {V} slots store new total i a before after kept within read puts =
+    let count : length (kept_states store slots) ≡ length slots = length-map slots (kept_state store) in
+    let grown = arc_total-with_arc (kept_states store slots) i a (kept_state store before) (omega arith) (kept_read store slots i before read) in
     let same = kept_states-put a store new slots i before after kept.parts puts in
     let longer = longer_store a store new puts.store in
+    let still : length (set slots i after) ≡ length slots = length-set slots i after in
     record {
-      counted = ap (λ n. n + 1) kept.counted ∙ grown.0 ∙ ap arc_total (sym same);
+      counted = ap (λ n. n + 1) kept.counted ∙ grown ∙ ap arc_total (sym same);
       fits = omega (arith, kept.fits, longer.1);
       parts = All-set (LiesIn (length new)) slots i after puts.inside (All-weaker (LiesIn (length store)) (LiesIn (length new)) (λ s lies. omega (arith, longer.0)) slots kept.parts);
-      machine = subst (λ (ss : List (State V)). IsMachine value (record { start = start; states = ss })) (sym same) grown.1;
+      few_states = rw still kept.few_states;
     }
 
 -- a final weight was set
 pub kept_states-final : {V : Type 0} (store : List (Arc V ℕ)) (slots : List (Slot V)) (i : ℕ) (w : V) (s : Slot V) → kept_states store (set slots i (record { final = w; first = s.first; count = s.count; own = s.own })) ≡ set (kept_states store slots) i (with_final w (kept_state store s))
 kept_states-final store slots i w s = map-set (kept_state store) slots i (record { final = w; first = s.first; count = s.count; own = s.own })
 
-pub IsKept-final : {V : Type 0} (value : V → Cost) (start : Option ℕ) (slots : List (Slot V)) (store : List (Arc V ℕ)) (total i : ℕ) (w : V) (s : Slot V) → IsKept value start slots store total → i < length slots → s ≡ get_or slots i s → IsKept value start (set slots i (record { final = w; first = s.first; count = s.count; own = s.own })) store total
-IsKept-final {V} value start slots store total i w s kept within read =
-    let states = kept_states store slots in
-    let count : length states ≡ length slots = length-map slots (kept_state store) in
-    let set_so = IsMachine-with_final value (record { start = start; states = states }) i w (kept_state store s) kept.machine (omega arith) (kept_read store slots i s read) in
-    let same = kept_states-final store slots i w s in
+pub IsKept-final : {V : Type 0} (slots : List (Slot V)) (store : List (Arc V ℕ)) (total i : ℕ) (w : V) (s : Slot V) → IsKept slots store total → i < length slots → s ≡ get_or slots i s → IsKept (set slots i (record { final = w; first = s.first; count = s.count; own = s.own })) store total
+IsKept-final {V} slots store total i w s kept within read =
+    let after : Slot V = record { final = w; first = s.first; count = s.count; own = s.own } in
+    let count : length (kept_states store slots) ≡ length slots = length-map slots (kept_state store) in
+    let set_so = arc_total-with_final (kept_states store slots) i w (kept_state store s) (omega arith) (kept_read store slots i s read) in
+    let still : length (set slots i after) ≡ length slots = length-set slots i after in
     record {
-      counted = kept.counted ∙ set_so.0 ∙ ap arc_total (sym same);
+      counted = kept.counted ∙ set_so ∙ ap arc_total (sym (kept_states-final store slots i w s));
       fits = kept.fits;
-      parts = All-set (LiesIn (length store)) slots i (record { final = w; first = s.first; count = s.count; own = s.own }) (subst (λ (t : Slot V). LiesIn (length store) t) (sym read) (kept.parts i s within)) kept.parts;
-      machine = subst (λ (ss : List (State V)). IsMachine value (record { start = start; states = ss })) (sym same) set_so.1;
+      parts = All-set (LiesIn (length store)) slots i after (subst (λ (t : Slot V). LiesIn (length store) t) (sym read) (kept.parts i s within)) kept.parts;
+      few_states = rw still kept.few_states;
     }
 
 -- a state was added
@@ -86,17 +85,16 @@ pub kept_states-push : {V : Type 0} (store : List (Arc V ℕ)) (slots : List (Sl
 kept_states-push store [] w = refl
 kept_states-push store (s ∷ slots) w = ap (λ ss. kept_state store s ∷ ss) (kept_states-push store slots w)
 
-pub IsKept-push : {V : Type 0} (value : V → Cost) (start : Option ℕ) (slots : List (Slot V)) (store : List (Arc V ℕ)) (total : ℕ) (w : V) → IsKept value start slots store total → length slots < most_states → IsKept value start (slots ++ record { final = w; first = 0; count = 0; own = [] } ∷ []) store total
-IsKept-push {V} value start slots store total w kept room =
-    let states = kept_states store slots in
-    let count : length states ≡ length slots = length-map slots (kept_state store) in
+pub IsKept-push : {V : Type 0} (slots : List (Slot V)) (store : List (Arc V ℕ)) (total : ℕ) (w : V) → IsKept slots store total → length slots < most_states → IsKept (slots ++ record { final = w; first = 0; count = 0; own = [] } ∷ []) store total
+IsKept-push {V} slots store total w kept room =
     let same = kept_states-push store slots w in
-    let sums = sum_by_push (λ (s : State V). length s.arcs) states (bare_state w) in
+    let sums = sum_by_push (λ (s : State V). length s.arcs) (kept_states store slots) (bare_state w) in
+    let longer : length (slots ++ record { final = w; first = 0; count = 0; own = [] } ∷ []) ≡ length slots + 1 = length-append slots (record { final = w; first = 0; count = 0; own = [] } ∷ []) in
     record {
       counted = subst (λ (ss : List (State V)). total ≡ arc_total ss) (sym same) (omega (arith, kept.counted));
       fits = kept.fits;
       parts = All-push (LiesIn (length store)) slots (record { final = w; first = 0; count = 0; own = [] }) kept.parts (omega arith);
-      machine = subst (λ (ss : List (State V)). IsMachine value (record { start = start; states = ss })) (sym same) (IsMachine-push value (record { start = start; states = states }) w kept.machine (omega arith));
+      few_states = omega arith;
     }
 
 -- the slot of arcs that stand at the end of a store

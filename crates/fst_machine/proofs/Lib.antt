@@ -24,3 +24,5 @@ pub mod Connected
 pub mod Walking
 pub mod Arriving
 pub mod Keeping
+pub mod Valued
+pub mod Narrowing

@@ -26,3 +26,4 @@ pub mod Walking
 pub mod Store
 pub mod Putting
 pub mod KeptMachine
+pub mod Narrowing

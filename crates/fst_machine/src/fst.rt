@@ -6,7 +6,7 @@ ghost use Rattle.fst_semiring.specs.Cost.{infinite};
 ghost use Rattle.fst_machine.specs.Machine.{Machine, IsMachine, arc_total, bare_state, changed, greatest_label, most_arcs, most_states, no_states, with_arc, with_final};
 
 use crate::arc::FstArc;
-use crate::slot::Slot;
+use crate::kept::Kept;
 
 mod state_list;
 
@@ -61,22 +61,17 @@ impl<T: Drop> From<AllocFailed<T>> for GrowFault {
 /// bytes, and 40 bytes a state.
 #[derive(Drop)]
 pub struct Fst<W: Weight> {
-    start: Option<u32>,
-    slots: Vec<Slot<W>>,
-    store: Vec<FstArc<W>>,
-    total: u32,
+    kept: Kept<W>,
 }
 
 impl<W: Weight> Model for Fst<W> {
-    ghost use Rattle.fst_machine.specs.Machine.{Machine};
-    ghost use Rattle.fst_machine.specs.Store.{kept_states};
-    ghost use Rattle.fst_machine.specs.KeptMachine.{IsKept};
+    ghost use Rattle.fst_machine.specs.Machine.{Machine, IsMachine};
 
     ghost Value = { Machine W };
 
-    ghost view = { λ m. record { start = m.start; states = kept_states m.store.items m.slots.items } };
+    ghost view = { λ m. m.kept };
 
-    ghost invariant = { λ m. IsKept W.value m.start m.slots.items m.store.items m.total };
+    ghost invariant = { λ m. IsMachine W.value m.kept };
 }
 
 impl<W: Weight> Fst<W> {
@@ -85,10 +80,7 @@ impl<W: Weight> Fst<W> {
         ensures { result ≡ no_states }
     {
         Fst {
-            start: None,
-            slots: Vec::new(alloc),
-            store: Vec::new(alloc),
-            total: 0,
+            kept: Kept::new(alloc),
         }
     }
 
@@ -101,13 +93,8 @@ impl<W: Weight> Fst<W> {
         ensures few_arcs { IsErrOf result GrowFault.TooManyArcs → ⊥ }
         ensures err { OnErr result (self.new ≡ self.old) }
     {
-        let number = self.slots.len();
-        if number >= MOST_STATES {
-            return Err(GrowFault::TooManyStates);
-        }
-        let alloc = *self.slots.allocator();
-        self.slots.push(Slot::new(alloc, W::zero()))?;
-        Ok(number as u32)
+        let number = self.kept.add_state(W::zero())?;
+        Ok(number)
     }
 
     /// Adds an arc behind the others of a state. `TooManyArcs` exactly where there are 33,554,432 arcs. Any
@@ -123,12 +110,7 @@ impl<W: Weight> Fst<W> {
         ensures few_states { IsErrOf result GrowFault.TooManyStates → ⊥ }
         ensures err { OnErr result (self.new ≡ self.old) }
     {
-        if self.total >= MOST_ARCS {
-            return Err(GrowFault::TooManyArcs);
-        }
-        let slot = &mut self.slots[state as usize];
-        slot.put(&mut self.store, arc)?;
-        self.total += 1;
+        self.kept.add_arc(state, arc)?;
         Ok(())
     }
 
@@ -137,7 +119,7 @@ impl<W: Weight> Fst<W> {
         requires { state < length self.old.states }
         ensures { self.new ≡ record self.old { start = Some state } }
     {
-        self.start = Some(state);
+        self.kept.set_start(state);
     }
 
     /// Sets the final weight of a state.
@@ -145,8 +127,7 @@ impl<W: Weight> Fst<W> {
         requires { state < length self.old.states }
         ensures { self.new ≡ record self.old { states = changed (with_final weight) self.old.states state } }
     {
-        let slot = &mut self.slots[state as usize];
-        slot.last = weight;
+        self.kept.set_final(state, weight);
     }
 
     /// The start; `None` exactly where there is none. Takes no memory.
@@ -154,7 +135,7 @@ impl<W: Weight> Fst<W> {
         ensures value { result ≡ self.now.start }
         ensures state { IfSome result (λ s. s < length self.now.states) }
     {
-        self.start
+        self.kept.start()
     }
 
     /// The number of states, and with it what holds of every machine. Takes no memory.
@@ -162,14 +143,14 @@ impl<W: Weight> Fst<W> {
         ensures value { result ≡ length self.now.states }
         ensures machine { IsMachine W.value self.now }
     {
-        self.slots.len() as u32
+        self.kept.states()
     }
 
     /// The number of arcs of all states together. Takes no memory.
     pub fn arc_count(&self) -> u32
         ensures { result ≡ arc_total self.now.states }
     {
-        self.total
+        self.kept.arc_count()
     }
 
     /// The arcs of a state, in order. Takes no memory.
@@ -177,8 +158,7 @@ impl<W: Weight> Fst<W> {
         requires { state < length self.now.states }
         ensures { option_map (λ s. s.arcs) (slice_get self.now.states state) ≡ Some result.now }
     {
-        let slot = &self.slots[state as usize];
-        slot.arcs(self.store.as_slice())
+        self.kept.arcs(state)
     }
 
     /// The final weight of a state; Zero where it is not final. Takes no memory.
@@ -186,7 +166,6 @@ impl<W: Weight> Fst<W> {
         requires { state < length self.now.states }
         ensures { option_map (λ s. s.final) (slice_get self.now.states state) ≡ Some result }
     {
-        let slot = &self.slots[state as usize];
-        slot.last
+        self.kept.final_weight(state)
     }
 }

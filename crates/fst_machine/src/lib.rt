@@ -1,7 +1,9 @@
 //! Weighted finite-state machines.
 //!
 //! `Fst` is a machine that grows by its calls and keeps its limits, the range of its labels and next
-//! states, and that no arc has weight Zero. Contracts see it as the plain data of `specs/Machine.antt`.
+//! states, and that no arc has weight Zero. Contracts see it as the plain data of `specs/Machine.antt`. `WideFst` is
+//! the same with weights of the wide form, so that products of weights can be kept; `narrow_all` makes a machine of
+//! it where all its numbers are in range. Both stand on `kept`, which takes no notice of what a weight is.
 //!
 //! The definitions of the subject stand in `specs`, over graphs of plain values with any kind of name, of which
 //! a machine is one: paths and what they read, write and weigh, the relation and the weight of a pair, cycles,
@@ -11,16 +13,23 @@
 mod arc;
 mod breadth_first;
 mod fst;
+mod kept;
 pub mod laws;
+mod narrow;
 mod path;
 mod slot;
+mod wide;
 
 pub use arc::FstArc;
 pub use breadth_first::{find, walk};
 pub use fst::{Fst, GrowFault, MOST_ARCS, MOST_STATES, StateList};
 pub use fst_fields::MOST_LABEL;
+pub use narrow::{NarrowFault, narrow_all};
 pub use path::{Path, Paths, Step};
+pub use wide::{WideArc, WideFst};
 
+#[cfg(test)]
+mod narrow_tests;
 #[cfg(test)]
 mod path_tests;
 #[cfg(test)]

@@ -5,6 +5,7 @@ ghost use Rattle.fst_machine.specs.Machine.{IsMachine, arc_total, most_arcs};
 
 use super::Fst;
 use crate::arc::FstArc;
+use crate::kept::Kept;
 use crate::slot::Slot;
 use fst_semiring::Weight;
 use std::alloc::{AllocError, Global};
@@ -78,10 +79,12 @@ impl<W: Weight> StateList<W> {
     {
         let total = self.store.len() as u32;
         Fst {
-            start,
-            slots: self.slots,
-            store: self.store,
-            total,
+            kept: Kept {
+                start,
+                slots: self.slots,
+                store: self.store,
+                total,
+            },
         }
     }
 }

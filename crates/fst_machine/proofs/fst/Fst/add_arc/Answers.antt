@@ -1,25 +1,12 @@
-use Rattle.std.proofs.Common.{◌≡◌, length, sym, ap, ◌∙◌, arith}
-use Rattle.std.proofs.lemmas.List.{length-map}
-use Rattle.fst_machine.specs.Machine.{IsArc, with_arc}
-use Rattle.fst_machine.specs.Store.{kept_state, kept_states}
-use Rattle.fst_machine.proofs.Changes.{set-changed}
-use Rattle.fst_machine.proofs.Keeping.{IsKept-put, kept_states-put, kept_read}
+use Rattle.std.proofs.Common.{◌<◌, length}
+use Rattle.fst_machine.specs.declared.fst.GrowFault.TheVariants.{TooManyArcs}
+use Rattle.fst_machine.specs.Machine.{IsArc, arc_total, most_arcs}
+use Rattle.fst_machine.proofs.Changes.{IsMachine-with_arc, has_room}
 use Rattle.fst_machine.proofs.fst.Fst.add_arc.Goals as goal
 
 pub invariant_of-self-2 : goal.invariant_of-self-2
 invariant_of-self-2 g c =
-    let slots = c.self.inside.slots.items in
-    let store = c.self.inside.store.items in
-    let same : length slots ≡ length c.args.self.now.states = sym (length-map slots (kept_state store)) ∙ ap (λ m. length m.states) c.self.view_is in
-    let good : IsArc g.W.Weight.value (length slots) c.args.arc = record { ilabel = c.requires.ilabel; olabel = c.requires.olabel; weight = c.requires.weight; next = omega (arith, c.requires.next) } in
-    IsKept-put g.W.Weight.value c.self.inside.start slots store c.put.new.store.items c.self.inside.total c.args.state c.args.arc c.index_mut-slot.result.now c.put.new.self c.self.invariant (omega (arith, c.requires.state)) c.index_mut-slot.ensures.value good (omega arith) c.in_ok-put.ensures.ok
-
-pub returns-clause-ok : goal.returns-clause-ok
-returns-clause-ok g c =
-    let slots = c.self.inside.slots.items in
-    let store = c.self.inside.store.items in
-    let before = c.index_mut-slot.result.now in
-    let same : length (kept_states store slots) ≡ length c.args.self.now.states = ap (λ m. length m.states) c.self.view_is in
-    rw (← c.self.view_is) (ap (λ ss. record { start = c.self.inside.start; states = ss })
-    (kept_states-put c.args.arc store c.put.new.store.items slots c.args.state before c.put.new.self c.self.invariant.parts c.in_ok-put.ensures.ok
-    ∙ set-changed (with_arc c.args.arc) (kept_states store slots) c.args.state _ _ (omega (arith, c.requires.state)) (ap (with_arc c.args.arc) (kept_read store slots c.args.state before c.index_mut-slot.ensures.value))))
+    let m = c.self.inside.kept in
+    let good : IsArc g.W.Weight.value (length m.states) c.args.arc = record { ilabel = c.requires.ilabel; olabel = c.requires.olabel; weight = c.requires.weight; next = rw c.self.view_is c.requires.next } in
+    let room : arc_total m.states < most_arcs = has_room c.add_arc.result _ TooManyArcs (arc_total m.states) most_arcs c.in_ok-add_arc.was c.add_arc.ensures.full in
+    rw c.in_ok-add_arc.ensures.ok (IsMachine-with_arc g.W.Weight.value m c.args.state c.args.arc c.self.invariant (rw c.self.view_is c.requires.state) good room)
