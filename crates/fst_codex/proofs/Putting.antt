@@ -16,7 +16,7 @@ use Rattle.fst_machine.specs.Machine.{Arc, IsArc, IsMachine, Machine, State, arc
 use Rattle.fst_machine.specs.BreadthFirst.{Grows}
 use Rattle.fst_machine.proofs.Arcs.{at_append_left}
 use Rattle.fst_machine.proofs.Walks.{Grows-front, Grows-then}
-use Rattle.fst_rational.proofs.States.{stands}
+use Rattle.fst_machine.proofs.Valued.{stands}
 use Rattle.fst_codex.specs.Coding.{PutsArcs, PutsStates}
 use Rattle.fst_codex.specs.Encoded.{IsEncodedArc, IsEncodedState, arc_entries, entry_of, left_weight, state_entries}
 use Rattle.fst_codex.specs.Table.{Entry, Table, most_entries}

@@ -1,6 +1,6 @@
-//! Unions and products of relations, by definition.
+//! Unions, products and compositions of relations, by definition.
 
-use crate::relation::{ARCS, Triple, add_arcs, one, put, times};
+use crate::relation::{ARCS, Triple, add_arcs, matches, one, put, shared_arcs, times};
 use fst_semiring::ArcType;
 use std::alloc::{AllocError, Global};
 use std::process::Abort;
@@ -104,6 +104,65 @@ pub(crate) fn concatenated(
     b: &[Triple],
 ) -> Result<Vec<Triple>, AllocError> {
     products(rt, alloc, kind, 1, a, b)
+}
+
+/// Puts the triples that a triple has with each of others that it matches behind a list.
+fn put_matches(
+    rt: &impl Abort,
+    alloc: Global,
+    kind: ArcType,
+    a: &Triple,
+    others: &[Triple],
+    list: &mut Vec<Triple>,
+) -> Result<(), AllocError> {
+    for b in others {
+        if matches(a, b) {
+            let triple = Triple {
+                arcs: shared_arcs(rt, a, b),
+                input: joined(alloc, a.input.as_slice(), &[])?,
+                output: joined(alloc, b.output.as_slice(), &[])?,
+                weight: times(rt, kind, a.weight, b.weight),
+            };
+            put(list, triple)?;
+        }
+    }
+    Ok(())
+}
+
+/// The composition: the input of a triple of the first, and the output of one of the second that reads what the first
+/// writes, with the product of their weights.
+pub(crate) fn composed(
+    rt: &impl Abort,
+    alloc: Global,
+    kind: ArcType,
+    a: &[Triple],
+    b: &[Triple],
+) -> Result<Vec<Triple>, AllocError> {
+    let mut list = Vec::new(alloc);
+    for triple in a {
+        put_matches(rt, alloc, kind, triple, b, &mut list)?;
+    }
+    Ok(list)
+}
+
+/// How many of these paths match a path, so that both make a path of at most `ARCS` arcs.
+fn count_matches(rt: &impl Abort, a: &Triple, others: &[Triple]) -> usize {
+    let mut count = 0;
+    for b in others {
+        if matches(a, b) && shared_arcs(rt, a, b) <= ARCS as usize {
+            count = add_arcs(rt, count, 1);
+        }
+    }
+    count
+}
+
+/// How many matching pairs of paths make a path of at most `ARCS` arcs.
+pub(crate) fn count_pairs(rt: &impl Abort, a: &[Triple], b: &[Triple]) -> usize {
+    let mut count = 0;
+    for path in a {
+        count = add_arcs(rt, count, count_matches(rt, path, b));
+    }
+    count
 }
 
 /// The triples that stand before the first round of a closure: the product of no triples for star, and the

@@ -76,9 +76,31 @@ pub(crate) fn put(triples: &mut Vec<Triple>, triple: Triple) -> Result<(), Alloc
     Ok(())
 }
 
+/// Whether a path says what another reads.
+pub(crate) fn matches(a: &Triple, b: &Triple) -> bool {
+    a.output.as_slice() == b.input.as_slice()
+}
+
+/// The number of arcs of the path of a composition that goes along two paths that match: they share an arc for each
+/// label of the string between them.
+pub(crate) fn shared_arcs(rt: &impl Abort, a: &Triple, b: &Triple) -> usize {
+    let both = add_arcs(rt, a.arcs, b.arcs);
+    both.checked_sub(a.output.len())
+        .expect(rt, "as many arcs as labels")
+}
+
 /// Two numbers of arcs together.
 pub(crate) fn add_arcs(rt: &impl Abort, a: usize, b: usize) -> usize {
     a.checked_add(b).expect(rt, "few arcs")
+}
+
+/// The triples of the successful paths of at most `ARCS` arcs, one for each path.
+pub(crate) fn said<W: Weight>(alloc: Global, fst: &Fst<W>) -> Result<Vec<Triple>, AllocError> {
+    let mut triples = Vec::new(alloc);
+    for path in &successful_paths(alloc, fst, ARCS)? {
+        triples.push(triple_of(alloc, path)?)?;
+    }
+    Ok(triples)
 }
 
 /// The triples that the plain program lists, over successful paths of at most `ARCS` arcs.

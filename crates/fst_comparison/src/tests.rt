@@ -3,13 +3,14 @@
 
 use crate::machines::machines;
 use crate::operations::{Change, apply, changed};
-use crate::products::{closed, concatenated, united};
-use crate::relation::{ARCS, relation, says};
+use crate::products::{closed, composed, concatenated, count_pairs, united};
+use crate::relation::{ARCS, add_arcs, relation, said, says};
+use fst_compose::compose;
 use fst_machine::Fst;
 use fst_plain::{PlainCost, breadth_first, distances_to_final};
 use fst_rational::{closure, concat, union};
 use fst_semiring::{Boolean, Lexicographic, MinMax, Tropical, Weight};
-use fst_trim::{Side, connect, is_sorted};
+use fst_trim::{Side, arcsort, connect, is_sorted};
 use std::alloc::Global;
 use std::process::Abort;
 use std::test::Fail;
@@ -183,6 +184,65 @@ fn concatenates(rt: HostRuntime) -> Result<(), Fail> {
     compare_pairs::<Tropical>(&rt, rt.alloc(), true)?;
     compare_pairs::<MinMax>(&rt, rt.alloc(), true)?;
     compare_pairs::<Lexicographic>(&rt, rt.alloc(), true)?;
+    Ok(())
+}
+
+/// Asks of the composition of two machines: its triples, and that it has one path for each matching pair of paths.
+/// Gives how many these are.
+fn compare_composition<W: Weight>(
+    rt: &impl Abort,
+    alloc: Global,
+    a: &Fst<W>,
+    b: &Fst<W>,
+) -> Result<usize, Fail> {
+    let first = said(alloc, a)?;
+    let second = said(alloc, b)?;
+    let (first, second) = (first.as_slice(), second.as_slice());
+    let sorted = arcsort(alloc, a, Side::Output)?;
+    let made = compose(alloc, &sorted, b, 1_000)?;
+    let wanted = composed(rt, alloc, W::KIND, first, second)?;
+    says(rt, alloc, &made.fst, wanted.as_slice())?;
+    assert_eq!(rt; made.names.len(), made.fst.states() as usize);
+    let paths = said(alloc, &made.fst)?;
+    assert_eq!(rt; paths.len(), count_pairs(rt, first, second));
+    Ok(paths.len())
+}
+
+/// Asks of the composition of a machine with each of others. Gives how many paths they have together.
+fn compare_compositions<W: Weight>(
+    rt: &impl Abort,
+    alloc: Global,
+    a: &Fst<W>,
+    others: &[Fst<W>],
+) -> Result<usize, Fail> {
+    let mut count = 0;
+    for b in others {
+        count = add_arcs(rt, count, compare_composition(rt, alloc, a, b)?);
+    }
+    Ok(count)
+}
+
+/// Asks of the composition of each two machines of an arc type. Gives how many paths they have together.
+fn compare_all_compositions<W: Weight>(rt: &impl Abort, alloc: Global) -> Result<usize, Fail> {
+    let list = machines::<W>(rt, alloc)?;
+    let mut count = 0;
+    for a in &list {
+        let more = compare_compositions(rt, alloc, a, list.as_slice())?;
+        count = add_arcs(rt, count, more);
+    }
+    Ok(count)
+}
+
+/// The number was counted by a program of another language, which pairs paths as the definition says.
+#[test]
+fn composes(rt: HostRuntime) -> Result<(), Fail> {
+    assert_eq!(rt; compare_all_compositions::<Boolean>(&rt, rt.alloc())?, 630);
+    assert_eq!(rt; compare_all_compositions::<Tropical>(&rt, rt.alloc())?, 630);
+    assert_eq!(rt; compare_all_compositions::<MinMax>(&rt, rt.alloc())?, 630);
+    assert_eq!(rt;
+        compare_all_compositions::<Lexicographic>(&rt, rt.alloc())?,
+        630
+    );
     Ok(())
 }
 

@@ -21,7 +21,7 @@ use Rattle.fst_rational.specs.Changing.{goings}
 use Rattle.fst_rational.specs.Constructions.{carried, closure_of, entry, plus_of, star_of}
 use Rattle.fst_rational.specs.Limits.{start_count}
 use Rattle.fst_rational.specs.Relations.{Closes, IsFilled, IsProductOf, Said, Triple}
-use Rattle.fst_rational.proofs.States.{arc_total-valued}
+use Rattle.fst_machine.proofs.Valued.{arc_total-valued}
 use Rattle.fst_rational.proofs.Blocks.{Inside, arc_total-carried, block_continues, block_final, carried-good, start_inside}
 use Rattle.fst_rational.proofs.Continued.{Splits, continue_says, continue_splits, stays_said, stays_says}
 use Rattle.fst_rational.proofs.Uniting.{entry-good, entry_count, entry_low, entry_only, one_not_zero}

@@ -19,7 +19,7 @@ use Rattle.fst_machine.proofs.Renaming.{renamed-RelFrom}
 use Rattle.fst_rational.specs.Changing.{goings, onward}
 use Rattle.fst_rational.specs.Constructions.{carried, concat_of}
 use Rattle.fst_rational.specs.Relations.{Concatenates, IsProduct, Triple}
-use Rattle.fst_rational.proofs.States.{arc_total-valued}
+use Rattle.fst_machine.proofs.Valued.{arc_total-valued}
 use Rattle.fst_rational.proofs.Blocks.{Inside, arc_total-carried, block_arcs, block_continues, block_final, block_renames, carried-good, goings-none, next_inside, start_inside}
 use Rattle.fst_rational.proofs.Continued.{Splits, continue_says, continue_splits}
 

@@ -4,7 +4,7 @@ use Rattle.std.proofs.lemmas.List.{length-map}
 use Rattle.std.proofs.lemmas.List.Sums.{sum_by-cons, sum_by-append}
 use Rattle.fst_semiring.specs.Cost.{Cost}
 use Rattle.fst_machine.specs.Machine.{Arc, State, Machine, IsMachine, arc_total, most_arcs, valued, valued_arc, valued_state}
-use Rattle.fst_rational.proofs.States.{IsMachine-unvalued, arc_total-valued}
+use Rattle.fst_machine.proofs.Valued.{IsMachine-unvalued, arc_total-valued}
 
 module _ {V : Type 0} (value : V → Cost) where
   -- the first state is put

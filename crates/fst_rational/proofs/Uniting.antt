@@ -24,7 +24,7 @@ use Rattle.fst_machine.proofs.Renaming.{renamed-RelFrom}
 use Rattle.fst_rational.specs.Constructions.{carried, entry, union_of}
 use Rattle.fst_rational.specs.Limits.{start_count}
 use Rattle.fst_rational.specs.Relations.{Unites}
-use Rattle.fst_rational.proofs.States.{arc_total-valued}
+use Rattle.fst_machine.proofs.Valued.{arc_total-valued}
 use Rattle.fst_rational.proofs.Putting.{head_put}
 use Rattle.fst_rational.proofs.Blocks.{Inside, arc_total-carried, block_renames, carried-good, goings-none, start_inside}
 

@@ -10,7 +10,7 @@ use Rattle.fst_semiring.specs.Cost.{Cost}
 use Rattle.fst_machine.specs.BreadthFirst.{Has}
 use Rattle.fst_machine.specs.Graph.{renamed}
 use Rattle.fst_machine.specs.Machine.{Arc, State, arc_total, most_arcs, valued_arc, valued_state}
-use Rattle.fst_rational.proofs.States.{arc_total-valued, stands}
+use Rattle.fst_machine.proofs.Valued.{arc_total-valued, stands}
 use Rattle.fst_replace.specs.Calls.{Calling, arcs_of, call_of, calls_in, rules_in}
 use Rattle.fst_replace.specs.Expansion.{Shape, blocks_size, entered, entered_by, entered_states}
 use Rattle.fst_replace.specs.Rules.{place_of}

@@ -1,6 +1,6 @@
 -- What a replacement relates: its paths are those of the machines of its rules, with each call read as a triple of
 -- the rule that is called.
-use Rattle.std.proofs.Common.{◌≡◌, ◌⊎◌, ◌↔◌, inl, inr, ℕ, ◌+◌, ◌<◌, ◌≤◌, zero, suc, false, List, [], ◌∷◌, ◌++◌, Option, None, Some, length, map, get_or, slice_get, refl, sym, ap, ap₂, ◌∙◌, subst, append_assoc, append-nil, arith}
+use Rattle.std.proofs.Common.{◌≡◌, ◌⊎◌, ◌↔◌, inl, inr, ℕ, ◌+◌, ◌<◌, zero, suc, false, List, [], ◌∷◌, ◌++◌, Option, None, Some, length, slice_get, refl, sym, ap, ◌∙◌, subst, append_assoc, arith}
 use Rattle.std.specs.Prelude.{IfSome}
 use Rattle.fst_semiring.specs.Cost.{Cost, infinite}
 use Rattle.fst_semiring.specs.declared.arc_type.ArcType.{ArcType}
@@ -8,17 +8,16 @@ use Rattle.fst_semiring.specs.Semiring.{one_of, times}
 use Rattle.fst_semiring.proofs.Laws.{times_assoc, one_times}
 use Rattle.fst_machine.specs.Machine.{Arc, State, Machine, IsMachine}
 use Rattle.fst_machine.specs.Continuing.{Continues, Stays, epsilon_arc}
-use Rattle.fst_machine.specs.Futures.{SaysArc, SaysEnd}
-use Rattle.fst_machine.specs.Graph.{graph_of, no_state}
+use Rattle.fst_machine.specs.Graph.{graph_of}
 use Rattle.fst_machine.specs.Letters.{before, input, output, product}
 use Rattle.fst_machine.specs.Paths.{Transition, IsPath, letters}
-use Rattle.fst_machine.specs.Relation.{Rel, RelFrom}
+use Rattle.fst_machine.specs.Relation.{RelFrom}
 use Rattle.fst_machine.proofs.Futures.{RelFrom-arc, RelFrom-end}
-use Rattle.fst_rational.specs.Relations.{IsProduct, Triple}
+use Rattle.fst_rational.specs.Relations.{Triple}
 use Rattle.fst_rational.proofs.Blocks.{HasArcs, Inside, block_continues, block_final, next_inside}
 use Rattle.fst_rational.proofs.Continued.{Splits, continue_says, continue_splits}
 use Rattle.fst_replace.specs.Calls.{Calling, arcs_of, call_of, calling, calls_in}
-use Rattle.fst_replace.specs.Expansion.{Shape, blocks_size, entered, entered_by, entered_states, entry, expanded, expansion, replaced, shape_of}
+use Rattle.fst_replace.specs.Expansion.{Shape, blocks_size, entered, entered_by, entry, expanded, expansion, replaced, shape_of}
 use Rattle.fst_replace.specs.Relation.{IsRead, IsReadFrom, IsReplacedTriple, ReadsArc, ReadsPath, Replaces}
 use Rattle.fst_replace.specs.Rules.{IsRules, Labelled, labels_of, machine_at, place_of, valued_rules}
 use Rattle.fst_replace.proofs.Emitting.{size-append}

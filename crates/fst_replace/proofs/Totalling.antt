@@ -12,7 +12,7 @@ use Rattle.std.proofs.lemmas.List.{map-append}
 use Rattle.std.proofs.lemmas.List.Elements.{All-nil}
 use Rattle.std.proofs.lemmas.List.Quantifiers.{position-Some}
 use Rattle.fst_machine.proofs.Elements.{Has-append_cases}
-use Rattle.fst_rational.proofs.States.{IsMachine-valued}
+use Rattle.fst_machine.proofs.Valued.{IsMachine-valued}
 use Rattle.fst_replace.specs.Calls.{Calling, HasNoRecursion, Reaches, arcs_of, call_of, called, calling, calls_in, rules_in}
 use Rattle.fst_replace.proofs.Goodness.{expansion_good}
 use Rattle.fst_replace.specs.Expansion.{Shape, expanded, expansion, replaced, shape_of}

@@ -7,7 +7,7 @@ use Rattle.fst_semiring.specs.Cost.{Cost}
 use Rattle.fst_machine.specs.Machine.{State, Machine, arc_total, most_arcs, most_states, no_states, valued, valued_state}
 use Rattle.fst_machine.proofs.Elements.{Has-append_right}
 use Rattle.fst_rational.specs.Constructions.{carried}
-use Rattle.fst_rational.proofs.States.{arc_total-valued}
+use Rattle.fst_machine.proofs.Valued.{arc_total-valued}
 use Rattle.fst_replace.specs.Calls.{Calling, Reaches, arcs_of, called, calls_in, rules_in}
 use Rattle.fst_replace.specs.Expansion.{Shape, blocks, blocks_size, entered_states, expansion, replaced}
 use Rattle.fst_replace.specs.Rules.{Labelled, labels_of, machine_at, valued_rules}

@@ -1,5 +1,5 @@
 -- What holds of a machine holds of the machine with each weight as its value.
-use Rattle.std.proofs.Common.{◌≡◌, ℕ, ◌+◌, Bool, true, false, cond, List, [], ◌∷◌, Some, length, get_or, map, map-id, slice_get, sum_by, count_by, filter, refl, sym, ap, ◌∙◌, subst, arith, is_lt, nat_cmp}
+use Rattle.std.proofs.Common.{◌≡◌, ◌↔◌, ℕ, ◌+◌, Bool, true, false, cond, List, [], ◌∷◌, Some, length, get_or, map, map-id, slice_get, sum_by, count_by, filter, refl, sym, ap, ◌∙◌, subst, arith, is_lt, nat_cmp}
 use Rattle.std.specs.List.Sorted.{IsPermutation, IsStableByKey, ties}
 use Rattle.std.specs.Bool.{Decides}
 use Rattle.std.specs.Option.{option_map}
@@ -180,6 +180,10 @@ decided : {P Q : Type 0} (r : Bool) → (P → Q) → (Q → P) → Decides r P 
 decided r to from d = (λ e. to (d.0 e), λ q. d.1 (from q))
 
 -- what is said of a machine
+-- the arcs stand by their labels with their weights or with the values of these
+pub IsSortedOn-valued : {V : Type 0} (value : V → Cost) (side : Side) (m : Machine V) → IsSortedOn side m ↔ IsSortedOn side (valued value m)
+IsSortedOn-valued value side m = (like_sorted (values_from value m) side, like_sorted (from_values value m) side)
+
 pub IsInfo-valued : {V : Type 0} (kind : ArcType) (value : V → Cost) (m : Machine V) (i : Info) → IsInfo kind value m i → IsInfo kind (λ w. w) (valued value m) i
 IsInfo-valued kind value m i h =
     let again = valued_costs (valued value m) in

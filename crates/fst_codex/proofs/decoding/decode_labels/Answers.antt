@@ -1,7 +1,7 @@
 use Rattle.std.proofs.Common.{◌≡◌, ◌∙◌, ℕ, None, Some, length, map, sym, ap, subst}
 use Rattle.std.proofs.lemmas.List.{length-map}
 use Rattle.fst_machine.specs.Machine.{IsMachine, valued, valued_state}
-use Rattle.fst_rational.proofs.States.{IsMachine-valued, IsMachine-unvalued}
+use Rattle.fst_machine.proofs.Valued.{IsMachine-valued, IsMachine-unvalued}
 use Rattle.fst_trim.specs.FirstArcs.{IsFirstArc}
 use Rattle.fst_codex.specs.Decoded.{IsOutside, decoded}
 use Rattle.fst_codex.specs.Table.{valued_entry, valued_table}

@@ -2,7 +2,8 @@ use Rattle.std.proofs.Common.{◌≡◌, ◌≤◌, ◌+◌, ◌++◌, ◌∷◌
 use Rattle.std.proofs.lemmas.List.{length-map, map-append, take_all}
 use Rattle.fst_semiring.specs.Cost.{Cost}
 use Rattle.fst_machine.specs.Machine.{Arc, State, arc_total, most_arcs, valued_arc, valued_state}
-use Rattle.fst_rational.proofs.States.{arc_total-valued, state_fits, state_put}
+use Rattle.fst_machine.proofs.Valued.{arc_total-valued}
+use Rattle.fst_rational.proofs.States.{state_fits, state_put}
 use Rattle.fst_trim.proofs.Places.{above_all, above_more}
 use Rattle.fst_codex.specs.Decoded.{PassesRange, decoded_arc, decoded_state}
 use Rattle.fst_codex.specs.Table.{valued_table}

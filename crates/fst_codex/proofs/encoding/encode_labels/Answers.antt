@@ -5,7 +5,7 @@ use Rattle.fst_machine.specs.Machine.{Machine, valued, valued_state}
 use Rattle.fst_codex.specs.declared.decoding.DecodeFault.{DecodeFault}
 use Rattle.fst_codex.specs.Decoded.{Decodes, GivesBack}
 use Rattle.fst_codex.specs.Encoded.{IsEncoded}
-use Rattle.fst_rational.proofs.States.{IsMachine-valued, IsMachine-unvalued}
+use Rattle.fst_machine.proofs.Valued.{IsMachine-valued, IsMachine-unvalued}
 use Rattle.fst_codex.specs.Coding.{PutsStates}
 use Rattle.fst_codex.specs.Table.{Table, most_entries, valued_entry, valued_table}
 use Rattle.fst_codex.proofs.Putting.{IsMachine-encoded}

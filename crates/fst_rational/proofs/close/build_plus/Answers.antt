@@ -1,7 +1,7 @@
 use Rattle.std.proofs.Common.{◌≡◌, ℕ, ◌++◌, [], true, List, Option, map, sym, ap, ◌∙◌, append-nil}
 use Rattle.fst_machine.specs.Machine.{State, valued, valued_state}
 use Rattle.fst_rational.specs.Constructions.{carried, plus_of}
-use Rattle.fst_rational.proofs.States.{IsMachine-valued}
+use Rattle.fst_machine.proofs.Valued.{IsMachine-valued}
 use Rattle.fst_rational.proofs.Putting.{next_room, put_machine, put_valued}
 use Rattle.fst_rational.proofs.Closing.{IsMachine-plus}
 use Rattle.fst_rational.proofs.close.build_plus.Goals as goal

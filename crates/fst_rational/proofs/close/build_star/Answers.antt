@@ -3,7 +3,7 @@ use Rattle.fst_semiring.specs.Cost.{Cost}
 use Rattle.fst_semiring.specs.Semiring.{one_of}
 use Rattle.fst_machine.specs.Machine.{Arc, State, valued, valued_arc, valued_state}
 use Rattle.fst_rational.specs.Constructions.{carried, entry, star_of}
-use Rattle.fst_rational.proofs.States.{IsMachine-valued}
+use Rattle.fst_machine.proofs.Valued.{IsMachine-valued}
 use Rattle.fst_rational.proofs.Putting.{head_put, head_room, next_room, put_machine, put_valued}
 use Rattle.fst_rational.proofs.Closing.{IsMachine-star}
 use Rattle.fst_rational.proofs.close.build_star.Goals as goal

@@ -2,7 +2,7 @@ use Rattle.std.proofs.Common.{false, ◌≤◌, sym, subst, ◌∙◌}
 use Rattle.fst_machine.specs.Machine.{most_arcs, most_states, valued}
 use Rattle.fst_rational.specs.Constructions.{star_of}
 use Rattle.fst_rational.specs.Relations.{Closes}
-use Rattle.fst_rational.proofs.States.{IsMachine-valued}
+use Rattle.fst_machine.proofs.Valued.{IsMachine-valued}
 use Rattle.fst_rational.proofs.Sizes.{limited_memory, limited_ok, limited_refused, size_fits}
 use Rattle.fst_rational.proofs.Closing.{closure-Closes}
 use Rattle.fst_rational.proofs.close.close_star.Goals as goal

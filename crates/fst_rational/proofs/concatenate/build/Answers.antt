@@ -3,7 +3,7 @@ use Rattle.std.specs.Option.{option_map}
 use Rattle.std.proofs.lemmas.List.{length-map}
 use Rattle.fst_machine.specs.Machine.{State, valued, valued_state}
 use Rattle.fst_rational.specs.Constructions.{carried, concat_of}
-use Rattle.fst_rational.proofs.States.{IsMachine-valued}
+use Rattle.fst_machine.proofs.Valued.{IsMachine-valued}
 use Rattle.fst_rational.proofs.Putting.{next_room, put_machine, put_valued}
 use Rattle.fst_rational.proofs.Concatenating.{IsMachine-concat, concat_states, concat_whole}
 use Rattle.fst_rational.proofs.concatenate.build.Goals as goal

@@ -2,7 +2,7 @@ use Rattle.std.proofs.Common.{◌≤◌, sym, subst, ◌∙◌}
 use Rattle.fst_machine.specs.Machine.{most_arcs, most_states, valued}
 use Rattle.fst_rational.specs.Constructions.{concat_of}
 use Rattle.fst_rational.specs.Relations.{Concatenates}
-use Rattle.fst_rational.proofs.States.{IsMachine-valued}
+use Rattle.fst_machine.proofs.Valued.{IsMachine-valued}
 use Rattle.fst_rational.proofs.Sizes.{limited_memory, limited_ok, limited_refused, size_fits}
 use Rattle.fst_rational.proofs.Concatenating.{concat-Concatenates}
 use Rattle.fst_rational.proofs.concatenate.concat.Goals as goal

@@ -2,7 +2,7 @@ use Rattle.std.proofs.Common.{◌≡◌, List, map, refl, ap, sym, subst, arith}
 use Rattle.fst_semiring.specs.Cost.{Cost}
 use Rattle.fst_machine.specs.Machine.{State, IsMachine, arc_total, valued, valued_state}
 use Rattle.fst_rational.specs.Labels.{labelled_state}
-use Rattle.fst_rational.proofs.States.{IsMachine-valued, IsMachine-unvalued, arc_total-valued}
+use Rattle.fst_machine.proofs.Valued.{IsMachine-valued, IsMachine-unvalued, arc_total-valued}
 use Rattle.fst_rational.proofs.Labelling.{IsMachine-labelled, arc_total-labelled, changed_labelled, only_labelled}
 use Rattle.fst_rational.proofs.labels.with_labels.Goals as goal
 

@@ -3,7 +3,7 @@ use Rattle.std.proofs.lemmas.List.{length-map}
 use Rattle.fst_machine.specs.Machine.{arc_total, valued, valued_state}
 use Rattle.fst_rational.specs.Backing.{put_all}
 use Rattle.fst_rational.specs.Constructions.{reverse_of}
-use Rattle.fst_rational.proofs.States.{IsMachine-valued, arc_total-valued}
+use Rattle.fst_machine.proofs.Valued.{IsMachine-valued, arc_total-valued}
 use Rattle.fst_rational.proofs.Putting.{put_machine, put_valued}
 use Rattle.fst_rational.proofs.Backing.{IsMachine-reverse, base, base_made, length-base, put_all-reverse}
 use Rattle.fst_rational.proofs.reversal.build.Goals as goal

@@ -1,7 +1,7 @@
 use Rattle.std.proofs.Common.{arith}
 use Rattle.std.proofs.lemmas.List.{length-map}
 use Rattle.fst_machine.specs.Machine.{valued, valued_state}
-use Rattle.fst_rational.proofs.States.{IsMachine-valued, arc_total-valued}
+use Rattle.fst_machine.proofs.Valued.{IsMachine-valued, arc_total-valued}
 use Rattle.fst_rational.proofs.Backing.{reverse_size}
 use Rattle.fst_rational.proofs.reversal.size.Goals as goal
 

@@ -2,7 +2,7 @@ use Rattle.std.proofs.Common.{◌≡◌, ◌+◌, ◌++◌, ◌∷◌, [], true,
 use Rattle.std.proofs.lemmas.List.{length-map}
 use Rattle.fst_machine.specs.Machine.{valued, valued_state}
 use Rattle.fst_rational.specs.Constructions.{carried, union_of}
-use Rattle.fst_rational.proofs.States.{IsMachine-valued}
+use Rattle.fst_machine.proofs.Valued.{IsMachine-valued}
 use Rattle.fst_rational.proofs.Putting.{head_room, next_room, put_machine, put_valued}
 use Rattle.fst_rational.proofs.Uniting.{IsMachine-union, head, union_entries, union_head, union_put, union_states, union_whole}
 use Rattle.fst_rational.proofs.unite.build.Goals as goal

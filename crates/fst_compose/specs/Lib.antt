@@ -1,0 +1,9 @@
+pub mod Names
+pub mod Composition
+pub mod Moves
+pub mod Reading
+pub mod Theorem
+pub mod Trimmed
+pub mod NameLaws
+pub mod Making
+pub mod Answers

@@ -1,0 +1,173 @@
+//! The arcs and the final weight of a name.
+
+ghost use Rattle.std.specs.Prelude.{◌≡◌, ◌<◌, ◌≤◌, ◌++◌, ◌⊎◌, IfOk, OnOk, length, map};
+ghost use Rattle.std.specs.List.{flat_map};
+ghost use Rattle.fst_semiring.specs.Semiring.{Within};
+ghost use Rattle.fst_machine.specs.Machine.{valued_arc};
+ghost use Rattle.fst_compose.specs.Composition.{first_arcs, match_arcs, second_arcs};
+ghost use Rattle.fst_compose.specs.Making.{composition, key_arc};
+ghost use Rattle.fst_trim.specs.Sides.{IsSortedOn};
+ghost use Rattle.fst_trim.specs.declared.side.Side.TheVariants as sides;
+
+use crate::key::{ComposeKey, KeyArc, key_at};
+use fst_machine::{Fst, FstArc};
+use fst_semiring::Weight;
+use std::alloc::{AllocError, Global};
+
+/// Puts the arc of two arcs behind the others, if these match.
+fn put_match<W: Weight>(
+    out: &mut Vec<KeyArc<W>>,
+    a: FstArc<W>,
+    b: FstArc<W>,
+) -> Result<(), AllocError>
+    ensures { OnOk result (map (key_arc W.wide_value) out.new.items ≡ map (key_arc W.wide_value) out.old.items ++ match_arcs W.KIND (valued_arc W.value a) (valued_arc W.value b)) }
+{
+    if a.olabel == b.ilabel {
+        out.push(KeyArc {
+            ilabel: a.ilabel,
+            olabel: b.olabel,
+            weight: a.weight.times(b.weight),
+            next: key_at(a.next, b.next, 0),
+        })?;
+    }
+    Ok(())
+}
+
+/// Puts the arcs of an arc with each of these that it matches behind the others.
+fn put_matches<W: Weight>(
+    out: &mut Vec<KeyArc<W>>,
+    a: FstArc<W>,
+    bs: &[FstArc<W>],
+) -> Result<(), AllocError>
+    ensures { OnOk result (map (key_arc W.wide_value) out.new.items ≡ map (key_arc W.wide_value) out.old.items ++ flat_map (match_arcs W.KIND (valued_arc W.value a)) (map (valued_arc W.value) bs.now)) }
+{
+    for b in bs {
+        put_match(out, a, *b)?;
+    }
+    Ok(())
+}
+
+/// Puts the arcs that an arc of the first machine has with these of the second behind the others.
+fn put_first<W: Weight>(
+    out: &mut Vec<KeyArc<W>>,
+    key: ComposeKey,
+    a: FstArc<W>,
+    bs: &[FstArc<W>],
+) -> Result<(), AllocError>
+    ensures { OnOk result (map (key_arc W.wide_value) out.new.items ≡ map (key_arc W.wide_value) out.old.items ++ first_arcs W.KIND key (map (valued_arc W.value) bs.now) (valued_arc W.value a)) }
+{
+    if a.olabel > 0 {
+        return put_matches(out, a, bs);
+    }
+    if key.filter > 0 {
+        return Ok(());
+    }
+    out.push(KeyArc {
+        ilabel: a.ilabel,
+        olabel: 0,
+        weight: a.weight.widen(),
+        next: key_at(a.next, key.second, 0),
+    })?;
+    Ok(())
+}
+
+/// The same for each of these arcs of the first machine.
+fn put_firsts<W: Weight>(
+    out: &mut Vec<KeyArc<W>>,
+    key: ComposeKey,
+    arcs: &[FstArc<W>],
+    bs: &[FstArc<W>],
+) -> Result<(), AllocError>
+    ensures { OnOk result (map (key_arc W.wide_value) out.new.items ≡ map (key_arc W.wide_value) out.old.items ++ flat_map (first_arcs W.KIND key (map (valued_arc W.value) bs.now)) (map (valued_arc W.value) arcs.now)) }
+{
+    for a in arcs {
+        put_first(out, key, *a, bs)?;
+    }
+    Ok(())
+}
+
+/// Puts the arc of an arc of the second machine alone behind the others, if it reads epsilon.
+fn put_second<W: Weight>(
+    out: &mut Vec<KeyArc<W>>,
+    key: ComposeKey,
+    b: FstArc<W>,
+) -> Result<(), AllocError>
+    ensures { OnOk result (map (key_arc W.wide_value) out.new.items ≡ map (key_arc W.wide_value) out.old.items ++ second_arcs key (valued_arc W.value b)) }
+{
+    if b.ilabel > 0 {
+        return Ok(());
+    }
+    out.push(KeyArc {
+        ilabel: 0,
+        olabel: b.olabel,
+        weight: b.weight.widen(),
+        next: key_at(key.first, b.next, 1),
+    })?;
+    Ok(())
+}
+
+/// The same for each of these arcs of the second machine.
+fn put_seconds<W: Weight>(
+    out: &mut Vec<KeyArc<W>>,
+    key: ComposeKey,
+    bs: &[FstArc<W>],
+) -> Result<(), AllocError>
+    ensures { OnOk result (map (key_arc W.wide_value) out.new.items ≡ map (key_arc W.wide_value) out.old.items ++ flat_map (second_arcs key) (map (valued_arc W.value) bs.now)) }
+{
+    for b in bs {
+        put_second(out, key, *b)?;
+    }
+    Ok(())
+}
+
+/// Puts the arcs of a name behind the others.
+pub(crate) fn put_arcs<W: Weight>(
+    out: &mut Vec<KeyArc<W>>,
+    a: &Fst<W>,
+    b: &Fst<W>,
+    key: ComposeKey,
+) -> Result<(), AllocError>
+    requires first { key.first < length a.now.states }
+    requires second { key.second < length b.now.states }
+    ensures { OnOk result (map (key_arc W.wide_value) out.new.items ≡ map (key_arc W.wide_value) out.old.items ++ (composition W.KIND W.value a.now b.now).arcs key) }
+{
+    let bs = b.arcs(key.second);
+    put_firsts(out, key, a.arcs(key.first), bs)?;
+    put_seconds(out, key, bs)?;
+    Ok(())
+}
+
+/// The arcs of a name, in order: those of each arc of the first machine's state, which goes alone where it writes
+/// epsilon, if the filter lets it, and else with each arc of the second machine's state that it matches; then those
+/// of the second machine's state that go alone. (Mohri 2009, section 4.1.)
+///
+/// Time: the product of the numbers of arcs of the two states.
+pub fn expand<W: Weight>(
+    alloc: Global,
+    a: &Fst<W>,
+    b: &Fst<W>,
+    key: ComposeKey,
+) -> Result<Vec<KeyArc<W>>, AllocError>
+    requires first { key.first < length a.now.states }
+    requires second { key.second < length b.now.states }
+    requires filter { key.filter ≤ 1 }
+    requires sorted { IsSortedOn sides.Output a.now ⊎ IsSortedOn sides.Input b.now }
+    ensures { IfOk result (λ arcs. map (key_arc W.wide_value) arcs.items ≡ (composition W.KIND W.value a.now b.now).arcs key) }
+{
+    let mut out = Vec::new(alloc);
+    put_arcs(&mut out, a, b, key)?;
+    Ok(out)
+}
+
+/// The final weight of a name: that of its states together. Its numbers have absolute value at most 2 times 10 to
+/// the 18. Takes no memory.
+pub fn key_final<W: Weight>(a: &Fst<W>, b: &Fst<W>, key: ComposeKey) -> W::Wide
+    requires first { key.first < length a.now.states }
+    requires second { key.second < length b.now.states }
+    ensures value { W.wide_value result ≡ (composition W.KIND W.value a.now b.now).final key }
+    ensures range { Within 2000000000000000000 (W.wide_value result) }
+{
+    let first = a.final_weight(key.first);
+    let second = b.final_weight(key.second);
+    first.times(second)
+}

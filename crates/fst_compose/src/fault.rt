@@ -1,0 +1,18 @@
+//! Why there is no composition.
+
+/// Why there is no composition. The first that holds, in this order, is the answer; only `Memory` may come
+/// in place of another.
+#[derive(Clone, Copy, Debug, PartialEq, Eq)]
+pub enum ComposeFault {
+    /// The arcs of some state of the first machine do not stand by their output labels, and those of some state
+    /// of the second do not stand by their input labels.
+    NotSorted,
+    /// The result would have more states than the limit.
+    StateLimit { limit: u32 },
+    /// The result would have more than 33,554,432 arcs.
+    TooManyArcs,
+    /// A weight of this state of the result, the first such, has a number of absolute value above 10 to the 18.
+    Overflow { state: u32 },
+    /// There is no memory.
+    Memory,
+}
