@@ -9,11 +9,13 @@ same machine has its state numbers permuted and spread out, as multiples of the 
     machines.py --chain PATH STATES
     machines.py --pairs PATH COUNT
     machines.py --rules ROOT RULE LABEL ARCS
+    machines.py --pair FIRST SECOND STATES
 
 With --symbols the labels are written by their names in a table of so many symbols, which is written too.
 With --chain each state has one arc, to the next one, and the last is final. With --pairs so many labels
 below 5,000 are given new ones. With --rules a root and a rule of 100 arcs are written, of which the root calls
-the rule by the label so often that with all calls replaced there are about so many arcs.
+the rule by the label so often that with all calls replaced there are about so many arcs. With --pair two machines of so many states are written to be
+composed: 20 arcs a state over 60 labels, one in ten of which writes, or reads, epsilon.
 """
 import random
 import sys
@@ -108,6 +110,29 @@ def write_rules(root, rule, label, arcs, seed=1):
         out.write("25\t2\n")
 
 
+def write_pair(first, second, states, seed=1, fan=20, labels=60):
+    """Writes two machines of which most pairs of states are reached, both sorted for composition."""
+    draw = random.Random(seed)
+
+    def label():
+        return draw.randrange(1, labels + 1)
+
+    for path, side in (first, 1), (second, 0):
+        with open(path, "w") as out:
+            for state in range(states):
+                here = []
+                for _ in range(fan):
+                    arc = [label(), label(), draw.randrange(states)]
+                    if draw.random() < 0.1 and state + 1 < states:
+                        # An arc of one machine alone leads to a later state, so that no cycle is of epsilons.
+                        arc[side], arc[2] = 0, draw.randrange(state + 1, states)
+                    here.append(arc)
+                for ilabel, olabel, target in sorted(here, key=lambda arc: arc[side]):
+                    out.write(f"{state}\t{target}\t{ilabel}\t{olabel}\t{draw.randrange(1000)}\n")
+                if state % 3 == 0 or state == states - 1:
+                    out.write(f"{state}\t{draw.randrange(1000)}\n")
+
+
 if __name__ == "__main__":
     if sys.argv[1] == "--chain":
         write_chain(sys.argv[2], int(sys.argv[3]))
@@ -115,6 +140,8 @@ if __name__ == "__main__":
         write_pairs(sys.argv[2], int(sys.argv[3]))
     elif sys.argv[1] == "--rules":
         write_rules(sys.argv[2], sys.argv[3], *map(int, sys.argv[4:6]))
+    elif sys.argv[1] == "--pair":
+        write_pair(sys.argv[2], sys.argv[3], int(sys.argv[4]))
     elif sys.argv[1] == "--symbols":
         write_symbols(sys.argv[2], int(sys.argv[3]))
         if len(sys.argv) > 4:

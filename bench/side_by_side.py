@@ -25,8 +25,11 @@ MOST_STATES = 4_194_304
 PAIRS = 1000
 # The labels of the root and of the rule that it calls.
 ROOT, CALL = 1_000_000, 1_000_001
-# The bounds of an operation on the ratios of time and of memory.
-TIME, MEMORY = 0.5, 1.7
+# The bounds of an operation on the ratios of time and of memory, and the bound of a composition on memory.
+TIME, MEMORY, COMPOSE_MEMORY = 0.5, 1.7, 2.0
+# How many arcs the composition of two machines of one state each would have: two machines of n states make n * n times
+# as many.
+PAIR_ARCS = 14
 # How many times as long an operation may take for ten times the arcs.
 GROWTH = 20
 # The operations: the command and its words, in which {0} is a machine and {1} a file of pairs. Both programs
@@ -118,6 +121,18 @@ def rules_cases(fst, size, scratch):
     return [("replace", [fst, "replace", *words[0], out + ".ours"], ["fstreplace", *plain, *words[1], out + ".theirs"], TIME, MEMORY)]
 
 
+def pair_cases(fst, size, scratch):
+    """The row of `compose`: two machines whose composition has about that many arcs."""
+    states = round((size / PAIR_ARCS) ** 0.5)
+    texts = [os.path.join(scratch, f"{name}.{size}.txt") for name in ("first", "second")]
+    subprocess.run([sys.executable, MACHINES, "--pair", *texts, str(states)], check=True)
+    sides = zip(*(machine_files(fst, text, scratch, name) for text, name in zip(texts, ("first", "second"))))
+    ours, theirs = sides
+    out = os.path.join(scratch, "out")
+    most = f"--max_states={MOST_STATES}"
+    return [("compose", [fst, "compose", most, *ours, out + ".ours"], ["fstcompose", *theirs, out + ".theirs"], TIME, COMPOSE_MEMORY)]
+
+
 def operation_cases(fst, size, scratch):
     """The rows of the operations on a random machine of that many arcs."""
     text, pairs = (os.path.join(scratch, f"{name}.{size}.txt") for name in ("dense", "pairs"))
@@ -125,7 +140,7 @@ def operation_cases(fst, size, scratch):
     subprocess.run([sys.executable, MACHINES, "--pairs", pairs, str(PAIRS)], check=True)
     files = machine_files(fst, text, scratch)
     rows = [(command, *operation(fst, command, words, files, pairs, scratch), TIME, MEMORY) for command, words in OPERATIONS]
-    return rows + coding_cases(fst, files, scratch) + rules_cases(fst, size, scratch)
+    return rows + coding_cases(fst, files, scratch) + rules_cases(fst, size, scratch) + pair_cases(fst, size, scratch)
 
 
 def chain_cases(fst, scratch):

@@ -13,3 +13,4 @@ pub mod Showing
 pub mod Describing
 pub mod Rules
 pub mod Replacing
+pub mod Composing

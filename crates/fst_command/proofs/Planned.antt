@@ -3,11 +3,11 @@ use Rattle.std.proofs.Common.{◌≡◌, ℕ, ◌<◌, ◌≤◌, ◌-◌, zero,
 use Rattle.fst_words.specs.declared.options.Options.{Options}
 use Rattle.fst_words.specs.declared.plan.Plan.{Plan}
 use Rattle.fst_words.specs.declared.verb.Verb.{Verb}
-use Rattle.fst_words.specs.declared.verb.Verb.TheVariants.{Compile, Print, Info, Invert, Reverse, Connect, Union, Concat, Closure, Project, Relabel, Arcsort, Encode, Replace}
+use Rattle.fst_words.specs.declared.verb.Verb.TheVariants.{Compile, Print, Info, Invert, Reverse, Connect, Union, Concat, Closure, Project, Relabel, Arcsort, Encode, Replace, Compose}
 use Rattle.fst_words.specs.Commands.{all_names}
 use Rattle.fst_words.specs.Plans.{input_files, is_replace, output_place, outputs_of}
 use Rattle.fst_words.specs.PlanLaws.{IsWhole}
-use Rattle.fst_command.specs.Operations.{is_coding, is_join, is_several}
+use Rattle.fst_command.specs.Operations.{is_coding, is_compose, is_join, is_pair, is_several}
 use Rattle.fst_command.proofs.Rules.{some_files}
 use Rattle.fst_command.specs.Plans.{Input, binary_form, codex_form, inputs_of, is_built, is_single, option_inputs, own_form, own_inputs}
 
@@ -44,10 +44,11 @@ single_by Relabel options first second one = record { own = refl; stored = refl 
 single_by Arcsort options first second one = record { own = refl; stored = refl }
 single_by _ options first second one = absurd cc
 
-join_by : (verb : Verb) (options : Options) (first second third : List ℕ) → is_join verb ≡ true → HasFiles (record { command = verb; names = first ∷ second ∷ third ∷ []; options = options }) (record { name = first; form = binary_form } ∷ record { name = second; form = binary_form } ∷ []) third
+join_by : (verb : Verb) (options : Options) (first second third : List ℕ) → is_pair verb ≡ true → HasFiles (record { command = verb; names = first ∷ second ∷ third ∷ []; options = options }) (record { name = first; form = binary_form } ∷ record { name = second; form = binary_form } ∷ []) third
 unfolding outputs_of
 join_by Union options first second third join = record { own = refl; stored = refl }
 join_by Concat options first second third join = record { own = refl; stored = refl }
+join_by Compose options first second third join = record { own = refl; stored = refl }
 join_by _ options first second third join = absurd cc
 
 single_count : (verb : Verb) (n : ℕ) → is_single verb ≡ true → n ≡ all_names verb n → n ≡ 2
@@ -63,16 +64,17 @@ single_count Relabel n one e = e
 single_count Arcsort n one e = e
 single_count _ n one e = absurd cc
 
-join_count : (verb : Verb) (n : ℕ) → is_join verb ≡ true → n ≡ all_names verb n → n ≡ 3
+join_count : (verb : Verb) (n : ℕ) → is_pair verb ≡ true → n ≡ all_names verb n → n ≡ 3
 join_count Union n join e = e
 join_count Concat n join e = e
+join_count Compose n join e = e
 join_count _ n join e = absurd cc
 
 -- a command with one input of its own has two names, one with two has three
 pub two_names : (plan : Plan) → is_single plan.command ≡ true → IsWhole plan → length plan.names ≡ 2
 two_names plan one whole = single_count plan.command (length plan.names) one whole.all
 
-pub three_names : (plan : Plan) → is_join plan.command ≡ true → IsWhole plan → length plan.names ≡ 3
+pub three_names : (plan : Plan) → is_pair plan.command ≡ true → IsWhole plan → length plan.names ≡ 3
 three_names plan join whole = join_count plan.command (length plan.names) join whole.all
 
 -- the names of a command with one input of its own
@@ -104,7 +106,7 @@ pub record HasThree (plan : Plan) (first : List ℕ) : Type 0 where
   pub inputs : inputs_of plan ≡ option_inputs plan.options ++ record { name = first; form = binary_form } ∷ record { name = second; form = binary_form } ∷ []
   pub stored : outputs_of plan ≡ output ∷ []
 
-pub has_three : (plan : Plan) (first : List ℕ) → is_join plan.command ≡ true → IsWhole plan → slice_get plan.names 0 ≡ Some first → HasThree plan first
+pub has_three : (plan : Plan) (first : List ℕ) → is_pair plan.command ≡ true → IsWhole plan → slice_get plan.names 0 ≡ Some first → HasThree plan first
 has_three plan first join whole at = go (three_items plan.names (three_names plan join whole)) where
   go : (a : List ℕ) × (b : List ℕ) × (c : List ℕ) × (plan.names ≡ a ∷ b ∷ c ∷ []) → HasThree plan first
   go (a, b, c, e) =
@@ -120,11 +122,12 @@ has_three plan first join whole at = go (three_items plan.names (three_names pla
       }
 
 -- a command with several machines has two
-pub two_files : (plan : Plan) → is_join plan.command ≡ true → IsWhole plan → length (input_files plan) ≡ 2
+pub two_files : (plan : Plan) → is_pair plan.command ≡ true → IsWhole plan → length (input_files plan) ≡ 2
 two_files plan join whole = go (three_items plan.names (three_names plan join whole)) where
-  by : (verb : Verb) (options : Options) (a b c : List ℕ) → is_join verb ≡ true → length (input_files (record { command = verb; names = a ∷ b ∷ c ∷ []; options = options })) ≡ 2
+  by : (verb : Verb) (options : Options) (a b c : List ℕ) → is_pair verb ≡ true → length (input_files (record { command = verb; names = a ∷ b ∷ c ∷ []; options = options })) ≡ 2
   by Union options a b c join = refl
   by Concat options a b c join = refl
+  by Compose options a b c join = refl
   by _ options a b c join = absurd cc
 
   go : (a : List ℕ) × (b : List ℕ) × (c : List ℕ) × (plan.names ≡ a ∷ b ∷ c ∷ []) → length (input_files plan) ≡ 2
@@ -139,7 +142,7 @@ stored_second plan name one whole at = go (two_items plan.names (two_names plan 
       let same : two.output ≡ name = cc (two.there, at) in
       two.stored ∙ ap (λ n. n ∷ []) same
 
-pub stored_third : (plan : Plan) (name : List ℕ) → is_join plan.command ≡ true → IsWhole plan → slice_get plan.names 2 ≡ Some name → outputs_of plan ≡ name ∷ []
+pub stored_third : (plan : Plan) (name : List ℕ) → is_pair plan.command ≡ true → IsWhole plan → slice_get plan.names 2 ≡ Some name → outputs_of plan ≡ name ∷ []
 stored_third plan name join whole at = go (three_items plan.names (three_names plan join whole)) where
   go : (a : List ℕ) × (b : List ℕ) × (c : List ℕ) × (plan.names ≡ a ∷ b ∷ c ∷ []) → outputs_of plan ≡ name ∷ []
   go (a, b, c, e) =
@@ -265,14 +268,27 @@ single_of Arcsort built one plain = refl
 single_of _ built one plain = absurd cc
 
 -- of the commands with several machines all but `replace` have two
-pub join_of_several : (verb : Verb) → is_several verb ≡ true → is_replace verb ≡ false → is_join verb ≡ true
-join_of_several Union several other = refl
-join_of_several Concat several other = refl
-join_of_several _ several other = absurd cc
+pub pair_of_several : (verb : Verb) → is_several verb ≡ true → is_replace verb ≡ false → is_pair verb ≡ true
+pair_of_several Union several other = refl
+pair_of_several Concat several other = refl
+pair_of_several Compose several other = refl
+pair_of_several _ several other = absurd cc
 
-joined_by : (verb : Verb) (options : Options) (names : List (List ℕ)) → is_join verb ≡ true → input_files (record { command = verb; names = names; options = options }) ≡ take 2 names
+-- of those with two all but `compose` join them
+pub join_of_pair : (verb : Verb) → is_pair verb ≡ true → is_compose verb ≡ false → is_join verb ≡ true
+join_of_pair Union pair other = refl
+join_of_pair Concat pair other = refl
+join_of_pair _ pair other = absurd cc
+
+-- the command that composes takes two
+pub pair_of_compose : (verb : Verb) → is_compose verb ≡ true → is_pair verb ≡ true
+pair_of_compose Compose is = refl
+pair_of_compose _ is = absurd cc
+
+joined_by : (verb : Verb) (options : Options) (names : List (List ℕ)) → is_pair verb ≡ true → input_files (record { command = verb; names = names; options = options }) ≡ take 2 names
 joined_by Union options names join = refl
 joined_by Concat options names join = refl
+joined_by Compose options names join = refl
 joined_by _ options names join = absurd cc
 
 taken_in : (names : List (List ℕ)) (n p : ℕ) (x : List ℕ) → p < n → slice_get names p ≡ Some x → slice_get (take n names) p ≡ Some x
@@ -281,7 +297,7 @@ taken_in (a ∷ names) zero p x within e = absurd (omega (arith, within))
 taken_in (a ∷ names) (suc n) zero x within e = e
 taken_in (a ∷ names) (suc n) (suc p) x within e = taken_in names n p x (omega (arith, within)) e
 
-pub joined_in : (plan : Plan) (place : ℕ) (name : List ℕ) → is_join plan.command ≡ true → IsWhole plan → place < length (input_files plan) → slice_get plan.names place ≡ Some name → slice_get (input_files plan) place ≡ Some name
+pub joined_in : (plan : Plan) (place : ℕ) (name : List ℕ) → is_pair plan.command ≡ true → IsWhole plan → place < length (input_files plan) → slice_get plan.names place ≡ Some name → slice_get (input_files plan) place ≡ Some name
 joined_in plan place name join whole within at =
     let two = two_files plan join whole in
     subst (λ (files : List (List ℕ)). slice_get files place ≡ Some name) (sym (joined_by plan.command plan.options plan.names join)) (taken_in plan.names 2 place name (omega (arith, two, within)) at)
@@ -309,5 +325,5 @@ some_several plan several whole = go (is_replace plan.command) refl where
   go : (b : Bool) → is_replace plan.command ≡ b → 0 < length (input_files plan)
   go true e = some_files plan e whole
   go false e =
-      let two = two_files plan (join_of_several plan.command several e) whole in
+      let two = two_files plan (pair_of_several plan.command several e) whole in
       omega arith

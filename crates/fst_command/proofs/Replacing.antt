@@ -2,7 +2,7 @@
 use Rattle.std.proofs.Common.{◌≡◌, ◌⊎◌, ℕ, ◌<◌, List, [], ◌∷◌, length, Result, Ok, Err, refl, sym, ap, subst, inl, inr, arith}
 use Rattle.fst_semiring.specs.declared.arc_type.ArcType.{ArcType}
 use Rattle.fst_semiring.specs.Cost.{Cost}
-use Rattle.fst_machine.specs.Machine.{Machine, most_states}
+use Rattle.fst_machine.specs.Machine.{Machine}
 use Rattle.fst_rational.specs.declared.fault.RationalFault.{RationalFault}
 use Rattle.fst_rational.specs.declared.fault.RationalFault.TheVariants as sizes
 use Rattle.fst_replace.specs.Answers.{IsLimited, IsRecursiveLabel, Recurs}
@@ -12,12 +12,12 @@ use Rattle.fst_replace.specs.declared.fault.ReplaceFault.{ReplaceFault}
 use Rattle.fst_replace.specs.declared.fault.ReplaceFault.TheVariants as faults
 use Rattle.fst_command.specs.declared.refusal.Refusal.{Refusal}
 use Rattle.fst_command.specs.declared.refusal.Refusal.TheVariants as refusals
-use Rattle.fst_command.specs.Causes.{Cause, no_memory, recursive, refused, too_large}
-use Rattle.fst_command.specs.Checks.{AllPass, Check, IsPast, Passes, expansion_check, kinds_check, recursion_check, replace_checks}
+use Rattle.fst_command.specs.Causes.{no_memory, recursive, refused, too_large}
+use Rattle.fst_command.specs.Checks.{AllPass, Check, IsPast, Passes, expansion_check, recursion_check, replace_checks}
 use Rattle.fst_command.specs.Contents.{AreMachines, ruled}
 use Rattle.fst_command.specs.Replacing.{IsRefusalOf}
 use Rattle.fst_command.specs.Steps.{Declines}
-use Rattle.fst_command.specs.Told.{IsMade, Tells}
+use Rattle.fst_command.specs.Told.{Tells}
 use Rattle.fst_command.proofs.Deciding.{Passes-alike, made_tells, not_both, same_machines}
 
 -- the machines that are found in the files are these

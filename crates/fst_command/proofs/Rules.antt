@@ -1,5 +1,5 @@
 -- Names that are pairs of a machine and a label, and the labels of rules.
-use Rattle.std.proofs.Common.{◌≡◌, ◌⊎◌, ℕ, ◌+◌, ◌*◌, ◌/◌, ◌<◌, ◌≤◌, ◌==◌, ◌&&◌, ◌||◌, Bool, true, false, not, List, [], ◌∷◌, ◌++◌, length, map, take, Option, Some, None, slice_get, refl, sym, ap, ◌∙◌, subst, inl, inr, suc, zero, arith, nat_le}
+use Rattle.std.proofs.Common.{◌≡◌, ℕ, ◌+◌, ◌*◌, ◌/◌, ◌<◌, ◌≤◌, ◌==◌, ◌&&◌, ◌||◌, Bool, true, false, not, List, [], ◌∷◌, ◌++◌, length, map, take, Option, Some, None, slice_get, refl, sym, ap, ◌∙◌, subst, inl, inr, suc, zero, arith, nat_le}
 use Rattle.std.proofs.lemmas.Bool.Decides.{nat_tests}
 use Rattle.std.specs.Prelude.{cond, get_or, is_some, option_and_then}
 use Rattle.fst_semiring.specs.Cost.{Cost}
@@ -12,7 +12,7 @@ use Rattle.fst_words.specs.declared.plan.Plan.{Plan}
 use Rattle.fst_words.specs.declared.verb.Verb.{Verb}
 use Rattle.fst_words.specs.declared.verb.Verb.TheVariants.{Replace}
 use Rattle.fst_words.specs.Commands.{least_names}
-use Rattle.fst_words.specs.Plans.{are_labels, is_allowed, is_replace, labels_fit, numbers_differ, input_files, pair_labels, pair_machines}
+use Rattle.fst_words.specs.Plans.{are_labels, is_allowed, is_replace, numbers_differ, input_files, pair_labels, pair_machines}
 use Rattle.fst_words.specs.PlanLaws.{IsWhole}
 use Rattle.fst_words.specs.Values.{label_of, within}
 use Rattle.fst_command.specs.Contents.{ruled_by}

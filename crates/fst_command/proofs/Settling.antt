@@ -4,16 +4,16 @@ use Rattle.std.proofs.lemmas.List.{append-nil}
 use Rattle.fst_words.specs.declared.options.Options.{Options}
 use Rattle.fst_words.specs.declared.plan.Plan.{Plan}
 use Rattle.fst_words.specs.declared.verb.Verb.{Verb}
-use Rattle.fst_words.specs.declared.verb.Verb.TheVariants.{Compile, Print, Info, Invert, Reverse, Connect, Union, Concat, Closure, Project, Relabel, Arcsort, Encode, Replace}
+use Rattle.fst_words.specs.declared.verb.Verb.TheVariants.{Compile, Print, Info, Invert, Reverse, Connect, Union, Concat, Closure, Project, Relabel, Arcsort, Encode, Replace, Compose}
 use Rattle.fst_command.specs.declared.refusal.Refusal.{Refusal}
 use Rattle.fst_command.specs.declared.option_files.OptionFiles.{OptionFiles}
 use Rattle.fst_command.specs.Plans.{binary_form, codex_form, own_form, rule_labels}
 use Rattle.fst_command.specs.Contents.{Choices, Renaming, choices_of, own_contents, renaming_of}
-use Rattle.fst_command.specs.Checks.{AllPass, binary_check, check_of, codex_check, coding_checks, later_checks, machine_checks, KindsDiffer, expansion_check, recursion_check, size_check}
-use Rattle.fst_command.specs.Operations.{is_coding, is_join, is_several}
+use Rattle.fst_command.specs.Checks.{AllPass, binary_check, check_of, codex_check, coding_checks, later_checks, machine_checks, KindsDiffer, expansion_check, recursion_check, size_check, compose_check}
+use Rattle.fst_command.specs.Operations.{is_coding, is_compose, is_join, is_several}
 use Rattle.fst_command.specs.Outputs.{CodedBy, Makes, MakesBy}
 use Rattle.fst_command.specs.Progress.{Chosen, choices_with, renaming_in}
-use Rattle.fst_command.specs.Steps.{CombinesTo, Decides, DecidesOn, Declines, DecodesTo, EncodesTo, MakesTo, Settles, JoinsTo, ReplacesTo}
+use Rattle.fst_command.specs.Steps.{CombinesTo, Decides, DecidesOn, Declines, DecodesTo, EncodesTo, MakesTo, Settles, JoinsTo, ReplacesTo, ComposesTo}
 use Rattle.fst_command.specs.Causes.{kinds_differ, refused}
 use Rattle.fst_command.specs.Told.{IsMade}
 use Rattle.fst_semiring.specs.declared.arc_type.ArcType.{ArcType}
@@ -53,6 +53,7 @@ several_settles : (verb : Verb) (labels : List ℕ) (options : Options) (choices
 several_settles Union labels options choices renaming files result is combines = combines
 several_settles Concat labels options choices renaming files result is combines = combines
 several_settles Replace labels options choices renaming files result is combines = combines
+several_settles Compose labels options choices renaming files result is combines = combines
 several_settles _ labels options choices renaming files result is combines = absurd cc
 
 pub decides-several : (plan : Plan) (contents own : List (List ℕ)) (files : OptionFiles) (result : Result (List ℕ) Refusal) → is_several plan.command ≡ true → Chosen plan.options contents files → CombinesTo plan.command (rule_labels plan) plan.options (renaming_in files) own result → Settles (later_checks plan (contents ++ own)) (Makes plan (contents ++ own)) result
@@ -104,9 +105,14 @@ pub combines-replaced : (verb : Verb) (labels : List ℕ) (options : Options) (r
 combines-replaced Replace labels options renaming files result is replaces = replaces
 combines-replaced _ labels options renaming files result is replaces = absurd cc
 
+pub combines-composed : (verb : Verb) (labels : List ℕ) (options : Options) (renaming : Renaming) (files : List (List ℕ)) (result : Result (List ℕ) Refusal) → is_compose verb ≡ true → ComposesTo options files result → CombinesTo verb labels options renaming files result
+combines-composed Compose labels options renaming files result is composes = composes
+combines-composed _ labels options renaming files result is composes = absurd cc
+
 -- machines of two arc types
 pub combines-apart : (verb : Verb) (labels : List ℕ) (options : Options) (renaming : Renaming) (kind other : ArcType) (files : List (List ℕ)) (refusal : Refusal) → is_several verb ≡ true → KindsDiffer files (kinds_differ kind other) → IsMade (refused (kinds_differ kind other)) refusal → CombinesTo verb labels options renaming files (Err refusal)
 combines-apart Union labels options renaming kind other files refusal is differ made = declines-kinds kind other files refusal (size_check Union options files ∷ []) differ made
 combines-apart Concat labels options renaming kind other files refusal is differ made = declines-kinds kind other files refusal (size_check Concat options files ∷ []) differ made
 combines-apart Replace labels options renaming kind other files refusal is differ made = declines-kinds kind other files refusal (recursion_check labels files ∷ expansion_check labels files ∷ []) differ made
+combines-apart Compose labels options renaming kind other files refusal is differ made = declines-kinds kind other files refusal (compose_check options files ∷ []) differ made
 combines-apart _ labels options renaming kind other files refusal is differ made = absurd cc

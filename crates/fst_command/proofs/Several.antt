@@ -7,7 +7,7 @@ use Rattle.fst_semiring.specs.Cost.{Cost}
 use Rattle.fst_machine.specs.Machine.{Machine}
 use Rattle.fst_words.specs.declared.plan.Plan.{Plan}
 use Rattle.fst_words.specs.declared.verb.Verb.{Verb}
-use Rattle.fst_words.specs.declared.verb.Verb.TheVariants.{Union, Concat, Replace}
+use Rattle.fst_words.specs.declared.verb.Verb.TheVariants.{Union, Concat, Replace, Compose}
 use Rattle.fst_words.specs.Plans.{input_files}
 use Rattle.fst_command.specs.declared.refusal.Refusal.{Refusal}
 use Rattle.fst_command.specs.declared.option_files.OptionFiles.{OptionFiles}
@@ -50,6 +50,7 @@ own_by : (verb : Verb) (names : List (List ℕ)) → is_several verb ≡ true �
 own_by Union names join = refl
 own_by Concat names join = refl
 own_by Replace names join = refl
+own_by Compose names join = refl
 own_by _ names join = absurd cc
 
 pub own_several : (plan : Plan) → is_several plan.command ≡ true → own_inputs plan ≡ inputs_with binary_form (input_files plan)

@@ -7,7 +7,7 @@ use Rattle.fst_desk.specs.Desk.{content_of}
 use Rattle.fst_words.specs.declared.plan.Plan.{Plan}
 use Rattle.fst_command.specs.declared.refusal.Refusal.{Refusal}
 use Rattle.fst_command.specs.Plans.{Input, inputs_of}
-use Rattle.fst_command.specs.Causes.{Cause, recursive, bad_codex, undecodable, too_long, bad_symbols, bad_pairs, bad_text, bad_binary, kinds_differ, too_large, unprintable, refused, no_memory, unread}
+use Rattle.fst_command.specs.Causes.{Cause, recursive, bad_codex, undecodable, too_long, bad_symbols, bad_pairs, bad_text, bad_binary, kinds_differ, too_large, uncomposed, unprintable, refused, no_memory, unread}
 use Rattle.fst_command.specs.Checks.{Check, Passes, AllPass, IsFirst, form_check, input_checks, later_checks, length_check, read_limit}
 use Rattle.fst_command.specs.Outputs.{Makes}
 use Rattle.fst_command.specs.Outcome.{Agrees, TakesMore}
@@ -42,10 +42,6 @@ longer_list n = (replicate (suc n) 0, omega (arith, length-replicate {A = ℕ} (
 long_content : (told : Option Files) (name : List ℕ) → IfSome told (λ files. read_limit < length (content_of files name)) → (content : List ℕ) × IfSome told (λ files. content ≡ content_of files name) × (read_limit < length content)
 long_content None name longer = let l = longer_list read_limit in (l.0, tt, l.1)
 long_content (Some files) name longer = (content_of files name, refl, longer)
-
--- there was no memory
-pub Works-memory : (plan : Plan) (front : List Input) (contents : List (List ℕ)) (old new : Seen) (refusal : Refusal) → Progress plan front contents old new → Tells no_memory refusal → Works (Some plan) old new (Err refusal)
-Works-memory plan front contents old new refusal p tells = record { answer = no_memory; ends = tells; answers = inl p.told; showing = p.showing }
 
 -- an input was not read
 pub Works-unread : (plan : Plan) (front after : List Input) (contents : List (List ℕ)) (old mid new : Seen) (i : Input) (refusal : Refusal) → inputs_of plan ≡ front ++ i ∷ after → Progress plan front contents old mid → Reads i.name mid new (Err refusal) → Works (Some plan) old new (Err refusal)
@@ -100,6 +96,7 @@ takes_nothing (kinds_differ first other) taken h = tt
 takes_nothing (recursive label) taken h = tt
 takes_nothing (too_large fault) taken h = tt
 takes_nothing (undecodable fault) taken h = tt
+takes_nothing (uncomposed fault) taken h = tt
 takes_nothing (unprintable fault) taken h = tt
 
 -- an input was read, and the first cause is found from it on

@@ -17,6 +17,8 @@ use Rattle.fst_binary.specs.declared.fault.BinaryFault.{BinaryFault}
 use Rattle.fst_binary.specs.declared.fault.BinaryKind.{BinaryKind}
 use Rattle.fst_binary.specs.declared.fault.BinaryKind.TheVariants as binary
 use Rattle.fst_binary.specs.Spelling.{name_of}
+use Rattle.fst_compose.specs.declared.fault.ComposeFault.{ComposeFault}
+use Rattle.fst_compose.specs.declared.fault.ComposeFault.TheVariants as composing
 use Rattle.fst_codex.specs.declared.fault.CodexFault.{CodexFault}
 use Rattle.fst_codex.specs.declared.fault.CodexKind.{CodexKind}
 use Rattle.fst_codex.specs.declared.fault.CodexKind.TheVariants as codexes
@@ -45,6 +47,8 @@ pub data Cause : Type 0 where
   too_large : RationalFault → Cause
   -- the machine is not decoded by the codex
   undecodable : DecodeFault → Cause
+  -- the machines have no composition
+  uncomposed : ComposeFault → Cause
   -- the machine has no text form with these options
   unprintable : PrintFault → Cause
 
@@ -193,6 +197,18 @@ size_line sizes.TooManyStates = codes "fst: too many states\n"
 size_line sizes.TooManyArcs = codes "fst: too many arcs\n"
 size_line sizes.Memory = codes "fst: out of memory\n"
 
+-- the line of a limit on states that is passed
+abbrev pub limit_line : ℕ → List ℕ
+limit_line limit = concat (codes "fst: state limit " ∷ decimal limit ∷ codes " passed\n" ∷ [])
+
+-- the line of machines that have no composition
+abbrev pub compose_line : ComposeFault → List ℕ
+compose_line composing.NotSorted = codes "fst: neither machine is sorted for composition\n"
+compose_line (composing.StateLimit limit) = limit_line limit
+compose_line composing.TooManyArcs = codes "fst: too many arcs\n"
+compose_line (composing.Overflow state) = overflow_line state
+compose_line composing.Memory = codes "fst: out of memory\n"
+
 -- the line of a machine that has no text form
 abbrev pub print_line : PrintFault → List ℕ
 print_line (printing.NotAcceptor state place) = two_labels_line state place
@@ -211,6 +227,7 @@ cause_line (kinds_differ first other) = kinds_line first other
 cause_line (recursive label) = recursive_line label
 cause_line (too_large fault) = size_line fault
 cause_line (undecodable fault) = decode_line fault
+cause_line (uncomposed fault) = compose_line fault
 cause_line (unprintable fault) = print_line fault
 
 -- the line that a run shows, if it shows one

@@ -10,6 +10,8 @@ use Rattle.fst_codex.specs.Decoded.{Decodes}
 use Rattle.fst_codex.specs.Table.{Table}
 use Rattle.fst_codex.specs.declared.decoding.DecodeFault.{DecodeFault}
 use Rattle.fst_codex.specs.declared.decoding.DecodeFault.TheVariants as decoding
+use Rattle.fst_compose.specs.Answers.{Refuses}
+use Rattle.fst_compose.specs.declared.fault.ComposeFault.{ComposeFault}
 use Rattle.fst_replace.specs.Answers.{IsRecursiveLabel}
 use Rattle.fst_replace.specs.Calls.{HasNoRecursion, called}
 use Rattle.fst_replace.specs.Expansion.{replaced}
@@ -20,10 +22,10 @@ use Rattle.fst_symbols.specs.Reading.{table_of_text}
 use Rattle.fst_words.specs.declared.options.Options.{Options}
 use Rattle.fst_words.specs.declared.plan.Plan.{Plan}
 use Rattle.fst_words.specs.declared.verb.Verb.{Verb}
-use Rattle.fst_words.specs.declared.verb.Verb.TheVariants.{Print, Info, Invert, Reverse, Connect, Union, Concat, Closure, Project, Relabel, Arcsort, Encode, Replace}
-use Rattle.fst_command.specs.Plans.{Form, codex_form, symbols_form, pairs_form, text_form, binary_form, Input, inputs_of, arc_type_of, rule_labels}
+use Rattle.fst_words.specs.declared.verb.Verb.TheVariants.{Print, Info, Invert, Reverse, Connect, Union, Concat, Closure, Project, Relabel, Arcsort, Encode, Replace, Compose}
+use Rattle.fst_command.specs.Plans.{Form, codex_form, symbols_form, pairs_form, text_form, binary_form, Input, inputs_of, arc_type_of, rule_labels, state_limit}
 use Rattle.fst_command.specs.Contents.{ruled, TypedCodex, codex_of_file, Choices, Typed, AreMachines, machine_of_file, choices_of, own_contents}
-use Rattle.fst_command.specs.Causes.{Cause, recursive, bad_codex, undecodable, too_long, bad_symbols, bad_pairs, bad_text, bad_binary, kinds_differ, too_large, unprintable}
+use Rattle.fst_command.specs.Causes.{Cause, recursive, bad_codex, undecodable, too_long, bad_symbols, bad_pairs, bad_text, bad_binary, kinds_differ, too_large, uncomposed, unprintable}
 use Rattle.fst_command.specs.Operations.{grown}
 
 -- the most bytes that are read of an input: the largest machine of every arc type fits
@@ -52,6 +54,8 @@ pub data Check : Type 0 where
   expansion_check : List ℕ → List (List ℕ) → Check
   -- is the machine that the command makes of the files small enough
   size_check : Verb → Options → List (List ℕ) → Check
+  -- have the machines of the files a composition
+  compose_check : Options → List (List ℕ) → Check
   -- has the codex of the second file the arc type of the machine of the first
   codex_kind_check : List ℕ → List ℕ → Check
   -- is the machine of the first file decoded by the codex of the second
@@ -118,6 +122,16 @@ pub record IsTooExpanded (labels : List ℕ) (files : List (List ℕ)) (cause : 
   pub past : IsPast (replaced (ruled labels machines)) fault
   pub is : cause ≡ too_large fault
 
+-- the machines of two files have no composition, for this fault
+pub record IsUncomposed (options : Options) (files : List (List ℕ)) (cause : Cause) : Type 0 where
+  pub kind : ArcType
+  pub first : Machine Cost
+  pub second : Machine Cost
+  pub fault : ComposeFault
+  pub reads : AreMachines kind files (first ∷ second ∷ [])
+  pub stops : Refuses kind first second (state_limit options) fault
+  pub is : cause ≡ uncomposed fault
+
 -- the codex of a file has another arc type than the machine of a file
 pub record CodexDiffers (file codex : List ℕ) (cause : Cause) : Type 0 where
   pub machine : Typed
@@ -159,6 +173,7 @@ Finds (kinds_check files) cause = KindsDiffer files cause
 Finds (size_check verb options files) cause = IsTooLarge verb options files cause
 Finds (recursion_check labels files) cause = IsRecursive labels files cause
 Finds (expansion_check labels files) cause = IsTooExpanded labels files cause
+Finds (compose_check options files) cause = IsUncomposed options files cause
 Finds (codex_kind_check file codex) cause = CodexDiffers file codex cause
 Finds (decode_check file codex) cause = IsUndecodable file codex cause
 Finds (print_check choices file) cause = IsUnprintable choices file cause
@@ -201,6 +216,10 @@ operation_checks verb options files = kinds_check files ∷ size_check verb opti
 abbrev pub replace_checks : List ℕ → List (List ℕ) → List Check
 replace_checks labels files = kinds_check files ∷ recursion_check labels files ∷ expansion_check labels files ∷ []
 
+-- what is asked of the files of `compose`
+abbrev pub compose_checks : Options → List (List ℕ) → List Check
+compose_checks options files = kinds_check files ∷ compose_check options files ∷ []
+
 -- what is asked of the files of `encode`, and of `encode --decode`
 abbrev pub coding_checks : Bool → List (List ℕ) → List Check
 coding_checks true (file ∷ codex ∷ []) = codex_kind_check file codex ∷ decode_check file codex ∷ []
@@ -221,6 +240,7 @@ machine_checks Relabel labels options choices files = operation_checks Relabel o
 machine_checks Arcsort labels options choices files = operation_checks Arcsort options files
 machine_checks Encode labels options choices files = coding_checks options.decode files
 machine_checks Replace labels options choices files = replace_checks labels files
+machine_checks Compose labels options choices files = compose_checks options files
 machine_checks _ labels options choices files = []
 
 -- what is asked behind the inputs

@@ -14,3 +14,4 @@ pub mod Progress
 pub mod Several
 pub mod Coding
 pub mod Replacing
+pub mod Composing

@@ -18,7 +18,7 @@ use Rattle.fst_trim.specs.declared.side.Side.{Side}
 use Rattle.fst_trim.specs.declared.side.Side.TheVariants.{Input, Output}
 use Rattle.fst_words.specs.declared.options.Options.{Options}
 use Rattle.fst_words.specs.declared.verb.Verb.{Verb}
-use Rattle.fst_words.specs.declared.verb.Verb.TheVariants.{Invert, Reverse, Connect, Union, Concat, Closure, Project, Relabel, Arcsort, Encode, Replace}
+use Rattle.fst_words.specs.declared.verb.Verb.TheVariants.{Invert, Reverse, Connect, Union, Concat, Closure, Project, Relabel, Arcsort, Encode, Replace, Compose}
 use Rattle.fst_command.specs.Contents.{Renaming}
 
 -- the commands that make a machine of one machine
@@ -41,7 +41,19 @@ never_grows Relabel = true
 never_grows Arcsort = true
 never_grows _ = false
 
--- the commands that make a machine of two
+-- the commands that take two machines
+abbrev pub is_pair : Verb → Bool
+is_pair Union = true
+is_pair Concat = true
+is_pair Compose = true
+is_pair _ = false
+
+-- the command that composes
+abbrev pub is_compose : Verb → Bool
+is_compose Compose = true
+is_compose _ = false
+
+-- the commands that join two machines
 abbrev pub is_join : Verb → Bool
 is_join Union = true
 is_join Concat = true
@@ -52,6 +64,7 @@ abbrev pub is_several : Verb → Bool
 is_several Union = true
 is_several Concat = true
 is_several Replace = true
+is_several Compose = true
 is_several _ = false
 
 -- the command that encodes and decodes

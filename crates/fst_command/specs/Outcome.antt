@@ -4,7 +4,7 @@ use Rattle.fst_desk.specs.Seen.{Files, Filed, Showing, Seen, Rises}
 use Rattle.fst_desk.specs.Desk.{content_of, ToldHolds, ToldAppends}
 use Rattle.fst_words.specs.declared.plan.Plan.{Plan}
 use Rattle.fst_command.specs.Plans.{Input, inputs_of, plan_of}
-use Rattle.fst_command.specs.Causes.{Cause, recursive, bad_codex, undecodable, too_long, bad_symbols, bad_pairs, bad_text, bad_binary, kinds_differ, too_large, unprintable, Answer, done, usage, refused, no_memory, unread, unwritten, status_of, line_of}
+use Rattle.fst_command.specs.Causes.{Cause, recursive, bad_codex, undecodable, too_long, bad_symbols, bad_pairs, bad_text, bad_binary, kinds_differ, too_large, uncomposed, unprintable, Answer, done, usage, refused, no_memory, unread, unwritten, status_of, line_of}
 use Rattle.fst_command.specs.Checks.{read_limit, AllPass, IsFirst, input_checks, checks_of}
 use Rattle.fst_command.specs.Outputs.{Output, Writes}
 
@@ -45,6 +45,7 @@ TakesMore (kinds_differ first other) taken = Unit {0}
 TakesMore (recursive label) taken = Unit {0}
 TakesMore (too_large fault) taken = Unit {0}
 TakesMore (undecodable fault) taken = Unit {0}
+TakesMore (uncomposed fault) taken = Unit {0}
 TakesMore (unprintable fault) taken = Unit {0}
 
 -- a read fault: the name is that of an input, it alone was missed, and no input before it has a cause

@@ -17,10 +17,11 @@ use Rattle.fst_replace.specs.Expansion.{replaced}
 use Rattle.fst_replace.specs.Relation.{Replaces}
 use Rattle.fst_words.specs.declared.options.Options.{Options}
 use Rattle.fst_words.specs.declared.plan.Plan.{Plan}
-use Rattle.fst_words.specs.declared.verb.Verb.TheVariants.{Compile, Print, Info, Invert, Reverse, Connect, Union, Concat, Closure, Project, Relabel, Arcsort, Encode, Replace}
+use Rattle.fst_words.specs.declared.verb.Verb.TheVariants.{Compile, Print, Info, Invert, Reverse, Connect, Union, Concat, Closure, Project, Relabel, Arcsort, Encode, Replace, Compose}
 use Rattle.fst_words.specs.declared.verb.Verb.{Verb}
 use Rattle.fst_words.specs.Plans.{outputs_of}
 use Rattle.fst_command.specs.Plans.{arc_type_of, rule_labels}
+use Rattle.fst_command.specs.Composing.{IsComposed}
 use Rattle.fst_command.specs.Operations.{Denotes, Operates}
 use Rattle.fst_command.specs.Contents.{codex_of_file, ruled, Choices, Renaming, Typed, AreMachines, machine_of_file, choices_of, own_contents, renaming_of}
 use Rattle.fst_command.specs.Descriptions.{info_text}
@@ -104,6 +105,16 @@ pub record Replaced (labels : List ℕ) (contents made : List (List ℕ)) : Type
   pub denotes : Replaces kind (ruled labels machines) result
   pub makes : made ≡ spelling kind result ∷ []
 
+-- `compose` makes the binary form of the composition
+pub record Composed (options : Options) (contents made : List (List ℕ)) : Type 0 where
+  pub kind : ArcType
+  pub first : Machine Cost
+  pub second : Machine Cost
+  pub result : Machine Cost
+  pub reads : AreMachines kind contents (first ∷ second ∷ [])
+  pub composes : IsComposed options kind first second result
+  pub makes : made ≡ spelling kind result ∷ []
+
 -- with the flag for decoding, and without it
 abbrev pub CodedBy : Bool → Bool → List (List ℕ) → List (List ℕ) → Type 0
 CodedBy true weights contents made = Decoded contents made
@@ -125,6 +136,7 @@ MakesBy Relabel labels options choices renaming contents made = Operated Relabel
 MakesBy Arcsort labels options choices renaming contents made = Operated Arcsort options renaming contents made
 MakesBy Encode labels options choices renaming contents made = CodedBy options.decode options.encode_weights contents made
 MakesBy Replace labels options choices renaming contents made = Replaced labels contents made
+MakesBy Compose labels options choices renaming contents made = Composed options contents made
 MakesBy _ labels options choices renaming contents made = ⊥
 
 abbrev pub Makes : Plan → List (List ℕ) → List (List ℕ) → Type 0

@@ -1,10 +1,12 @@
 -- What is asked of the words of a command line that names a command of this program.
-use Rattle.std.specs.Prelude.{◌∷◌, ℕ, Bool, true, false, List, ◌++◌, map, Option, Some, None, option_and_then, option_to_list, unwrap_or, if◌then◌else◌}
+use Rattle.std.specs.Prelude.{◌∷◌, ℕ, Bool, true, false, List, ◌++◌, map, Option, Some, None, option_and_then, option_to_list, unwrap_or, codes, if◌then◌else◌}
+use Rattle.std.specs.Option.{option_map_or}
+use Rattle.std.specs.Str.{bytes_eq}
 use Rattle.std.specs.List.{filter_map}
 use Rattle.fst_semiring.specs.declared.arc_type.ArcType.{ArcType}
 use Rattle.fst_semiring.specs.declared.arc_type.ArcType.TheVariants.{Tropical}
 use Rattle.fst_words.specs.declared.verb.Verb.{Verb}
-use Rattle.fst_words.specs.declared.verb.Verb.TheVariants.{Compile, Print, Info, Invert, Reverse, Connect, Union, Concat, Closure, Project, Relabel, Arcsort, Encode, Replace}
+use Rattle.fst_words.specs.declared.verb.Verb.TheVariants.{Compile, Print, Info, Invert, Reverse, Connect, Union, Concat, Closure, Project, Relabel, Arcsort, Encode, Replace, Compose}
 use Rattle.fst_words.specs.declared.options.Options.{Options}
 use Rattle.fst_words.specs.declared.plan.Plan.{Plan}
 use Rattle.fst_words.specs.Plans.{input_files, pair_labels}
@@ -27,6 +29,7 @@ is_built Relabel = true
 is_built Arcsort = true
 is_built Encode = true
 is_built Replace = true
+is_built Compose = true
 is_built _ = false
 
 -- those with one input of their own and one output
@@ -102,6 +105,14 @@ inputs_of plan = option_inputs plan.options ++ own_inputs plan
 -- the arc type of the machine that is compiled
 abbrev pub arc_type_of : Options → ArcType
 arc_type_of options = unwrap_or options.arc_type Tropical
+
+-- the most states of a composition before it is connected
+abbrev pub state_limit : Options → ℕ
+state_limit options = unwrap_or options.max_states 1000000
+
+-- whether a composition is connected: the word is `true`, or there is none
+abbrev pub connects : Options → Bool
+connects options = option_map_or (λ word. bytes_eq word (codes "true")) options.connect true
 
 -- the labels of the rules of `replace`, in order
 abbrev pub rule_labels : Plan → List ℕ

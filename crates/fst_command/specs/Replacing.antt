@@ -1,5 +1,5 @@
 -- The steps of `replace`.
-use Rattle.std.specs.Prelude.{◌≡◌, ℕ, List, [], ◌∷◌, Result, Ok, Err}
+use Rattle.std.specs.Prelude.{◌≡◌, ℕ, List, Result, Ok, Err}
 use Rattle.fst_machine.specs.Machine.{Machine}
 use Rattle.fst_rational.specs.declared.fault.RationalFault.TheVariants as sizes
 use Rattle.fst_replace.specs.Rules.{Labelled}
@@ -7,11 +7,11 @@ use Rattle.fst_replace.specs.declared.fault.ReplaceFault.{ReplaceFault}
 use Rattle.fst_replace.specs.declared.fault.ReplaceFault.TheVariants as faults
 use Rattle.fst_command.specs.declared.refusal.Refusal.{Refusal}
 use Rattle.fst_command.specs.declared.refusal.Refusal.TheVariants as refusals
-use Rattle.fst_command.specs.Causes.{no_memory, recursive, refused, too_large}
+use Rattle.fst_command.specs.Causes.{recursive, refused, too_large}
 use Rattle.fst_command.specs.Checks.{AllPass, replace_checks}
 use Rattle.fst_command.specs.Contents.{ruled_by}
 use Rattle.fst_command.specs.Steps.{Declines}
-use Rattle.fst_command.specs.Told.{IsMade, Tells}
+use Rattle.fst_command.specs.Told.{IsMade}
 
 -- the rules are the machines under these labels, or there was no memory
 abbrev pub RulesAnswer : {V : Type 0} → List ℕ → List (Machine V) → Result (List (Labelled V)) Refusal → Type 0

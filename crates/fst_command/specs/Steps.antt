@@ -11,12 +11,12 @@ use Rattle.fst_binary.specs.Spelling.{spelling}
 use Rattle.fst_words.specs.declared.options.Options.{Options}
 use Rattle.fst_words.specs.declared.plan.Plan.{Plan}
 use Rattle.fst_words.specs.declared.verb.Verb.{Verb}
-use Rattle.fst_words.specs.declared.verb.Verb.TheVariants.{Compile, Print, Info, Invert, Reverse, Connect, Union, Concat, Closure, Project, Replace, Relabel, Arcsort}
+use Rattle.fst_words.specs.declared.verb.Verb.TheVariants.{Compile, Print, Info, Invert, Reverse, Connect, Union, Concat, Closure, Project, Replace, Relabel, Arcsort, Compose}
 use Rattle.fst_command.specs.Plans.{Input, arc_type_of}
 use Rattle.fst_command.specs.Contents.{Choices, Renaming, Typed, machine_of_file}
-use Rattle.fst_command.specs.Causes.{Cause, recursive, bad_codex, undecodable, too_long, bad_symbols, bad_pairs, bad_text, bad_binary, kinds_differ, too_large, unprintable, Answer, done, refused, no_memory, unread, unwritten}
-use Rattle.fst_command.specs.Checks.{Check, codex_check, codex_kind_check, decode_check, text_check, binary_check, kinds_check, print_check, read_limit, AllPass, IsFirst, form_check, operation_checks, later_checks, replace_checks}
-use Rattle.fst_command.specs.Outputs.{Decoded, Encoded, Described, Makes, Operated, Replaced}
+use Rattle.fst_command.specs.Causes.{Cause, recursive, bad_codex, undecodable, too_long, bad_symbols, bad_pairs, bad_text, bad_binary, kinds_differ, too_large, uncomposed, unprintable, Answer, done, refused, no_memory, unread, unwritten}
+use Rattle.fst_command.specs.Checks.{Check, codex_check, codex_kind_check, decode_check, text_check, binary_check, kinds_check, print_check, read_limit, AllPass, IsFirst, form_check, operation_checks, later_checks, replace_checks, compose_checks}
+use Rattle.fst_command.specs.Outputs.{Composed, Decoded, Encoded, Described, Makes, Operated, Replaced}
 use Rattle.fst_command.specs.Outcome.{Answers}
 use Rattle.fst_command.specs.declared.refusal.Refusal.{Refusal}
 use Rattle.fst_command.specs.Told.{Tells}
@@ -119,6 +119,7 @@ IsOfForm (kinds_differ first other) = Unit {0}
 IsOfForm (recursive label) = Unit {0}
 IsOfForm (too_large fault) = Unit {0}
 IsOfForm (undecodable fault) = Unit {0}
+IsOfForm (uncomposed fault) = Unit {0}
 IsOfForm (unprintable fault) = Unit {0}
 
 -- the refusal tells want of memory, or the first cause that the questions find
@@ -189,11 +190,16 @@ JoinsTo verb options renaming files result = Settles (operation_checks verb opti
 abbrev pub ReplacesTo : List ℕ → List (List ℕ) → Result (List ℕ) Refusal → Type 0
 ReplacesTo labels files result = Settles (replace_checks labels files) (Replaced labels files) result
 
+-- that of the composition of the machines of two files, which were read
+abbrev pub ComposesTo : Options → List (List ℕ) → Result (List ℕ) Refusal → Type 0
+ComposesTo options files result = Settles (compose_checks options files) (Composed options files) result
+
 -- that of the machine that a command makes of the machines of several files, which were read
 abbrev pub CombinesTo : Verb → List ℕ → Options → Renaming → List (List ℕ) → Result (List ℕ) Refusal → Type 0
 CombinesTo Union labels options renaming files result = JoinsTo Union options renaming files result
 CombinesTo Concat labels options renaming files result = JoinsTo Concat options renaming files result
 CombinesTo Replace labels options renaming files result = ReplacesTo labels files result
+CombinesTo Compose labels options renaming files result = ComposesTo options files result
 CombinesTo _ labels options renaming files result = ⊥
 
 -- what a command with one input of its own makes of its content

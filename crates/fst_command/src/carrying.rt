@@ -29,7 +29,10 @@ use std::alloc::Global;
 fn combines(verb: Verb) -> bool
     ensures { result ≡ is_several verb }
 {
-    matches!(verb, Verb::Union | Verb::Concat | Verb::Replace)
+    matches!(
+        verb,
+        Verb::Union | Verb::Concat | Verb::Replace | Verb::Compose
+    )
 }
 
 /// Whether a command encodes or decodes.

@@ -7,11 +7,12 @@ ghost use Rattle.fst_binary.specs.Reading.{arc_type_of_bytes};
 ghost use Rattle.fst_words.specs.PlanLaws.{IsWhole};
 ghost use Rattle.fst_words.specs.Plans.{input_files};
 ghost use Rattle.fst_command.specs.Contents.{AreMachines, Renaming};
-ghost use Rattle.fst_command.specs.Operations.{Denotes, IsLimitedBy, Operates, grown, is_join, is_several};
+ghost use Rattle.fst_command.specs.Operations.{Denotes, IsLimitedBy, Operates, grown, is_compose, is_join, is_several};
 ghost use Rattle.fst_command.specs.Plans.{rule_labels};
 ghost use Rattle.fst_command.specs.Several.{AreOf, PreparesSeveral};
 ghost use Rattle.fst_command.specs.Steps.{CombinesTo, JoinsTo};
 
+use crate::composition::composed;
 use crate::machines::{Machines, first_machine, read_others, replaces};
 use crate::refusal::{Refusal, kinds_apart, not_binary, too_large};
 use crate::replacement::replaced;
@@ -59,6 +60,13 @@ fn joined<W: Weight>(alloc: Global, verb: Verb, list: Vec<Fst<W>>) -> Result<Vec
     }
 }
 
+/// Whether a command composes.
+fn composes(verb: Verb) -> bool
+    ensures { result ≡ is_compose verb }
+{
+    matches!(verb, Verb::Compose)
+}
+
 /// The bytes of the machine that a command makes of the machines of its files, where they have one arc type.
 fn combined<W: Weight>(
     alloc: Global,
@@ -68,13 +76,15 @@ fn combined<W: Weight>(
     requires several { is_several plan.now.command ≡ true }
     requires whole { IsWhole plan.now }
     requires all { machines.other ≡ None → length machines.list.items ≡ length (input_files plan.now) }
-    ensures { (options : Options) (renaming : Renaming) (files : List (List ℕ)) → AreOf W.KIND files (map (valued W.value) machines.list.items) machines.other → CombinesTo plan.now.command (rule_labels plan.now) options renaming files (result_map_both (λ v. v.items) (λ e. e) result) }
+    ensures { (renaming : Renaming) (files : List (List ℕ)) → AreOf W.KIND files (map (valued W.value) machines.list.items) machines.other → CombinesTo plan.now.command (rule_labels plan.now) plan.now.options renaming files (result_map_both (λ v. v.items) (λ e. e) result) }
 {
     match machines.other {
         Some(other) => Err(kinds_apart(alloc, W::KIND, other)),
         None => {
             if replaces(plan.command) {
                 replaced(alloc, plan, machines.list)
+            } else if composes(plan.command) {
+                composed(alloc, &plan.options, machines.list)
             } else {
                 joined(alloc, plan.command, machines.list)
             }

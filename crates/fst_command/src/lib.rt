@@ -6,6 +6,7 @@
 #![tactic(auto)]
 
 mod carrying;
+mod composition;
 mod decoding;
 mod descriptions;
 mod encoding;

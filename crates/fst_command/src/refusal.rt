@@ -1,12 +1,13 @@
 //! Why a command ended without its outputs: the status and the line that follow.
 
 ghost use Rattle.std.specs.Prelude.{◌≡◌, ◌↔◌, IsTrue, IfOk, string_bytes};
-ghost use Rattle.fst_command.specs.Causes.{refused, recursive, recursive_line, bad_codex, undecodable, codex_reason, no_entry_line, overflow_line, too_long, bad_symbols, bad_pairs, bad_text, bad_binary, kinds_differ, too_large, unprintable, unread, unwritten, line_at, placed_line, no_symbol_line, two_labels_line, symbols_line_at, symbols_reason, pairs_line_at, pairs_reason, text_reason, binary_reason};
+ghost use Rattle.fst_command.specs.Causes.{refused, recursive, recursive_line, bad_codex, undecodable, codex_reason, no_entry_line, overflow_line, limit_line, too_long, bad_symbols, bad_pairs, bad_text, bad_binary, kinds_differ, too_large, uncomposed, unprintable, unread, unwritten, line_at, placed_line, no_symbol_line, two_labels_line, symbols_line_at, symbols_reason, pairs_line_at, pairs_reason, text_reason, binary_reason};
 ghost use Rattle.fst_command.specs.Told.{IsMade, MakesLine, told_line, told_status};
 
 use crate::kinds::kind_name;
 use fst_binary::{BinaryFault, BinaryKind};
 use fst_codex::{CodexFault, CodexKind, DecodeFault};
+use fst_compose::ComposeFault;
 use fst_rational::{PairsFault, RationalFault};
 use fst_semiring::ArcType;
 use fst_symbols::SymbolsFault;
@@ -359,6 +360,30 @@ pub fn not_decoded(alloc: Global, fault: DecodeFault) -> Refusal
         DecodeFault::NotInCodex { label } => made(1, entry_line(alloc, label)),
         DecodeFault::Overflow { state } => made(1, number_line(alloc, state)),
         DecodeFault::Memory => Refusal::Memory,
+    }
+}
+
+/// The line of a limit on states that is passed.
+fn passed_line(alloc: Global, limit: u32) -> Result<String, AllocError>
+    ensures { IfOk result (λ line. string_bytes line ≡ limit_line limit) }
+{
+    format!(in alloc; "fst: state limit {limit} passed\n")
+}
+
+/// The machines have no composition.
+pub fn not_composed(alloc: Global, fault: ComposeFault) -> Refusal
+    ensures made { IsMade (refused (uncomposed fault)) result }
+    ensures memory { fault ≡ ComposeFault.Memory → result ≡ Refusal.Memory }
+{
+    match fault {
+        ComposeFault::NotSorted => made(
+            1,
+            format!(in alloc; "fst: neither machine is sorted for composition\n"),
+        ),
+        ComposeFault::StateLimit { limit } => made(1, passed_line(alloc, limit)),
+        ComposeFault::TooManyArcs => made(1, format!(in alloc; "fst: too many arcs\n")),
+        ComposeFault::Overflow { state } => made(1, number_line(alloc, state)),
+        ComposeFault::Memory => Refusal::Memory,
     }
 }
 

@@ -7,6 +7,7 @@ use std::test::Fail;
 use std::thread::Threads;
 
 mod coding;
+mod composition;
 mod operations;
 mod replacing;
 
@@ -462,7 +463,7 @@ fn refuses_other_words(rt: HostRuntime) -> Result<(), Fail> {
         &["arcsort", "--sort_type=weight", "t", "b"],
         &["replace", "t", "100", "t", "100", "b"],
         // A command of the form that is not built yet.
-        &["compose", "a", "b", "c"],
+        &["rmepsilon", "a", "c"],
     ] {
         assert_eq!(rt; status_of(&rt, alloc, &mut desk, words)?, 1, "{words:?}");
     }

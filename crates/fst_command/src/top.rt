@@ -32,6 +32,7 @@ fn is_ready(verb: Verb) -> bool
             | Verb::Arcsort
             | Verb::Encode
             | Verb::Replace
+            | Verb::Compose
     )
 }
 

@@ -1,5 +1,5 @@
 use Rattle.std.proofs.Common.{◌≡◌, ◌-◌, ℕ, Some, slice_get, sym, ap, ◌∙◌, arith, subst}
-use Rattle.fst_command.proofs.Planned.{join_of_several, single_of, stored_decoding, stored_last, stored_second, stored_third}
+use Rattle.fst_command.proofs.Planned.{pair_of_several, single_of, stored_decoding, stored_last, stored_second, stored_third}
 use Rattle.fst_command.proofs.Rules.{count_files, some_files}
 use Rattle.fst_command.proofs.carrying.output_name.Goals as goal
 
@@ -15,7 +15,7 @@ returns-then-replaces c =
 pub returns-then-combines : goal.returns-then-combines
 returns-then-combines c =
     let plan = c.args.plan.now in
-    stored_third plan c.text-then-combines.result.now (join_of_several plan.command (sym c.if-combines.ensures) (sym c.if-replaces.ensures)) c.requires.whole (c.item-then-combines.ensures ∙ ap Some (sym c.text-then-combines.ensures))
+    stored_third plan c.text-then-combines.result.now (pair_of_several plan.command (sym c.if-combines.ensures) (sym c.if-replaces.ensures)) c.requires.whole (c.item-then-combines.ensures ∙ ap Some (sym c.text-then-combines.ensures))
 
 pub returns-then-codes : goal.returns-then-codes
 returns-then-codes c = stored_decoding c.args.plan.now c.text-then-codes.result.now (sym c.if-codes.ensures) (c.requires.one (sym c.if-codes.ensures)) c.requires.whole (c.item-then-codes.ensures ∙ ap Some (sym c.text-then-codes.ensures))

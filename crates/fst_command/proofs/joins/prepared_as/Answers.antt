@@ -1,4 +1,4 @@
-use Rattle.std.proofs.Common.{Option, map, ◌++◌, ◌∙◌, sym, subst}
+use Rattle.std.proofs.Common.{Option, map, ◌++◌, sym, subst}
 use Rattle.std.specs.Result.{result_map_both}
 use Rattle.fst_semiring.specs.declared.arc_type.ArcType.{ArcType}
 use Rattle.fst_machine.specs.Machine.{valued}
@@ -31,4 +31,4 @@ returns g c old mid files options reads =
     let first = several-first plan files kind (values c.in-Ok.machines.list.items) old mid now c.args.name.now c.args.content.items c.requires.several options c.requires.named reads c.in-Ok.ensures.machine in
     let all = c.in-Ok-read_others.ensures.read old files (subst (λ (o : Option ArcType). SeveralRead plan files kind 1 (values c.in-Ok.machines.list.items) o old now) (sym c.in-Ok.ensures.alike) first) in
     prepares-all plan (all.options ++ all.own) old new settled (several-all plan files kind (values c.read_others.new.machines.list.items) c.read_others.new.machines.other old new c.requires.several all)
-    (decides-several plan all.options all.own files settled c.requires.several all.chosen (c.combined.ensures plan.options (renaming_in files) all.own all.are))
+    (decides-several plan all.options all.own files settled c.requires.several all.chosen (c.combined.ensures (renaming_in files) all.own all.are))

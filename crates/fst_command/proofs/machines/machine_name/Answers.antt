@@ -1,5 +1,5 @@
 use Rattle.std.proofs.Common.{arith, Some, sym, ap, ◌∙◌}
-use Rattle.fst_command.proofs.Planned.{join_of_several, joined_in}
+use Rattle.fst_command.proofs.Planned.{pair_of_several, joined_in}
 use Rattle.fst_command.proofs.Rules.{count_files, file_in}
 use Rattle.fst_command.proofs.machines.machine_name.Goals as goal
 
@@ -23,5 +23,5 @@ returns-then-replaces c =
 pub returns-else-replaces : goal.returns-else-replaces
 returns-else-replaces c =
     let plan = c.args.plan.now in
-    joined_in plan c.args.place c.text-else-replaces.result.now (join_of_several plan.command c.requires.several (sym c.if-replaces.ensures)) c.requires.whole c.requires.within
+    joined_in plan c.args.place c.text-else-replaces.result.now (pair_of_several plan.command c.requires.several (sym c.if-replaces.ensures)) c.requires.whole c.requires.within
     (c.item-else-replaces.ensures ∙ ap Some (sym c.text-else-replaces.ensures))

@@ -1,4 +1,4 @@
-use Rattle.std.proofs.Common.{List, [], ◌∷◌, ℕ, map, sym, ap, ◌∙◌, subst}
+use Rattle.std.proofs.Common.{List, [], ◌∷◌, map, sym, ap, ◌∙◌, subst}
 use Rattle.fst_machine.specs.Machine.{Machine, valued}
 use Rattle.fst_replace.specs.Expansion.{replaced}
 use Rattle.fst_replace.specs.Relation.{Replaces}

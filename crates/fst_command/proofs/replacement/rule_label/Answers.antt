@@ -1,4 +1,4 @@
-use Rattle.std.proofs.Common.{◌≡◌, Some, sym, ap, ◌∙◌, arith}
+use Rattle.std.proofs.Common.{sym, ap, ◌∙◌, arith}
 use Rattle.fst_fields.specs.Decimal.{label_of_text}
 use Rattle.fst_command.proofs.Rules.{count_files, rule_at, rule_is}
 use Rattle.fst_command.proofs.replacement.rule_label.Goals as goal

@@ -1,4 +1,4 @@
-use Rattle.std.proofs.Common.{◌≡◌, ◌++◌, ◌∷◌, [], ℕ, List, Err, sym, ap, ◌∙◌, subst, arith}
+use Rattle.std.proofs.Common.{◌++◌, ◌∷◌, [], ℕ, List, Err, sym, ap, ◌∙◌, subst, arith}
 use Rattle.fst_machine.specs.BreadthFirst.{Has}
 use Rattle.fst_replace.specs.Rules.{labels_of}
 use Rattle.fst_command.specs.Plans.{rule_labels}

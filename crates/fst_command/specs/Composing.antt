@@ -1,0 +1,31 @@
+-- What `compose` makes of two machines.
+use Rattle.std.specs.Prelude.{◌≡◌, ◌↔◌, ℕ, Bool, true, false, List}
+use Rattle.fst_semiring.specs.declared.arc_type.ArcType.{ArcType}
+use Rattle.fst_semiring.specs.Cost.{Cost}
+use Rattle.fst_machine.specs.Connected.{IsConnected}
+use Rattle.fst_machine.specs.Graph.{graph_of}
+use Rattle.fst_machine.specs.Machine.{Machine}
+use Rattle.fst_rational.specs.Relations.{Triple}
+use Rattle.fst_compose.specs.Answers.{IsNamed}
+use Rattle.fst_compose.specs.Composition.{composed}
+use Rattle.fst_compose.specs.Names.{Name}
+use Rattle.fst_compose.specs.Theorem.{IsComposition, Relates}
+use Rattle.fst_compose.specs.Trimmed.{IsConnectedComposition}
+use Rattle.fst_words.specs.declared.options.Options.{Options}
+use Rattle.fst_command.specs.Plans.{connects}
+
+module _ (kind : ArcType) (first second : Machine Cost) (names : List (Name ℕ ℕ)) (whole : Machine Cost) where
+  -- The machine is the composition, connected or as it is. Reading off its successful paths is a one-to-one map onto
+  -- the matching pairs of paths of the two machines.
+  abbrev pub IsGiven : Bool → Machine Cost → Type 0
+  IsGiven true made = (h : IsConnected whole made) × IsConnectedComposition kind (graph_of first) (graph_of second) names whole h.kept made
+  IsGiven false made = (made ≡ whole) × IsComposition kind (graph_of first) (graph_of second) names whole
+
+-- The machine is the composition of the two, whose states stand for these names. What it relates is what the first
+-- does, followed by what the second does.
+pub record IsComposed (options : Options) (kind : ArcType) (first second made : Machine Cost) : Type 0 where
+  pub names : List (Name ℕ ℕ)
+  pub whole : Machine Cost
+  pub named : IsNamed (composed kind (graph_of first) (graph_of second)) names whole
+  pub given : IsGiven kind first second names whole (connects options) made
+  pub denotes : (x z : List ℕ) (w : Cost) → Triple kind made x z w ↔ Relates kind (graph_of first) (graph_of second) x z w
