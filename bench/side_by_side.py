@@ -109,25 +109,27 @@ def coding_cases(fst, files, scratch):
     return [(name, *operation(fst, "encode", words, files, None, scratch), TIME, MEMORY) for name, words in CODING]
 
 
+def two_machines(fst, mode, names, words, size, scratch):
+    """Two machines that are written together, as files of our program and as files of theirs."""
+    texts = [os.path.join(scratch, f"{name}.{size}.txt") for name in names]
+    subprocess.run([sys.executable, MACHINES, mode, *texts, *map(str, words)], check=True)
+    return zip(*(machine_files(fst, text, scratch, name) for text, name in zip(texts, names)))
+
+
 def rules_cases(fst, size, scratch):
     """The row of `replace`: a chain whose calls of one rule, replaced, make that many arcs."""
-    texts = [os.path.join(scratch, f"{name}.{size}.txt") for name in ("root", "rule")]
-    subprocess.run([sys.executable, MACHINES, "--rules", *texts, str(CALL), str(size)], check=True)
-    roots, rules = (machine_files(fst, text, scratch, name) for text, name in zip(texts, ("root", "rule")))
-    words = [[root, str(ROOT), rule, str(CALL)] for root, rule in zip(roots, rules)]
+    files = two_machines(fst, "--rules", ("root", "rule"), (CALL, size), size, scratch)
+    ours, theirs = ([root, str(ROOT), rule, str(CALL)] for root, rule in files)
     out = os.path.join(scratch, "out")
     # As ours does, OpenFst's tool is to write no labels on the arcs into and out of a call.
     plain = ["--call_arc_labeling=neither", "--return_arc_labeling=neither"]
-    return [("replace", [fst, "replace", *words[0], out + ".ours"], ["fstreplace", *plain, *words[1], out + ".theirs"], TIME, MEMORY)]
+    return [("replace", [fst, "replace", *ours, out + ".ours"], ["fstreplace", *plain, *theirs, out + ".theirs"], TIME, MEMORY)]
 
 
 def pair_cases(fst, size, scratch):
     """The row of `compose`: two machines whose composition has about that many arcs."""
     states = round((size / PAIR_ARCS) ** 0.5)
-    texts = [os.path.join(scratch, f"{name}.{size}.txt") for name in ("first", "second")]
-    subprocess.run([sys.executable, MACHINES, "--pair", *texts, str(states)], check=True)
-    sides = zip(*(machine_files(fst, text, scratch, name) for text, name in zip(texts, ("first", "second"))))
-    ours, theirs = sides
+    ours, theirs = two_machines(fst, "--pair", ("first", "second"), (states,), size, scratch)
     out = os.path.join(scratch, "out")
     most = f"--max_states={MOST_STATES}"
     return [("compose", [fst, "compose", most, *ours, out + ".ours"], ["fstcompose", *theirs, out + ".theirs"], TIME, COMPOSE_MEMORY)]
