@@ -1,12 +1,14 @@
-//! Numbers at the end of a vector that has room for them.
+//! Fields at the end of a vector that has room for them.
 
-ghost use Rattle.std.specs.Prelude.{◌≡◌, ◌≤◌, ◌++◌, ◌+◌, length, vec_capacity};
-ghost use Rattle.fst_binary.specs.Spelling.{long, signed, word};
+ghost use Rattle.std.specs.Prelude.{◌≡◌, ◌≤◌, ◌++◌, ◌+◌, ◌<◌, length, vec_capacity};
+ghost use Rattle.fst_bytes.specs.Spelling.{long, signed, text, word};
+ghost use Rattle.fst_semiring.specs.Names.{name_of};
 
 use byteorder::{ByteOrder, LittleEndian};
+use fst_semiring::ArcType;
 
 /// Appends bytes where there is room.
-pub(crate) fn append(out: &mut Vec<u8>, bytes: &[u8])
+pub fn append(out: &mut Vec<u8>, bytes: &[u8])
     requires { length out.old.items + length bytes.now ≤ vec_capacity out.old }
     ensures items { out.new.items ≡ out.old.items ++ bytes.now }
     ensures len { length out.new.items ≡ length out.old.items + length bytes.now }
@@ -19,7 +21,7 @@ pub(crate) fn append(out: &mut Vec<u8>, bytes: &[u8])
 
 /// Appends a number in four bytes where there is room.
 #[tactic(auto, unfolding(crate::specs::Spelling::word))]
-pub(crate) fn append_word(out: &mut Vec<u8>, number: u32)
+pub fn append_word(out: &mut Vec<u8>, number: u32)
     requires { length out.old.items + 4 ≤ vec_capacity out.old }
     ensures items { out.new.items ≡ out.old.items ++ word number }
     ensures len { length out.new.items ≡ length out.old.items + 4 }
@@ -32,7 +34,7 @@ pub(crate) fn append_word(out: &mut Vec<u8>, number: u32)
 
 /// Appends a number in eight bytes where there is room.
 #[tactic(auto, unfolding(crate::specs::Spelling::long))]
-pub(crate) fn append_long(out: &mut Vec<u8>, number: u64)
+pub fn append_long(out: &mut Vec<u8>, number: u64)
     requires { length out.old.items + 8 ≤ vec_capacity out.old }
     ensures items { out.new.items ≡ out.old.items ++ long number }
     ensures len { length out.new.items ≡ length out.old.items + 8 }
@@ -45,7 +47,7 @@ pub(crate) fn append_long(out: &mut Vec<u8>, number: u64)
 
 /// Appends a number with a sign in eight bytes where there is room.
 #[tactic(auto, unfolding(crate::specs::Spelling::signed))]
-pub(crate) fn append_signed(out: &mut Vec<u8>, number: i64)
+pub fn append_signed(out: &mut Vec<u8>, number: i64)
     requires { length out.old.items + 8 ≤ vec_capacity out.old }
     ensures items { out.new.items ≡ out.old.items ++ signed number }
     ensures len { length out.new.items ≡ length out.old.items + 8 }
@@ -54,4 +56,26 @@ pub(crate) fn append_signed(out: &mut Vec<u8>, number: i64)
     let mut bytes = [0; 8];
     LittleEndian::write_i64(&mut bytes, number);
     append(out, &bytes);
+}
+
+/// Appends a text after its length where there is room.
+pub fn append_text(out: &mut Vec<u8>, bytes: &[u8])
+    requires room { length out.old.items + 4 + length bytes.now ≤ vec_capacity out.old }
+    requires short { length bytes.now < 4294967296 }
+    ensures items { out.new.items ≡ out.old.items ++ text bytes.now }
+    ensures len { length out.new.items ≡ length out.old.items + 4 + length bytes.now }
+    ensures room { vec_capacity out.old ≤ vec_capacity out.new }
+{
+    append_word(out, bytes.len() as u32);
+    append(out, bytes);
+}
+
+/// Appends the name of an arc type after its length where there is room.
+pub fn append_arc_type(out: &mut Vec<u8>, kind: ArcType)
+    requires { length out.old.items + 4 + length (name_of kind) ≤ vec_capacity out.old }
+    ensures items { out.new.items ≡ out.old.items ++ text (name_of kind) }
+    ensures len { length out.new.items ≡ length out.old.items + 4 + length (name_of kind) }
+    ensures room { vec_capacity out.old ≤ vec_capacity out.new }
+{
+    append_text(out, kind.name().as_bytes());
 }
