@@ -1,6 +1,6 @@
 -- Reading the binary form from left to right, with the first fault that is met. What is read is a value and
 -- the offset after it.
-use Rattle.std.specs.Prelude.{◌≡◌, ℕ, zero, suc, ◌+◌, List, [], ◌∷◌, length, Bool, true, Option, Some, None, Result, Ok, nat_lt, nat_le, ◌==◌, if◌then◌else◌, codes}
+use Rattle.std.specs.Prelude.{ℕ, zero, suc, ◌+◌, List, [], ◌∷◌, length, Bool, true, Option, Some, None, Result, Ok, nat_lt, nat_le, ◌==◌, if◌then◌else◌, codes}
 use Rattle.fst_fields.specs.Reading as reading
 use Rattle.fst_fields.specs.Reading.{◌>>=◌}
 use Rattle.fst_semiring.specs.declared.arc_type.ArcType.{ArcType}
@@ -64,7 +64,7 @@ header_at bytes at = do
   start ← start_at bytes properties.1
   states ← number_where (λ n. nat_le n most_states) Short BadCount 8 bytes start.1
   arcs ← if is_start start.0 states.0 then number_where (λ n. nat_le n most_arcs) Short BadCount 8 bytes states.1 else fault BadStart properties.1
-  Ok (record { start = start.0; states = states.0; arcs = arcs.0; counted = states.1; after = arcs.1 })
+  Ok (record { start = start.0; states = states.0; arcs = arcs.0; counted = states.1; behind = arcs.1 })
 
 -- ---- states and arcs
 
@@ -104,7 +104,7 @@ states_at kind states arcs before (suc n) bytes at = do
 -- the machine of a header and of what stands after it, to the end of the bytes
 unfoldable pub machine_at : ArcType → Header → List ℕ → Result (Machine Cost) BinaryFault
 machine_at kind header bytes = do
-  all ← states_at kind header.states header.arcs 0 header.states bytes header.after
+  all ← states_at kind header.states header.arcs 0 header.states bytes header.behind
   if arc_total all.0 == header.arcs then (if all.1 == length bytes then Ok (record { start = header.start; states = all.0 }) else fault Extra all.1) else fault BadCount header.counted
 
 -- the machine of a file whose arc type is this one

@@ -63,6 +63,14 @@ number_again short width limit make wide bytes at n rest within lt e =
       within = omega (arith, len, ends);
     }
 
+-- whatever bytes stand there are read as some number
+pub any_number_again : {K : Type 0} (short : K) (width : ℕ) (bytes : List ℕ) (at : ℕ) (part rest : List ℕ) → at ≤ length bytes → length part ≡ width → drop at bytes ≡ part ++ rest → (n : ℕ) × Reads bytes (number_at short width bytes at) n rest
+unfolding number_at
+any_number_again short width bytes at part rest within wide e =
+    let ends = ends_within bytes at part rest within e in
+    let whole : ltb (length bytes) (at + width) ≡ false = le-ltb _ _ (omega (arith, ends, wide)) in
+    (little_number width (drop at bytes), record { next = at + width; gives = rw whole refl; left = past bytes at part rest width wide e; within = omega (arith, ends, wide) })
+
 pub where_takes : {K : Type 0} (test : ℕ → Bool) (short wrong : K) (width limit : ℕ) (make : ℕ → List ℕ) (wide : IsWide width limit make) (bytes : List ℕ) (at n next : ℕ) → IsBytes bytes → number_where test short wrong width bytes at ≡ Ok (n, next) → Takes bytes at (make n) next × (test n ≡ true)
 unfolding number_where
 where_takes {K} test short wrong width limit make wide bytes at n next fits e =

@@ -1,11 +1,12 @@
-//! Fields at the end of a vector that has room for them.
+//! Fields at the end of a vector: where it has room for them, and where it may have to grow.
 
-ghost use Rattle.std.specs.Prelude.{◌≡◌, ◌≤◌, ◌++◌, ◌+◌, ◌<◌, length, vec_capacity};
+ghost use Rattle.std.specs.Prelude.{◌≡◌, ◌≤◌, ◌++◌, ◌+◌, ◌<◌, OnOk, length, vec_capacity};
 ghost use Rattle.fst_bytes.specs.Spelling.{long, signed, text, word};
 ghost use Rattle.fst_semiring.specs.Names.{name_of};
 
 use byteorder::{ByteOrder, LittleEndian};
 use fst_semiring::ArcType;
+use std::alloc::AllocError;
 
 /// Appends bytes where there is room.
 pub fn append(out: &mut Vec<u8>, bytes: &[u8])
@@ -78,4 +79,31 @@ pub fn append_arc_type(out: &mut Vec<u8>, kind: ArcType)
     ensures room { vec_capacity out.old ≤ vec_capacity out.new }
 {
     append_text(out, kind.name().as_bytes());
+}
+
+/// Appends a number in four bytes.
+pub fn push_word(out: &mut Vec<u8>, number: u32) -> Result<(), AllocError>
+    ensures { OnOk result (out.new.items ≡ out.old.items ++ word number) }
+{
+    out.reserve(4)?;
+    append_word(out, number);
+    Ok(())
+}
+
+/// Appends a number in eight bytes.
+pub fn push_long(out: &mut Vec<u8>, number: u64) -> Result<(), AllocError>
+    ensures { OnOk result (out.new.items ≡ out.old.items ++ long number) }
+{
+    out.reserve(8)?;
+    append_long(out, number);
+    Ok(())
+}
+
+/// Appends the name of an arc type after its length.
+pub fn push_arc_type(out: &mut Vec<u8>, kind: ArcType) -> Result<(), AllocError>
+    ensures { OnOk result (out.new.items ≡ out.old.items ++ text (name_of kind)) }
+{
+    out.reserve(4 + kind.name().len())?;
+    append_arc_type(out, kind);
+    Ok(())
 }
