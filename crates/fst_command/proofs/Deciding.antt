@@ -20,7 +20,7 @@ use Rattle.fst_text.specs.Printed.{Prints, text_of_machine}
 use Rattle.fst_text.specs.declared.fault.PrintFault.{PrintFault}
 use Rattle.fst_text.specs.declared.fault.PrintFault.TheVariants as printing
 use Rattle.fst_binary.specs.Reading.{Fails, arc_type_of_bytes, machine_of_bytes}
-use Rattle.fst_binary.specs.declared.fault.BinaryFault.{BinaryFault}
+use Rattle.fst_binary.specs.Reading.{BinaryFault}
 use Rattle.fst_binary.specs.declared.fault.BinaryKind.TheVariants as kinds
 use Rattle.fst_binary.specs.Spelling.{spelling}
 use Rattle.fst_trim.specs.Sorting.{IsArcSorted}
