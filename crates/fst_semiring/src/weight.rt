@@ -18,11 +18,11 @@ pub struct BadWeight;
 
 /// A weight of one of the path semirings, over whole numbers of absolute value at most 10 to the 18.
 /// (Mohri 2009, section 2; OpenFst Quick Tour, "FST Weights".)
-pub trait Weight: Copy + Eq + Send + Sync {
+pub trait Weight: Copy + Eq {
     ghost use Rattle.fst_semiring.specs.declared.arc_type.ArcType.{ArcType};
 
     /// The same kind of weight with numbers of 128 bits.
-    type Wide: Copy + Eq + Send + Sync;
+    type Wide: Copy + Eq;
 
     ghost KIND: { ArcType };
 
