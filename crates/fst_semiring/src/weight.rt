@@ -1,7 +1,7 @@
 //! What generic code knows of a weight.
 
 ghost use Rattle.std.specs.Prelude.{◌≡◌, ◌≢◌, ◌++◌, Bool, OnOk, OnErr, IfOk, IfSome, IfNone};
-ghost use Rattle.fst_semiring.specs.Cost.{Cost, infinite, cost_cmp, plus};
+ghost use Rattle.fst_semiring.specs.Cost.{Cost, infinite, cost_cmp, is_infinite, plus};
 ghost use Rattle.fst_semiring.specs.Semiring.{cancels, one_of, times, InRange, IsCost, IsWide, Within};
 ghost use Rattle.fst_semiring.specs.Division.{quotient};
 ghost use Rattle.fst_semiring.specs.Keys.{key_of};
@@ -155,4 +155,11 @@ pub trait Weight: Copy + Eq {
 
     // Weights with one value are one weight.
     ghost value_apart: { (a b : Self) → value a ≡ value b → a ≡ b };
+}
+
+/// Whether a weight is Zero.
+pub fn is_zero<W: Weight>(weight: W) -> bool
+    ensures { result ≡ is_infinite (W.value weight) }
+{
+    W::key(weight.widen()).class == 2
 }
