@@ -2,19 +2,15 @@
 //! statements are in `specs`, and crates above cite the lemmas in `proofs`.
 
 ghost use Rattle.std.specs.Prelude.{◌≡◌, ℕ, List, [], None};
-ghost use Rattle.fst_semiring.specs.Cost.{Cost};
-ghost use Rattle.fst_semiring.specs.declared.arc_type.ArcType.{ArcType};
 ghost use Rattle.fst_machine.specs.Graph.{Graph};
-ghost use Rattle.fst_machine.specs.Machine.{Machine, no_states};
+ghost use Rattle.fst_machine.specs.Machine.{no_states};
 ghost use Rattle.fst_machine.specs.Numbering.{IsNumbered};
-ghost use Rattle.fst_walk.specs.WalkLaws.{FrontLaws, NumberedLaws, ReachesFew};
+ghost use Rattle.fst_walk.specs.WalkLaws.{FrontLaws, ReachesFew};
 
 /// What a walk has found on its way is the front of the finished list, and the start reaches no more names than that
-/// list has. The successful paths of a machine that numbers names are those of their graph, one to one; where nothing
-/// starts, this is the machine without states.
+/// list has. Where nothing starts, the machine without states has the names of the graph.
 pub fn walk_laws<N>()
     ensures fronts { (g : Graph N) (start : N) (names found : List N) (taken : ℕ) → FrontLaws g start names found taken }
     ensures few { (g : Graph N) (start : N) (names xs : List N) → ReachesFew g start names xs }
-    ensures paths { (kind : ArcType) (g : Graph N) (names : List N) (m : Machine Cost) (d : N) → IsNumbered g names m → NumberedLaws kind g names m d }
     ensures nothing { (g : Graph N) → g.start ≡ None → IsNumbered g [] no_states }
 {}

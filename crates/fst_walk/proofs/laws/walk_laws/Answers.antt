@@ -1,5 +1,5 @@
 use Rattle.fst_walk.proofs.Fronts.{walking_front, walking_further}
-use Rattle.fst_walk.proofs.Numbered.{nothing_numbered, numbered_there, numbered_back, numbered_once}
+use Rattle.fst_walk.proofs.Numbered.{nothing_numbered}
 use Rattle.fst_walk.proofs.Refusing.{reached_few}
 use Rattle.fst_walk.proofs.laws.walk_laws.Goals as goal
 
@@ -11,13 +11,6 @@ returns-clause-fronts g c = λ graph start names found taken. record {
 
 pub returns-clause-few : goal.returns-clause-few
 returns-clause-few g c = λ graph start names xs. reached_few graph start names xs
-
-pub returns-clause-paths : goal.returns-clause-paths
-returns-clause-paths g c = λ kind graph names m d h. record {
-  there = numbered_there kind graph names m h d;
-  back = numbered_back kind graph names m h d;
-  once = numbered_once kind graph names m h d;
-}
 
 pub returns-clause-nothing : goal.returns-clause-nothing
 returns-clause-nothing g c = λ graph none. nothing_numbered graph none

@@ -1,24 +1,22 @@
--- What holds of the arcs of a composition.
-use Rattle.std.proofs.Common.{◌≡◌, ◌≢◌, ◌⊎◌, inl, inr, ℕ, ◌<◌, ◌≤◌, zero, suc, Bool, true, false, List, [], ◌∷◌, Some, cond, nat_eq, length, map, slice_get, refl, sym, ap, subst, arith}
+-- What a walk asks of a composition: that its names can be compared, that the start reaches states of both machines
+-- alone, and that its arcs are arcs of a machine.
+use Rattle.std.proofs.Common.{◌≡◌, ◌≢◌, ◌⊎◌, inl, inr, ℕ, ◌<◌, ◌≤◌, zero, suc, Bool, true, false, List, [], ◌∷◌, Option, None, Some, IfSome, ◌&&◌, cond, eqb, nat_eq, length, map, slice_get, true≢false, refl, sym, ap, subst, arith}
+use Rattle.std.specs.Bool.{Decides}
 use Rattle.std.specs.List.{All, flat_map}
+use Rattle.std.proofs.lemmas.Bool.{eq-eqb, eqb-true}
 use Rattle.std.specs.Option.{option_map}
 use Rattle.std.proofs.lemmas.List.Elements.{All-append, All-cons, All-map, All-nil, All-weaker}
 use Rattle.std.proofs.lemmas.Option.{get_or_from_slice_get, slice_get_within}
 use Rattle.fst_semiring.specs.Cost.{Cost, infinite}
 use Rattle.fst_semiring.specs.declared.arc_type.ArcType.{ArcType}
 use Rattle.fst_semiring.proofs.Laws.{times_only_zero}
-use Rattle.fst_machine.specs.BreadthFirst.{Grows, Has}
-use Rattle.fst_machine.specs.Graph.{graph_of, nexts}
+use Rattle.fst_machine.specs.Graph.{graph_of}
 use Rattle.fst_machine.specs.Machine.{Arc, IsArc, IsMachine, Machine, State, greatest_label, valued, valued_arc}
-use Rattle.fst_machine.proofs.Arcs.{mapped_at}
-use Rattle.fst_machine.proofs.Elements.{Has_at}
+use Rattle.fst_machine.specs.Paths.{IsPath, Transition}
 use Rattle.fst_machine.proofs.Walking.{graph_arcs}
-use Rattle.fst_machine.proofs.Walks.{Grows-only}
-use Rattle.fst_compose.specs.Composition.{both_arc, first_alone, first_arcs, match_arcs, second_alone, second_arcs}
-use Rattle.fst_compose.specs.Making.{IsInside, composition}
-use Rattle.fst_compose.specs.Composition.{by_label}
-use Rattle.fst_compose.specs.Names.{Name}
-use Rattle.fst_compose.proofs.Ending.{IsGoodArc}
+use Rattle.fst_compose.specs.Composition.{IsInside, both_arc, by_label, composition, first_alone, first_arcs, match_arcs, second_alone, second_arcs, start_name}
+use Rattle.fst_compose.specs.Names.{Name, name_at}
+use Rattle.fst_walk.specs.Names.{IsGoodArc, IsNear}
 
 -- an arc to a name of states of these machines, with labels in range and a weight that is not Zero
 pub record IsComposedArc {V : Type 0} (a b : Machine V) (arc : Arc Cost (Name ℕ ℕ)) : Type 0 where
@@ -60,6 +58,12 @@ machine_arcs {V} value m p h low =
     (All-map (IsArc (λ (v : Cost). v) (length m.states)) (valued_arc value) s.0.arcs
     (All-weaker (IsArc value (length m.states)) (λ a. IsArc (λ (v : Cost). v) (length m.states) (valued_arc value a)) (λ a k. record { ilabel = k.ilabel; olabel = k.olabel; weight = k.weight; next = k.next }) s.0.arcs good))
 
+-- the start stands inside
+start_inside : {V : Type 0} (a b : Machine V) (s t : Option ℕ) (n : Name ℕ ℕ) → IfSome s (λ p. p < length a.states) → IfSome t (λ q. q < length b.states) → start_name s t ≡ Some n → IsInside a b n
+start_inside a b None t n left right e = absurd (cc)
+start_inside a b (Some p) None n left right e = absurd (cc)
+start_inside a b (Some p) (Some q) n left right e = let same : name_at p q 0 ≡ n = cc in subst (IsInside a b) same (left, right)
+
 module _ {V : Type 0} (kind : ArcType) (value : V → Cost) (a b : Machine V) (left : IsMachine value a) (right : IsMachine value b) where
   both_good : (x y : Arc Cost ℕ) → IsArc (λ (v : Cost). v) (length a.states) x → IsArc (λ (v : Cost). v) (length b.states) y → IsComposedArc a b (both_arc kind x y)
   both_good x y h k = record { ilabel = h.ilabel; olabel = k.olabel; weight = λ e. by_side (times_only_zero kind x.weight y.weight e); next = (h.next, k.next) }
@@ -89,29 +93,38 @@ module _ {V : Type 0} (kind : ArcType) (value : V → Cost) (a b : Machine V) (l
       second_good : (y : Arc Cost ℕ) → IsArc (λ (v : Cost). v) (length b.states) y → All (IsComposedArc a b) (second_arcs n y)
       second_good y k = All-by_label (IsComposedArc a b) y.ilabel (second_alone n y ∷ []) [] (All-one (IsComposedArc a b) (second_alone n y) (record { ilabel = omega arith; olabel = k.olabel; weight = k.weight; next = (inside.0, k.next) })) (All-nil (IsComposedArc a b))
 
-  -- whatever is found by the arcs of a name stands inside
-  pub inside_goes : (names new : List (Name ℕ ℕ)) (n : Name ℕ ℕ) → Has names n → ((m : Name ℕ ℕ) → Has names m → IsInside a b m) → Grows names (nexts ((composition kind value a b).arcs n)) new → (m : Name ℕ ℕ) → Has new m → IsInside a b m
-  inside_goes names new n here inside grown m has = by_part (Grows-only (nexts ((composition kind value a b).arcs n)) names new m grown has)
-    where
-      by_part : Has names m ⊎ Has (nexts ((composition kind value a b).arcs n)) m → IsInside a b m
-      by_part (inl old) = inside m old
-      by_part (inr found) =
-          let arcs = (composition kind value a b).arcs n in
-          let place = Has_at (nexts arcs) m found in
-          let arc = mapped_at (λ (x : Arc Cost (Name ℕ ℕ)). x.next) arcs place.0 m place.1 in
-          subst (IsInside a b) arc.2 (All_at (IsComposedArc a b) arcs place.0 arc.0 (composed_good n (inside n here)) arc.1).next
+  -- paths stay inside
+  path_inside : (path : List (Transition (Name ℕ ℕ))) (p q : Name ℕ ℕ) → IsInside a b p → IsPath (composition kind value a b) p path q → IsInside a b q
+  path_inside [] p q inside here = subst (IsInside a b) here inside
+  path_inside (t ∷ path) p q inside leads = path_inside path t.arc.next q (All_at (IsComposedArc a b) ((composition kind value a b).arcs p) t.place t.arc (composed_good p inside) leads.0.1).next leads.1
 
-  -- the arcs of names inside are good
-  pub inside_good : (names : List (Name ℕ ℕ)) → ((m : Name ℕ ℕ) → Has names m → IsInside a b m) → (n : Name ℕ ℕ) → Has names n → (k : ℕ) (arc : Arc Cost (Name ℕ ℕ)) → slice_get ((composition kind value a b).arcs n) k ≡ Some arc → IsGoodArc arc
-  inside_good names inside n has k arc e =
-      let h = All_at (IsComposedArc a b) ((composition kind value a b).arcs n) k arc (composed_good n (inside n has)) e in
+  -- so names that the start reaches stand inside
+  pub near_inside : (n : Name ℕ ℕ) → IsNear (composition kind value a b) n → IsInside a b n
+  near_inside n near = path_inside near.path near.start n (start_inside a b a.start b.start near.start left.start right.start near.starts) near.leads
+
+  -- and their arcs are good
+  pub good_arc : (n : Name ℕ ℕ) → IsNear (composition kind value a b) n → (k : ℕ) (arc : Arc Cost (Name ℕ ℕ)) → slice_get ((composition kind value a b).arcs n) k ≡ Some arc → IsGoodArc arc
+  good_arc n near k arc e =
+      let h = All_at (IsComposedArc a b) ((composition kind value a b).arcs n) k arc (composed_good n (near_inside n near)) e in
       record { ilabel = h.ilabel; olabel = h.olabel; weight = h.weight }
 
--- the start stands inside
-pub start_inside : {V : Type 0} (a b : Machine V) (start : Name ℕ ℕ) (names : List (Name ℕ ℕ)) → IsInside a b start → Grows [] (start ∷ []) names → (n : Name ℕ ℕ) → Has names n → IsInside a b n
-start_inside a b start names inside grown n has = by_part (Grows-only (start ∷ []) [] names n grown has)
+both : (a b : Bool) → (a && b) ≡ true → (a ≡ true) × (b ≡ true)
+both true b e = (refl, e)
+both false b e = absurd (true≢false (sym e))
+
+-- what `==` answers of names
+abbrev pub same_name : Name ℕ ℕ → Name ℕ ℕ → Bool
+same_name a b = eqb a.first b.first && (eqb a.second b.second && eqb a.filter b.filter)
+
+-- names that compare as equal are one
+pub same_decides : (a b : Name ℕ ℕ) → Decides (same_name a b) (a ≡ b)
+same_decides a b = (tells, λ e. subst (λ (n : Name ℕ ℕ). same_name a n ≡ true) e own)
   where
-    by_part : ⊥ ⊎ Has (start ∷ []) n → IsInside a b n
-    by_part (inl none) = absurd none
-    by_part (inr (inl e)) = subst (IsInside a b) e inside
-    by_part (inr (inr none)) = absurd none
+    tells : same_name a b ≡ true → a ≡ b
+    tells e =
+        let one = both _ _ e in
+        let two = both _ _ one.1 in
+        λ i. record { first = eqb-true a.first b.first one.0 i; second = eqb-true a.second b.second two.0 i; filter = eqb-true a.filter b.filter two.1 i }
+
+    own : same_name a a ≡ true
+    own = rw (eq-eqb a.first a.first refl, eq-eqb a.second a.second refl, eq-eqb a.filter a.filter refl) refl
