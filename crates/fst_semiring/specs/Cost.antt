@@ -1,6 +1,6 @@
 -- The value of a weight, whatever its arc type, and the order of all values. (Mohri, Weighted Automata
 -- Algorithms, 2009, section 2: in a semiring with the path property, Plus is the better of two values.)
-use Rattle.std.specs.Prelude.{ℕ, ℤ, pos}
+use Rattle.std.specs.Prelude.{ℕ, ℤ, pos, Bool, true, false}
 use Rattle.std.specs.declared.cmp.Ordering.TheVariants.{Less, Equal, Greater}
 use Rattle.std.specs.declared.cmp.Ordering.{Ordering}
 use Rattle.std.specs.Ordering.{nat_cmp, int_cmp, ordering_then}
@@ -53,3 +53,9 @@ plus a b = ranked (cost_cmp a b) a b
 -- the worse of two values
 abbrev pub worse : Cost → Cost → Cost
 worse a b = ranked (cost_cmp a b) b a
+
+-- whether a value is Zero, which is infinity for every arc type
+abbrev pub is_infinite : Cost → Bool
+is_infinite best = false
+is_infinite (finite a b) = false
+is_infinite infinite = true

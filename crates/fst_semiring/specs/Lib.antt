@@ -4,4 +4,5 @@ pub mod Division
 pub mod ValueLaws
 pub mod Keys
 pub mod WeightText
+pub mod Names
 pub mod Packed

@@ -3,12 +3,14 @@
 //! The value of a weight of any arc type is a `Cost` of `specs/Cost.antt`; the order, Plus, Times, One and
 //! Zero are stated over these values, by arc type, in `specs/Semiring.antt`, and division in
 //! `specs/Division.antt`; `value_laws` asks for their laws. The trait `Weight` is what generic code knows of a
-//! weight: each of its calls is a function of values, so that the laws hold of every type. Each weight has a wide form with numbers of 128 bits, in which products
-//! are computed, and a `Key`, one type for all arc types, that compares as the weights do.
+//! weight: each of its calls is a function of values, so that the laws hold of every type. Each weight has a wide form
+//! with numbers of 128 bits, in which products are computed, and a `Key`, one type for all arc types, that compares as
+//! the weights do. `by_arc_type` is the one place where an arc type chooses a type of weights.
 #![tactic(auto)]
 
 mod arc_type;
 mod boolean;
+mod choice;
 mod key;
 mod lexicographic;
 mod minmax;
@@ -20,13 +22,14 @@ mod weight;
 
 pub use arc_type::ArcType;
 pub use boolean::Boolean;
+pub use choice::{ByWeight, by_arc_type};
 pub use key::Key;
 pub use lexicographic::{Lexicographic, WideLexicographic};
 pub use minmax::{MinMax, WideMinMax};
 pub use number::LIMIT;
 pub use text_laws::printed_weight_reads_again;
 pub use tropical::{Tropical, WideTropical};
-pub use weight::{BadWeight, Weight};
+pub use weight::{BadWeight, Weight, is_zero};
 
 #[cfg(test)]
 mod arithmetic_tests;

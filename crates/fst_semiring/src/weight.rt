@@ -1,7 +1,7 @@
 //! What generic code knows of a weight.
 
 ghost use Rattle.std.specs.Prelude.{◌≡◌, ◌≢◌, ◌++◌, Bool, OnOk, OnErr, IfOk, IfSome, IfNone};
-ghost use Rattle.fst_semiring.specs.Cost.{Cost, infinite, cost_cmp, plus};
+ghost use Rattle.fst_semiring.specs.Cost.{Cost, infinite, cost_cmp, is_infinite, plus};
 ghost use Rattle.fst_semiring.specs.Semiring.{cancels, one_of, times, InRange, IsCost, IsWide, Within};
 ghost use Rattle.fst_semiring.specs.Division.{quotient};
 ghost use Rattle.fst_semiring.specs.Keys.{key_of};
@@ -18,11 +18,11 @@ pub struct BadWeight;
 
 /// A weight of one of the path semirings, over whole numbers of absolute value at most 10 to the 18.
 /// (Mohri 2009, section 2; OpenFst Quick Tour, "FST Weights".)
-pub trait Weight: Copy + Eq + Send + Sync {
+pub trait Weight: Copy + Eq {
     ghost use Rattle.fst_semiring.specs.declared.arc_type.ArcType.{ArcType};
 
     /// The same kind of weight with numbers of 128 bits.
-    type Wide: Copy + Eq + Send + Sync;
+    type Wide: Copy + Eq;
 
     ghost KIND: { ArcType };
 
@@ -155,4 +155,11 @@ pub trait Weight: Copy + Eq + Send + Sync {
 
     // Weights with one value are one weight.
     ghost value_apart: { (a b : Self) → value a ≡ value b → a ≡ b };
+}
+
+/// Whether a weight is Zero.
+pub fn is_zero<W: Weight>(weight: W) -> bool
+    ensures { result ≡ is_infinite (W.value weight) }
+{
+    W::key(weight.widen()).class == 2
 }

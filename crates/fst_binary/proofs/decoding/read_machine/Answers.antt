@@ -18,8 +18,8 @@ returns-then-behind-bytes g c =
     let same : arc_total (map (valued_state value) states) ≡ c.args.header.arcs = arc_total-valued value states ∙ sym c.arc_count.ensures ∙ c.if-arc_count-header.false in
     rw c.fault_at-then-behind-bytes.ensures (inr (machine_goes_on g.W.Weight.KIND c.args.header c.args.bytes.now (map (valued_state value) states) c.in_ok-states.behind c.in_ok-states.ensures.value same c.if-behind-bytes.true))
 
-pub into_machine-requires-after_bounds : goal.into_machine-requires-after_bounds
-into_machine-requires-after_bounds g c κs within =
+pub into_machine-requires : goal.into_machine-requires
+into_machine-requires g c =
     IsMachine-decoded g.W.Weight.value g.W.Weight.KIND c.args.header c.args.bytes.now c.in_ok-states.states c.in_ok-states.behind c.requires.behind (λ i. omega (arith, c.type_inv.bytes i)) c.requires.start c.requires.few_states c.requires.few_arcs c.in_ok-states.ensures.value (sym c.arc_count.ensures ∙ c.if-arc_count-header.false)
 
 pub returns : goal.returns

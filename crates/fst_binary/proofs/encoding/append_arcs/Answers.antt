@@ -5,8 +5,8 @@ use Rattle.fst_binary.specs.Spelling.{arc_fields}
 use Rattle.fst_binary.proofs.Lists.{item_fits, item_left, item_written}
 use Rattle.fst_binary.proofs.encoding.append_arcs.Goals as goal
 
-pub append_arc-requires-after_bounds : goal.append_arc-requires-after_bounds
-append_arc-requires-after_bounds g c κs within =
+pub append_arc-requires : goal.append_arc-requires
+append_arc-requires g c =
     let arcs = map (valued_arc g.W.Weight.value) c.args.arcs.now in
     let left = item_left (valued_arc g.W.Weight.value) c.args.arcs.now c.loop-arc.arc-index c.arc-item.result c.loop-arc-test.true c.arc-item.is in
     item_fits (arc_fields g.W.Weight.KIND) c.loop-arc.out.items (valued_arc g.W.Weight.value c.arc-item.result) (drop (c.loop-arc.arc-index + 1) arcs) (drop c.loop-arc.arc-index arcs) _ _ left c.loop-arc.invariant.whole c.loop-arc.invariant.room

@@ -6,8 +6,8 @@ use Rattle.fst_binary.specs.Spelling.{state_fields}
 use Rattle.fst_binary.proofs.Lists.{item_fits, item_written, state_left}
 use Rattle.fst_binary.proofs.encoding.append_states.Goals as goal
 
-pub append_state-requires-after_bounds : goal.append_state-requires-after_bounds
-append_state-requires-after_bounds g c κs within =
+pub append_state-requires : goal.append_state-requires
+append_state-requires g c =
     let value = g.W.Weight.value in
     let i = c.loop-state.state in
     let states = map (valued_state value) c.args.fst.now.states in

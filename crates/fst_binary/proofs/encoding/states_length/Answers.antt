@@ -20,8 +20,8 @@ loop-state-init g c =
       bound = omega (arith, few, c.states-state-end.ensures.machine.few_arcs);
     }
 
-pub arcs_length-requires-after_bounds : goal.arcs_length-requires-after_bounds
-arcs_length-requires-after_bounds g c κs within =
+pub arcs_length-requires : goal.arcs_length-requires
+arcs_length-requires g c =
     let value = g.W.Weight.value in
     let i = c.loop-state.state in
     let states = map (valued_state value) c.args.fst.now.states in

@@ -13,11 +13,11 @@ returns-in-Some-outside_at g c =
     let count : length c.entries.result.now ≡ length (map (valued_entry g.W.Weight.value) c.args.codex.now.entries) = ap length c.entries.ensures.value ∙ sym (length-map c.args.codex.now.entries (valued_entry g.W.Weight.value)) in
     (c.in_default.ensures, c.in-Some-outside_at.step, subst (λ (n : ℕ). IsFirstArc (IsOutside n) c.args.fst.now (Some c.in-Some-outside_at.step)) count c.in-Some-outside_at.ensures, c.label_at-label.ensures)
 
-pub decode_states-requires-after_bounds : goal.decode_states-requires-after_bounds
-decode_states-requires-after_bounds g c κs within = subst (λ (n : ℕ). IsFirstArc (IsOutside n) c.args.fst.now None) (ap length c.entries.ensures.value) c.in_default-outside_at.ensures
+pub decode_states-requires : goal.decode_states-requires
+decode_states-requires g c = subst (λ (n : ℕ). IsFirstArc (IsOutside n) c.args.fst.now None) (ap length c.entries.ensures.value) c.in_default-outside_at.ensures
 
-pub into_machine-requires-after_bounds : goal.into_machine-requires-after_bounds
-into_machine-requires-after_bounds g c κs within =
+pub into_machine-requires : goal.into_machine-requires
+into_machine-requires g c =
     let value = g.W.Weight.value in
     let kind = g.W.Weight.KIND in
     let m = valued value c.args.fst.now in

@@ -10,14 +10,14 @@ use Rattle.fst_codex.specs.Table.{valued_table}
 use Rattle.fst_codex.proofs.TurnedBack.{all_inside, arcs_fault, total-decoded}
 use Rattle.fst_codex.proofs.decoding.decode_states.Goals as goal
 
-pub decode_arcs-requires-after_bounds : goal.decode_arcs-requires-after_bounds
-decode_arcs-requires-after_bounds g c κs within = all_inside (length c.args.codex.now.entries) c.args.fst.now c.loop-state.state c.arcs.result.now c.arcs.ensures c.requires
+pub decode_arcs-requires : goal.decode_arcs-requires
+decode_arcs-requires g c = all_inside (length c.args.codex.now.entries) c.args.fst.now c.loop-state.state c.arcs.result.now c.arcs.ensures c.requires
 
 pub returns-in-Err-clause-decoded : goal.returns-in-Err-clause-decoded
 returns-in-Err-clause-decoded g c = arcs_fault g.W.Weight.KIND g.W.Weight.value (valued_table g.W.Weight.value c.args.codex.now) c.args.fst.now c.loop-state.state c.arcs.result.now c.decode_arcs.new.out.items c.in-Err.fault c.arcs.ensures c.loop-state.invariant.none c.in-Err.ensures
 
-pub push-requires-after_bounds : goal.push-requires-after_bounds
-push-requires-after_bounds g c κs within =
+pub push-requires : goal.push-requires
+push-requires g c =
     let value = g.W.Weight.value in
     let t = valued_table value c.args.codex.now in
     let change = decoded_state g.W.Weight.KIND t in

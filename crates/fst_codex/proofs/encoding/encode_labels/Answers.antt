@@ -17,8 +17,8 @@ use Rattle.fst_codex.proofs.encoding.encode_labels.Goals as goal
 put : (g : given.Over) (c : goal.After-start g) → PutsStates g.W.Weight.KIND c.args.weights (map (valued_state g.W.Weight.value) c.args.fst.now.states) (record { weights = c.args.weights; entries = [] }) (valued_table g.W.Weight.value c.put_states.new.coder) (map (valued_state g.W.Weight.value) c.put_states.new.states)
 put g c = subst (λ (t : Table g.row.W.Denot). PutsStates g.W.Weight.KIND t.weights (map (valued_state g.W.Weight.value) c.args.fst.now.states) (valued_table g.W.Weight.value t) (valued_table g.W.Weight.value c.put_states.new.coder) (map (valued_state g.W.Weight.value) c.put_states.new.states)) c.new-coder.ensures c.in_ok-put_states.ensures.put
 
-pub into_machine-requires-after_bounds : goal.into_machine-requires-after_bounds
-into_machine-requires-after_bounds g c κs within =
+pub into_machine-requires : goal.into_machine-requires
+into_machine-requires g c =
     let value = g.W.Weight.value in
     let entries = map (valued_entry value) c.put_states.new.coder.entries in
     let few : length entries ≤ most_entries = rw (length-map c.put_states.new.coder.entries (valued_entry value)) c.in_ok-put_states.ensures.few in

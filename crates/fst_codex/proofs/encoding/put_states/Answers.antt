@@ -9,12 +9,12 @@ use Rattle.fst_codex.proofs.Putting.{arcs_put, state_next, states_more, total_le
 use Rattle.fst_codex.proofs.encoding.put_states.Goals as goal
 
 pub put_arcs-requires-clause-room : goal.put_arcs-requires-clause-room
-put_arcs-requires-clause-room g c κs within =
+put_arcs-requires-clause-room g c =
     let left = total_left c.args.fst.now.states c.loop-state.state c.final_weight-last.result c.arcs.result.now c.final_weight-last.ensures c.arcs.ensures in
     omega (arith, left, c.loop-state.invariant.few)
 
-pub push-requires-after_bounds : goal.push-requires-after_bounds
-push-requires-after_bounds g c κs within =
+pub push-requires : goal.push-requires
+push-requires g c =
     let left = total_left c.args.fst.now.states c.loop-state.state c.final_weight-last.result c.arcs.result.now c.final_weight-last.ensures c.arcs.ensures in
     let many = arcs_put g.W.Weight.value _ _ _ _ c.arcs.result.now c.put_arcs.new.out.items c.in_ok-put_arcs.ensures.put in
     omega (arith, left, many, c.loop-state.invariant.room, c.as_slice.ensures.len, ap length c.as_slice.ensures.value)

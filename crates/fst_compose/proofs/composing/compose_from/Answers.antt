@@ -25,8 +25,8 @@ returns-in-Some-clause-cause g c =
     let states = map (valued_state g.W.Weight.value) output.states in
     done_out graph c.args.limit output.names states output.total c.in-Some.state (subst (λ (o : Option ℕ). IsDone graph c.args.limit output.names states output.total o) c.in-Some.is (c.in-Ok-follow_all.ensures.done c.if-not-all.false)) c.if-output-gt-MOST_ARCS.false
 
-pub into_machine-requires-after_bounds : goal.into_machine-requires-after_bounds
-into_machine-requires-after_bounds g c κs within =
+pub into_machine-requires : goal.into_machine-requires
+into_machine-requires g c =
     let graph = composition g.W.Weight.KIND g.W.Weight.value c.args.a.now c.args.b.now in
     let output = c.follow_all.new.output in
     let states = map (valued_state g.W.Weight.value) output.states in

@@ -14,16 +14,16 @@ use Rattle.fst_compose.proofs.Good.{inside_goes}
 use Rattle.fst_compose.proofs.composing.follow.Goals as goal
 
 pub put_arcs-requires-clause-first : goal.put_arcs-requires-clause-first
-put_arcs-requires-clause-first g c κs within = (c.requires.inside c.item-key.result (at_Has c.args.output.now.names c.args.place c.item-key.result c.item-key.ensures)).0
+put_arcs-requires-clause-first g c = (c.requires.inside c.item-key.result (at_Has c.args.output.now.names c.args.place c.item-key.result c.item-key.ensures)).0
 
 pub put_arcs-requires-clause-second : goal.put_arcs-requires-clause-second
-put_arcs-requires-clause-second g c κs within = (c.requires.inside c.item-key.result (at_Has c.args.output.now.names c.args.place c.item-key.result c.item-key.ensures)).1
+put_arcs-requires-clause-second g c = (c.requires.inside c.item-key.result (at_Has c.args.output.now.names c.args.place c.item-key.result c.item-key.ensures)).1
 
 pub key_final-requires-clause-first : goal.key_final-requires-clause-first
-key_final-requires-clause-first g c κs within = (c.requires.inside c.item-key.result (at_Has c.args.output.now.names c.args.place c.item-key.result c.item-key.ensures)).0
+key_final-requires-clause-first g c = (c.requires.inside c.item-key.result (at_Has c.args.output.now.names c.args.place c.item-key.result c.item-key.ensures)).0
 
 pub key_final-requires-clause-second : goal.key_final-requires-clause-second
-key_final-requires-clause-second g c κs within = (c.requires.inside c.item-key.result (at_Has c.args.output.now.names c.args.place c.item-key.result c.item-key.ensures)).1
+key_final-requires-clause-second g c = (c.requires.inside c.item-key.result (at_Has c.args.output.now.names c.args.place c.item-key.result c.item-key.ensures)).1
 
 pub returns-in_default-clause-stops : goal.returns-in_default-clause-stops
 returns-in_default-clause-stops g c t =
@@ -35,7 +35,7 @@ returns-in_default-clause-stops g c t =
     composing_stops graph c.args.limit names (map (valued_state g.W.Weight.value) c.args.output.now.states) c.args.output.now.total c.args.output.now.overflow c.args.place c.requires.composing key c.item-key.ensures passes
 
 pub put_state-requires-clause-room : goal.put_state-requires-clause-room
-put_state-requires-clause-room g c κs within none own low =
+put_state-requires-clause-room g c none own low =
     let graph = composition g.W.Weight.KIND g.W.Weight.value c.args.a.now c.args.b.now in
     let names = c.args.output.now.names in
     let key = c.item-key.result in

@@ -7,8 +7,8 @@ use Rattle.fst_machine.proofs.Elements.{at_Has}
 use Rattle.fst_machine.proofs.Walking.{found_within, walking_goes_on, walking_few, graph_nexts, nexts_within}
 use Rattle.fst_machine.proofs.breadth_first.walk.Goals as goal
 
-pub arcs-arcs-requires-after_bounds : goal.arcs-arcs-requires-after_bounds
-arcs-arcs-requires-after_bounds g c κs within =
+pub arcs-arcs-requires : goal.arcs-arcs-requires
+arcs-arcs-requires g c =
     let names = c.loop-taken.names.items in
     let low : c.loop-taken.taken < length names = omega arith in
     let there : slice_get names c.loop-taken.taken ≡ Some c.index.result.now = slice_get_read names (length names) c.loop-taken.taken c.index.result.now refl low c.index.ensures in
@@ -16,7 +16,7 @@ arcs-arcs-requires-after_bounds g c κs within =
     omega (arith, marked, c.loop-taken.invariant.size)
 
 pub find_all-requires-clause-within : goal.find_all-requires-clause-within
-find_all-requires-clause-within g c κs within k d low =
+find_all-requires-clause-within g c k d low =
     let good = nexts_within g.W.Weight.value c.args.fst.now c.index.result.now c.arcs-arcs.result.now c.states-states.ensures.machine c.arcs-arcs.ensures k d low in
     omega (arith, good, c.loop-taken.invariant.size)
 

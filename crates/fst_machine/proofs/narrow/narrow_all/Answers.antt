@@ -4,8 +4,8 @@ use Rattle.fst_machine.proofs.Narrowing.{cause_exact, made_exact}
 use Rattle.fst_machine.proofs.Valued.{IsMachine-same}
 use Rattle.fst_machine.proofs.narrow.narrow_all.Goals as goal
 
-pub into_machine-requires-after_bounds : goal.into_machine-requires-after_bounds
-into_machine-requires-after_bounds g c κs within =
+pub into_machine-requires : goal.into_machine-requires
+into_machine-requires g c =
     let same : valued g.W.Weight.value (record { start = c.start.result; states = c.in-Ok.list }) ≡ valued g.W.Weight.wide_value c.args.wide.now = λ i. record { start = c.start.ensures.value i; states = c.in-Ok.ensures.states i } in
     IsMachine-same g.W.Weight.value g.W.Weight.wide_value (record { start = c.start.result; states = c.in-Ok.list }) c.args.wide.now same c.in-Ok.ensures.machine
 

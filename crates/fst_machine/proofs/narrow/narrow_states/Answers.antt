@@ -7,8 +7,8 @@ use Rattle.fst_machine.specs.Narrowing.{IsInRange}
 use Rattle.fst_machine.proofs.Narrowing.{state_in_range, state_past, state_put, state_room}
 use Rattle.fst_machine.proofs.narrow.narrow_states.Goals as goal
 
-pub narrow_state-requires-after_bounds : goal.narrow_state-requires-after_bounds
-narrow_state-requires-after_bounds g c κs within = state_room g.W.Weight.value g.W.Weight.wide_value c.args.wide.now c.loop-state.state c.final_weight-last.result c.arcs.result.now c.final_weight-last.ensures c.arcs.ensures c.loop-state.list c.loop-state.invariant.states c.states-states.ensures.machine.few_arcs
+pub narrow_state-requires : goal.narrow_state-requires
+narrow_state-requires g c = state_room g.W.Weight.value g.W.Weight.wide_value c.args.wide.now c.loop-state.state c.final_weight-last.result c.arcs.result.now c.final_weight-last.ensures c.arcs.ensures c.loop-state.list c.loop-state.invariant.states c.states-states.ensures.machine.few_arcs
 
 pub returns-then-not-branch-clause-fault : goal.returns-then-not-branch-clause-fault
 returns-then-not-branch-clause-fault g c = state_past g.W.Weight.value g.W.Weight.wide_value c.args.wide.now c.loop-state.state c.final_weight-last.result c.arcs.result.now c.final_weight-last.ensures c.arcs.ensures c.loop-state.invariant.range (not_from_Decides _ c.in_ok-narrow_state.ensures.fits c.if-not-branch.true)

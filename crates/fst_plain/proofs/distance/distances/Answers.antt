@@ -8,7 +8,7 @@ use Rattle.fst_plain.proofs.Tables.{relaxed}
 use Rattle.fst_plain.proofs.distance.distances.Goals as goal
 
 pub relax-requires-clause-fits : goal.relax-requires-clause-fits
-relax-requires-clause-fits g c κs within = (c.loop-round._round + 1, omega arith, subst (λ (t : List PlainCost). AllFit (c.loop-round._round + 1) t) (sym c.as_slice.ensures.value) c.loop-round.invariant.fits)
+relax-requires-clause-fits g c = (c.loop-round._round + 1, omega arith, subst (λ (t : List PlainCost). AllFit (c.loop-round._round + 1) t) (sym c.as_slice.ensures.value) c.loop-round.invariant.fits)
 
 pub loop-round-preserved : goal.loop-round-preserved
 loop-round-preserved g c =

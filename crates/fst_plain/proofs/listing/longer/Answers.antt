@@ -8,8 +8,8 @@ use Rattle.fst_plain.specs.PlainPaths.{no_arcs, one_more, outgoing, part_of}
 use Rattle.fst_plain.proofs.Parts.{extensions_more}
 use Rattle.fst_plain.proofs.listing.longer.Goals as goal
 
-pub extend-requires-after_bounds : goal.extend-requires-after_bounds
-extend-requires-after_bounds g c κs within =
+pub extend-requires : goal.extend-requires
+extend-requires g c =
     let n = c.requires.good.0 in
     let low : c.loop-part.part-index < length c.args.parts.now = omega arith in
     (n, c.requires.good.1, subst (λ (p : PlainPart). Fits n (cost_of p.product)) (sym c.part-item.is) (c.requires.good.2 c.loop-part.part-index c.part-item.result low).1)

@@ -7,7 +7,7 @@ use Rattle.fst_plain.proofs.Parts.{parts_more}
 use Rattle.fst_plain.proofs.listing.parts_within.Goals as goal
 
 pub longer-requires-in-loop-round-clause-good : goal.longer-requires-in-loop-round-clause-good
-longer-requires-in-loop-round-clause-good g c κs within = (c.loop-round._round + 1, omega arith, subst (λ (ps : List PlainPart). AllGood (length c.args.fst.now.states) (c.loop-round._round + 1) ps) (sym c.as_slice-in-loop-round.ensures.value) c.loop-round.invariant.good)
+longer-requires-in-loop-round-clause-good g c = (c.loop-round._round + 1, omega arith, subst (λ (ps : List PlainPart). AllGood (length c.args.fst.now.states) (c.loop-round._round + 1) ps) (sym c.as_slice-in-loop-round.ensures.value) c.loop-round.invariant.good)
 
 pub loop-round-preserved : goal.loop-round-preserved
 loop-round-preserved g c =

@@ -7,8 +7,8 @@ use Rattle.fst_plain.specs.PlainPaths.{AllGood, ArePartsBelow, ListsPaths, part_
 use Rattle.fst_plain.proofs.Collecting.{collected_lists}
 use Rattle.fst_plain.proofs.listing.successful_paths.Goals as goal
 
-pub collect-requires-after_bounds : goal.collect-requires-after_bounds
-collect-requires-after_bounds g c κs within = (c.args.arcs + 1, omega arith, subst (λ (ps : List PlainPart). AllGood (length c.args.fst.now.states) (c.args.arcs + 1) ps) (sym c.as_slice.ensures.value) c.in_ok-parts.ensures.good)
+pub collect-requires : goal.collect-requires
+collect-requires g c = (c.args.arcs + 1, omega arith, subst (λ (ps : List PlainPart). AllGood (length c.args.fst.now.states) (c.args.arcs + 1) ps) (sym c.as_slice.ensures.value) c.in_ok-parts.ensures.good)
 
 pub returns : goal.returns
 returns g c =

@@ -17,8 +17,8 @@ loop-taken-init g c =
       within = subst (λ (ns : List ℕ). (k : ℕ) → Has ns k → k < length c.args.fst.now.states) (sym e) (begins_within (length c.args.fst.now.states) c.args.start c.requires);
     }
 
-pub arcs-arcs-requires-after_bounds : goal.arcs-arcs-requires-after_bounds
-arcs-arcs-requires-after_bounds g c κs within =
+pub arcs-arcs-requires : goal.arcs-arcs-requires
+arcs-arcs-requires g c =
     let names = c.loop-taken.names.items in
     let low : c.loop-taken.taken < length names = omega arith in
     let there : slice_get names c.loop-taken.taken ≡ Some c.index.result.now = slice_get_read names (length names) c.loop-taken.taken c.index.result.now refl low c.index.ensures in

@@ -7,15 +7,15 @@ use Rattle.fst_rational.proofs.Closing.{IsMachine-plus}
 use Rattle.fst_rational.proofs.close.build_plus.Goals as goal
 
 pub put_states-requires-clause-room : goal.put_states-requires-clause-room
-put_states-requires-clause-room g c κs within =
+put_states-requires-clause-room g c =
     let value = g.W.Weight.value in
     let a = valued value c.args.a.now in
     let round = map (carried 0 true c.start.result) a.states in
     let parts : (plus_of a).states ≡ round = ap (λ (o : Option ℕ). map (carried 0 true o) a.states) (sym c.start.ensures.value) in
     next_room value [] round [] (plus_of a).states c.in_ok-list.list (ap (map (valued_state value)) c.in_ok-list.ensures) (parts ∙ sym (append-nil round)) c.requires.arcs
 
-pub into_machine-requires-after_bounds : goal.into_machine-requires-after_bounds
-into_machine-requires-after_bounds g c κs within =
+pub into_machine-requires : goal.into_machine-requires
+into_machine-requires g c =
     let value = g.W.Weight.value in
     let a = valued value c.args.a.now in
     let round = map (carried 0 true a.start) a.states in

@@ -8,8 +8,8 @@ use Rattle.fst_rational.proofs.Putting.{head_put, head_room, next_room, put_mach
 use Rattle.fst_rational.proofs.Closing.{IsMachine-star}
 use Rattle.fst_rational.proofs.close.build_star.Goals as goal
 
-pub push-requires-after_bounds : goal.push-requires-after_bounds
-push-requires-after_bounds g c κs within =
+pub push-requires : goal.push-requires
+push-requires g c =
     let value = g.W.Weight.value in
     let kind = g.W.Weight.KIND in
     let a = valued value c.args.a.now in
@@ -19,7 +19,7 @@ push-requires-after_bounds g c κs within =
     head_room value head round (star_of kind a).states c.in_ok-list.list c.put_entry.new.own.items c.deref.result.now c.in_ok-list.ensures c.deref.ensures.value own refl c.requires.arcs
 
 pub put_states-requires-clause-room : goal.put_states-requires-clause-room
-put_states-requires-clause-room g c κs within =
+put_states-requires-clause-room g c =
     let value = g.W.Weight.value in
     let kind = g.W.Weight.KIND in
     let a = valued value c.args.a.now in
@@ -29,8 +29,8 @@ put_states-requires-clause-room g c κs within =
     let first : map (valued_state value) c.push.new.self ≡ head ∷ [] = head_put value head c.in_ok-list.list c.push.new.self c.weight_of_none.result c.put_entry.new.own.items c.deref.result.now c.in_ok-list.ensures c.weight_of_none.ensures c.deref.ensures.value own c.in_ok-push.ensures.ok in
     next_room value (head ∷ []) round [] (star_of kind a).states c.push.new.self first (ap (λ ss. head ∷ ss) (sym (append-nil round))) c.requires.arcs
 
-pub into_machine-requires-after_bounds : goal.into_machine-requires-after_bounds
-into_machine-requires-after_bounds g c κs within =
+pub into_machine-requires : goal.into_machine-requires
+into_machine-requires g c =
     let value = g.W.Weight.value in
     let kind = g.W.Weight.KIND in
     let a = valued value c.args.a.now in

@@ -11,10 +11,10 @@ pub returns-in-Some-clause-limits : goal.returns-in-Some-clause-limits
 returns-in-Some-clause-limits g c = limited_refused (plus_of (valued g.W.Weight.value c.args.a.now)) c.plus_size-states.result.0 c.plus_size-states.result.1 c.plus_size-states.ensures.states c.plus_size-states.ensures.arcs c.in-Some.fault (sym c.check_size.ensures ∙ c.in-Some.is)
 
 pub build_plus-requires-clause-states : goal.build_plus-requires-clause-states
-build_plus-requires-clause-states g c κs within = subst (λ n. n ≤ most_states) c.plus_size-states.ensures.states (size_fits c.plus_size-states.result.0 c.plus_size-states.result.1 (sym c.check_size.ensures ∙ c.in_default.is)).0
+build_plus-requires-clause-states g c = subst (λ n. n ≤ most_states) c.plus_size-states.ensures.states (size_fits c.plus_size-states.result.0 c.plus_size-states.result.1 (sym c.check_size.ensures ∙ c.in_default.is)).0
 
 pub build_plus-requires-clause-arcs : goal.build_plus-requires-clause-arcs
-build_plus-requires-clause-arcs g c κs within = subst (λ n. n ≤ most_arcs) c.plus_size-states.ensures.arcs (size_fits c.plus_size-states.result.0 c.plus_size-states.result.1 (sym c.check_size.ensures ∙ c.in_default.is)).1
+build_plus-requires-clause-arcs g c = subst (λ n. n ≤ most_arcs) c.plus_size-states.ensures.arcs (size_fits c.plus_size-states.result.0 c.plus_size-states.result.1 (sym c.check_size.ensures ∙ c.in_default.is)).1
 
 pub returns-in-Ok-clause-limits : goal.returns-in-Ok-clause-limits
 returns-in-Ok-clause-limits g c = limited_ok (plus_of (valued g.W.Weight.value c.args.a.now)) c.plus_size-states.result.0 c.plus_size-states.result.1 c.plus_size-states.ensures.states c.plus_size-states.ensures.arcs c.in-Ok.closed (sym c.check_size.ensures ∙ c.in_default.is)

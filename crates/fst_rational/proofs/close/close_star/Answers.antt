@@ -11,10 +11,10 @@ pub returns-in-Some-clause-limits : goal.returns-in-Some-clause-limits
 returns-in-Some-clause-limits g c = limited_refused (star_of g.W.Weight.KIND (valued g.W.Weight.value c.args.a.now)) c.star_size-states.result.0 c.star_size-states.result.1 c.star_size-states.ensures.states c.star_size-states.ensures.arcs c.in-Some.fault (sym c.check_size.ensures ∙ c.in-Some.is)
 
 pub build_star-requires-clause-states : goal.build_star-requires-clause-states
-build_star-requires-clause-states g c κs within = subst (λ n. n ≤ most_states) c.star_size-states.ensures.states (size_fits c.star_size-states.result.0 c.star_size-states.result.1 (sym c.check_size.ensures ∙ c.in_default.is)).0
+build_star-requires-clause-states g c = subst (λ n. n ≤ most_states) c.star_size-states.ensures.states (size_fits c.star_size-states.result.0 c.star_size-states.result.1 (sym c.check_size.ensures ∙ c.in_default.is)).0
 
 pub build_star-requires-clause-arcs : goal.build_star-requires-clause-arcs
-build_star-requires-clause-arcs g c κs within = subst (λ n. n ≤ most_arcs) c.star_size-states.ensures.arcs (size_fits c.star_size-states.result.0 c.star_size-states.result.1 (sym c.check_size.ensures ∙ c.in_default.is)).1
+build_star-requires-clause-arcs g c = subst (λ n. n ≤ most_arcs) c.star_size-states.ensures.arcs (size_fits c.star_size-states.result.0 c.star_size-states.result.1 (sym c.check_size.ensures ∙ c.in_default.is)).1
 
 pub returns-in-Ok-clause-limits : goal.returns-in-Ok-clause-limits
 returns-in-Ok-clause-limits g c = limited_ok (star_of g.W.Weight.KIND (valued g.W.Weight.value c.args.a.now)) c.star_size-states.result.0 c.star_size-states.result.1 c.star_size-states.ensures.states c.star_size-states.ensures.arcs c.in-Ok.closed (sym c.check_size.ensures ∙ c.in_default.is)

@@ -9,7 +9,7 @@ use Rattle.fst_rational.proofs.Concatenating.{IsMachine-concat, concat_states, c
 use Rattle.fst_rational.proofs.concatenate.build.Goals as goal
 
 pub put_states-requires-clause-room : goal.put_states-requires-clause-room
-put_states-requires-clause-room g c κs within =
+put_states-requires-clause-room g c =
     let value = g.W.Weight.value in
     let a = valued value c.args.a.now in
     let b = valued value c.args.b.now in
@@ -23,7 +23,7 @@ put_states-requires-clause-room g c κs within =
     next_room value [] fronts backs (concat_of a b).states c.in_ok-list.list (ap (map (valued_state value)) c.in_ok-list.ensures) parts c.requires.arcs
 
 pub put_states-requires-2-clause-ready : goal.put_states-requires-2-clause-ready
-put_states-requires-2-clause-ready g c κs within =
+put_states-requires-2-clause-ready g c =
     let value = g.W.Weight.value in
     let a = valued value c.args.a.now in
     let b = valued value c.args.b.now in
@@ -31,7 +31,7 @@ put_states-requires-2-clause-ready g c κs within =
     omega (arith, c.states-behind.ensures.value, length-map c.args.a.now.states (valued_state value), count, c.requires.states)
 
 pub put_states-requires-2-clause-room : goal.put_states-requires-2-clause-room
-put_states-requires-2-clause-room g c κs within =
+put_states-requires-2-clause-room g c =
     let value = g.W.Weight.value in
     let a = valued value c.args.a.now in
     let b = valued value c.args.b.now in
@@ -45,8 +45,8 @@ put_states-requires-2-clause-room g c κs within =
     let first : map (valued_state value) c.put_states.new.states ≡ fronts = c.in_ok-put_states.ensures ∙ ap (λ (ss : List (State g.row.W.Denot)). map (valued_state value) ss ++ fronts) c.in_ok-list.ensures in
     next_room value fronts backs [] (concat_of a b).states c.put_states.new.states first (parts ∙ ap (λ ss. fronts ++ ss) (sym (append-nil backs))) c.requires.arcs
 
-pub into_machine-requires-after_bounds : goal.into_machine-requires-after_bounds
-into_machine-requires-after_bounds g c κs within =
+pub into_machine-requires : goal.into_machine-requires
+into_machine-requires g c =
     let value = g.W.Weight.value in
     let a = valued value c.args.a.now in
     let b = valued value c.args.b.now in

@@ -9,8 +9,8 @@ use Rattle.fst_rational.proofs.Labelling.{new_label-epsilon, new_label-range, re
 use Rattle.fst_rational.proofs.labels.relabel.Given as given
 use Rattle.fst_rational.proofs.labels.relabel.Goals as goal
 
-pub with_labels-requires-after_bounds : goal.with_labels-requires-after_bounds
-with_labels-requires-after_bounds g c κs within =
+pub with_labels-requires : goal.with_labels-requires
+with_labels-requires g c =
     subst (λ (ps : List Pair). KeepsRange (λ i o. new_label ps i) (λ i o. new_label (pairs_of c.news-2.result.now.entries) o)) (sym c.news.ensures.value)
     (subst (λ (ps : List Pair). KeepsRange (λ i o. new_label c.args.input.now i) (λ i o. new_label ps o)) (sym c.news-2.ensures.value)
     (λ i o one two. (new_label-range c.args.input.now i c.news.ensures.pairs.small one, new_label-range c.args.output.now o c.news-2.ensures.pairs.small two)))

@@ -7,7 +7,7 @@ use Rattle.fst_rational.proofs.Labelling.{IsMachine-labelled, arc_total-labelled
 use Rattle.fst_rational.proofs.labels.with_labels.Goals as goal
 
 pub put_states-requires-clause-room : goal.put_states-requires-clause-room
-put_states-requires-clause-room g c κs within =
+put_states-requires-clause-room g c =
     let reads = g.R.Rules.reads c.args.rules in
     let writes = g.R.Rules.writes c.args.rules in
     let states = map (valued_state g.W.Weight.value) c.args.a.now.states in
@@ -15,8 +15,8 @@ put_states-requires-clause-room g c κs within =
     let changed = ap arc_total (changed_labelled reads writes states) in
     omega (arith, none, changed, arc_total-labelled reads writes states, arc_total-valued g.W.Weight.value c.args.a.now.states, c.states.ensures.machine.few_arcs)
 
-pub into_machine-requires-after_bounds : goal.into_machine-requires-after_bounds
-into_machine-requires-after_bounds g c κs within =
+pub into_machine-requires : goal.into_machine-requires
+into_machine-requires g c =
     let value = g.W.Weight.value in
     let reads = g.R.Rules.reads c.args.rules in
     let writes = g.R.Rules.writes c.args.rules in

@@ -8,8 +8,8 @@ use Rattle.fst_rational.proofs.Putting.{put_machine, put_valued}
 use Rattle.fst_rational.proofs.Backing.{IsMachine-reverse, base, base_made, length-base, put_all-reverse}
 use Rattle.fst_rational.proofs.reversal.build.Goals as goal
 
-pub put_all_back-requires-after_bounds : goal.put_all_back-requires-after_bounds
-put_all_back-requires-after_bounds g c κs within =
+pub put_all_back-requires : goal.put_all_back-requires
+put_all_back-requires g c =
     let value = g.W.Weight.value in
     let kind = g.W.Weight.KIND in
     let a = valued value c.args.a.now in
@@ -18,8 +18,8 @@ put_all_back-requires-after_bounds g c κs within =
     let count : length c.put_bare.new.states.items ≡ length (base kind a good) = sym (length-map c.put_bare.new.states.items (valued_state value)) ∙ ap length bare in
     omega (arith, count, length-base kind a good, length-map c.args.a.now.states (valued_state value))
 
-pub gather-requires-after_bounds : goal.gather-requires-after_bounds
-gather-requires-after_bounds g c κs within =
+pub gather-requires : goal.gather-requires
+gather-requires g c =
     let value = g.W.Weight.value in
     let kind = g.W.Weight.KIND in
     let a = valued value c.args.a.now in
@@ -30,8 +30,8 @@ gather-requires-after_bounds g c κs within =
     let same = ap arc_total c.as_slice-2.ensures.value in
     omega (arith, total, same, c.requires.arcs)
 
-pub into_machine-requires-after_bounds : goal.into_machine-requires-after_bounds
-into_machine-requires-after_bounds g c κs within =
+pub into_machine-requires : goal.into_machine-requires
+into_machine-requires g c =
     let value = g.W.Weight.value in
     let kind = g.W.Weight.KIND in
     let a = valued value c.args.a.now in

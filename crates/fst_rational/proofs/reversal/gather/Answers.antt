@@ -3,8 +3,8 @@ use Rattle.std.proofs.lemmas.List.Sums.{sum_by_more_le}
 use Rattle.fst_machine.specs.Machine.{arc_total}
 use Rattle.fst_rational.proofs.reversal.gather.Goals as goal
 
-pub push-requires-after_bounds : goal.push-requires-after_bounds
-push-requires-after_bounds g c κs within =
+pub push-requires : goal.push-requires
+push-requires g c =
     let more = sum_by_more_le (λ t. length t.arcs) c.args.turned.now c.loop-state.state-index c.state-item.result c.loop-state-test.true in
     let here : length c.deref.result.now ≡ length c.state-item.result.arcs = ap length c.deref.ensures.value ∙ ap (λ s. length s.arcs) c.state.view_is in
     let same = ap (λ s. length s.arcs) c.state-item.is in

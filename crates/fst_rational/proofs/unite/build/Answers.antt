@@ -7,8 +7,8 @@ use Rattle.fst_rational.proofs.Putting.{head_room, next_room, put_machine, put_v
 use Rattle.fst_rational.proofs.Uniting.{IsMachine-union, head, union_entries, union_head, union_put, union_states, union_whole}
 use Rattle.fst_rational.proofs.unite.build.Goals as goal
 
-pub push-requires-after_bounds : goal.push-requires-after_bounds
-push-requires-after_bounds g c κs within =
+pub push-requires : goal.push-requires
+push-requires g c =
     let value = g.W.Weight.value in
     let kind = g.W.Weight.KIND in
     let a = valued value c.args.a.now in
@@ -19,7 +19,7 @@ push-requires-after_bounds g c κs within =
     head_room value (head value kind a b k behind) (map (carried 1 true None) a.states ++ map (carried k true None) b.states) (union_of kind a b).states c.in_ok-list.list c.put_entry-2.new.own.items c.deref.result.now c.in_ok-list.ensures c.deref.ensures.value own (union_whole value kind a b k behind) c.requires.arcs
 
 pub put_states-requires-clause-room : goal.put_states-requires-clause-room
-put_states-requires-clause-room g c κs within =
+put_states-requires-clause-room g c =
     let value = g.W.Weight.value in
     let kind = g.W.Weight.KIND in
     let a = valued value c.args.a.now in
@@ -30,7 +30,7 @@ put_states-requires-clause-room g c κs within =
     next_room value (head value kind a b k behind ∷ []) (map (carried 1 true None) a.states) (map (carried k true None) b.states) (union_of kind a b).states c.push.new.self first (union_whole value kind a b k behind) c.requires.arcs
 
 pub put_states-requires-2-clause-ready : goal.put_states-requires-2-clause-ready
-put_states-requires-2-clause-ready g c κs within =
+put_states-requires-2-clause-ready g c =
     let value = g.W.Weight.value in
     let a = valued value c.args.a.now in
     let b = valued value c.args.b.now in
@@ -38,7 +38,7 @@ put_states-requires-2-clause-ready g c κs within =
     omega (arith, c.states-behind.ensures.value, length-map c.args.a.now.states (valued_state value), count, c.requires.states)
 
 pub put_states-requires-2-clause-room : goal.put_states-requires-2-clause-room
-put_states-requires-2-clause-room g c κs within =
+put_states-requires-2-clause-room g c =
     let value = g.W.Weight.value in
     let kind = g.W.Weight.KIND in
     let a = valued value c.args.a.now in
@@ -49,8 +49,8 @@ put_states-requires-2-clause-room g c κs within =
     let second : map (valued_state value) c.put_states.new.states ≡ head value kind a b k behind ∷ map (carried 1 true None) a.states = c.in_ok-put_states.ensures ∙ ap (λ ss. ss ++ map (carried 1 true None) a.states) first in
     next_room value (head value kind a b k behind ∷ map (carried 1 true None) a.states) (map (carried k true None) b.states) [] (union_of kind a b).states c.put_states.new.states second (union_whole value kind a b k behind ∙ ap (λ ss. head value kind a b k behind ∷ (map (carried 1 true None) a.states ++ ss)) (sym (append-nil (map (carried k true None) b.states)))) c.requires.arcs
 
-pub into_machine-requires-after_bounds : goal.into_machine-requires-after_bounds
-into_machine-requires-after_bounds g c κs within =
+pub into_machine-requires : goal.into_machine-requires
+into_machine-requires g c =
     let value = g.W.Weight.value in
     let kind = g.W.Weight.KIND in
     let a = valued value c.args.a.now in

@@ -11,10 +11,10 @@ pub returns-in-Some-clause-limits : goal.returns-in-Some-clause-limits
 returns-in-Some-clause-limits g c = limited_refused (union_of g.W.Weight.KIND (valued g.W.Weight.value c.args.a.now) (valued g.W.Weight.value c.args.b.now)) c.size-states.result.0 c.size-states.result.1 c.size-states.ensures.states c.size-states.ensures.arcs c.in-Some.fault (sym c.check_size.ensures ∙ c.in-Some.is)
 
 pub build-requires-clause-states : goal.build-requires-clause-states
-build-requires-clause-states g c κs within = subst (λ n. n ≤ most_states) c.size-states.ensures.states (size_fits c.size-states.result.0 c.size-states.result.1 (sym c.check_size.ensures ∙ c.in_default.is)).0
+build-requires-clause-states g c = subst (λ n. n ≤ most_states) c.size-states.ensures.states (size_fits c.size-states.result.0 c.size-states.result.1 (sym c.check_size.ensures ∙ c.in_default.is)).0
 
 pub build-requires-clause-arcs : goal.build-requires-clause-arcs
-build-requires-clause-arcs g c κs within = subst (λ n. n ≤ most_arcs) c.size-states.ensures.arcs (size_fits c.size-states.result.0 c.size-states.result.1 (sym c.check_size.ensures ∙ c.in_default.is)).1
+build-requires-clause-arcs g c = subst (λ n. n ≤ most_arcs) c.size-states.ensures.arcs (size_fits c.size-states.result.0 c.size-states.result.1 (sym c.check_size.ensures ∙ c.in_default.is)).1
 
 pub returns-in-Ok-clause-limits : goal.returns-in-Ok-clause-limits
 returns-in-Ok-clause-limits g c = limited_ok (union_of g.W.Weight.KIND (valued g.W.Weight.value c.args.a.now) (valued g.W.Weight.value c.args.b.now)) c.size-states.result.0 c.size-states.result.1 c.size-states.ensures.states c.size-states.ensures.arcs c.in-Ok.union (sym c.check_size.ensures ∙ c.in_default.is)

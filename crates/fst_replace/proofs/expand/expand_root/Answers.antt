@@ -12,19 +12,19 @@ use Rattle.fst_replace.proofs.Valuing.{last_reached, root_arcs, root_room, v_arc
 use Rattle.fst_replace.proofs.expand.expand_root.Goals as goal
 
 pub put_machine-requires-clause-starts : goal.put_machine-requires-clause-starts
-put_machine-requires-clause-starts g c κs within =
+put_machine-requires-clause-starts g c =
     let labels = labels_of c.args.rules.now in
     let s = shape_at c.args.shapes.now in
     subst (λ (m : Machine g.row.W.Denot). HasStarts s (rules_in (calls_in labels (arcs_of m.states)))) (sym c.machine-root.ensures) (v_starts g.W.Weight.value c.args.rules.now c.args.shapes.now c.requires.table 0 ([], refl))
 
 pub put_machine-requires-clause-room : goal.put_machine-requires-clause-room
-put_machine-requires-clause-room g c κs within =
+put_machine-requires-clause-room g c =
     let labels = labels_of c.args.rules.now in
     let s = shape_at c.args.shapes.now in
     subst (λ (m : Machine g.row.W.Denot). 0 + (length m.states + blocks_size labels s (calls_in labels (arcs_of m.states))) ≤ most_states) (sym c.machine-root.ensures) (root_room g.W.Weight.value c.args.rules.now c.args.shapes.now c.requires.table c.requires.states)
 
 pub put_machine-requires-clause-arcs : goal.put_machine-requires-clause-arcs
-put_machine-requires-clause-arcs g c κs within =
+put_machine-requires-clause-arcs g c =
     let value = g.W.Weight.value in
     let labels = labels_of c.args.rules.now in
     let s = shape_at c.args.shapes.now in
@@ -50,8 +50,8 @@ loop-call-init g c =
       calls = w.calls;
     }
 
-pub machine-machine-requires-after_bounds : goal.machine-machine-requires-after_bounds
-machine-machine-requires-after_bounds g c κs within =
+pub machine-machine-requires : goal.machine-machine-requires
+machine-machine-requires g c =
     let value = g.W.Weight.value in
     let rules = c.args.rules.now in
     let shapes = c.args.shapes.now in
@@ -62,7 +62,7 @@ machine-machine-requires-after_bounds g c κs within =
     omega (arith, low, same, length-map {B = Labelled Cost} rules (λ r. record { label = r.label; machine = valued value r.machine }))
 
 pub put_machine-requires-in-Some-clause-starts : goal.put_machine-requires-in-Some-clause-starts
-put_machine-requires-in-Some-clause-starts g c κs within =
+put_machine-requires-in-Some-clause-starts g c =
     let value = g.W.Weight.value in
     let rules = c.args.rules.now in
     let shapes = c.args.shapes.now in
@@ -74,7 +74,7 @@ put_machine-requires-in-Some-clause-starts g c κs within =
     subst (λ (m : Machine g.row.W.Denot). HasStarts s (rules_in (calls_in labels (arcs_of m.states)))) (sym m) (v_starts value rules shapes c.requires.table c.in-Some.call.rule (last_reached value rules shapes c.requires.table made c.pop.new.self.items c.in-Some.call c.loop-call.at e))
 
 pub put_machine-requires-in-Some-clause-room : goal.put_machine-requires-in-Some-clause-room
-put_machine-requires-in-Some-clause-room g c κs within =
+put_machine-requires-in-Some-clause-room g c =
     let value = g.W.Weight.value in
     let rules = c.args.rules.now in
     let shapes = c.args.shapes.now in
@@ -86,7 +86,7 @@ put_machine-requires-in-Some-clause-room g c κs within =
     subst (λ (m : Machine g.row.W.Denot). c.loop-call.at + (length m.states + blocks_size labels s (calls_in labels (arcs_of m.states))) ≤ most_states) (sym m) (v_room value rules shapes c.requires.table made c.pop.new.self.items c.in-Some.call c.loop-call.at e c.requires.states)
 
 pub put_machine-requires-in-Some-clause-arcs : goal.put_machine-requires-in-Some-clause-arcs
-put_machine-requires-in-Some-clause-arcs g c κs within =
+put_machine-requires-in-Some-clause-arcs g c =
     let value = g.W.Weight.value in
     let rules = c.args.rules.now in
     let shapes = c.args.shapes.now in
@@ -140,8 +140,8 @@ loop-call-preserved g c =
       calls = w.calls;
     }
 
-pub into_machine-requires-after_bounds : goal.into_machine-requires-after_bounds
-into_machine-requires-after_bounds g c κs within =
+pub into_machine-requires : goal.into_machine-requires
+into_machine-requires g c =
     let value = g.W.Weight.value in
     let rules = c.args.rules.now in
     let shapes = c.args.shapes.now in

@@ -11,14 +11,14 @@ use Rattle.fst_replace.proofs.Emitting.{entered_more, size_more, size_within, st
 use Rattle.fst_replace.proofs.expand.put_arcs.Goals as goal
 
 pub put_arc-requires-clause-starts : goal.put_arc-requires-clause-starts
-put_arc-requires-clause-starts g c κs within =
+put_arc-requires-clause-starts g c =
     let arcs = c.args.arcs.now in
     let low : c.loop-arc.arc-index < length arcs = omega arith in
     let there : slice_get arcs c.loop-arc.arc-index ≡ Some c.arc-item.result = slice_get_read arcs (length arcs) c.loop-arc.arc-index c.arc-item.result refl low c.arc-item.is in
     starts_within (labels_of c.args.rules.now) (shape_at c.args.shapes.now) g.W.Weight.value arcs c.loop-arc.arc-index c.arc-item.result there c.requires.starts
 
 pub put_arc-requires-clause-room : goal.put_arc-requires-clause-room
-put_arc-requires-clause-room g c κs within =
+put_arc-requires-clause-room g c =
     let arcs = c.args.arcs.now in
     let low : c.loop-arc.arc-index < length arcs = omega arith in
     let there : slice_get arcs c.loop-arc.arc-index ≡ Some c.arc-item.result = slice_get_read arcs (length arcs) c.loop-arc.arc-index c.arc-item.result refl low c.arc-item.is in

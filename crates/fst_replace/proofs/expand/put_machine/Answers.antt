@@ -9,15 +9,15 @@ use Rattle.fst_replace.proofs.Emitting.{state_more, state_room, state_size, stat
 use Rattle.fst_replace.proofs.expand.put_machine.Goals as goal
 
 pub put_state-requires-clause-starts : goal.put_state-requires-clause-starts
-put_state-requires-clause-starts g c κs within = state_starts (labels_of c.args.rules.now) (shape_at c.args.shapes.now) g.W.Weight.value c.args.machine.now.states c.loop-state.state c.final_weight-last.result c.arcs-arcs.result.now c.final_weight-last.ensures c.arcs-arcs.ensures c.requires.starts
+put_state-requires-clause-starts g c = state_starts (labels_of c.args.rules.now) (shape_at c.args.shapes.now) g.W.Weight.value c.args.machine.now.states c.loop-state.state c.final_weight-last.result c.arcs-arcs.result.now c.final_weight-last.ensures c.arcs-arcs.ensures c.requires.starts
 
 pub put_state-requires-clause-room : goal.put_state-requires-clause-room
-put_state-requires-clause-room g c κs within =
+put_state-requires-clause-room g c =
     let few = state_within (labels_of c.args.rules.now) (shape_at c.args.shapes.now) g.W.Weight.value c.args.machine.now.states c.loop-state.state c.final_weight-last.result c.arcs-arcs.result.now c.final_weight-last.ensures c.arcs-arcs.ensures in
     omega (arith, few, c.loop-state.invariant.next, c.requires.room)
 
 pub put_state-requires-clause-arcs : goal.put_state-requires-clause-arcs
-put_state-requires-clause-arcs g c κs within =
+put_state-requires-clause-arcs g c =
     let value = g.W.Weight.value in
     let labels = labels_of c.args.rules.now in
     let s = shape_at c.args.shapes.now in

@@ -7,8 +7,8 @@ use Rattle.fst_trim.proofs.Alongside.{same_paths}
 use Rattle.fst_trim.proofs.Trimming.{finished}
 use Rattle.fst_trim.proofs.connected.connect.Goals as goal
 
-pub into_machine-requires-after_bounds : goal.into_machine-requires-after_bounds
-into_machine-requires-after_bounds g c κs within =
+pub into_machine-requires : goal.into_machine-requires
+into_machine-requires g c =
     (finished g.W.Weight.value c.args.a.now (record { start = c.number_of_start-start.result; states = c.in_ok-states.states }) c.in_ok-marks.marks.items c.as_slice-kept.result.now c.in_ok-numbers.numbers.items c.as_slice.result.now c.as_slice-2.result.now c.start.result c.states-states.ensures.machine c.as_slice-kept.ensures.value c.in_ok-marks.ensures.size c.in_ok-marks.ensures.marks c.in_ok-numbers.ensures c.as_slice.ensures.value c.as_slice-2.ensures.value c.start.ensures.value c.number_of_start-start.ensures c.in_ok-states.ensures).machine
 
 pub returns-clause-machine : goal.returns-clause-machine

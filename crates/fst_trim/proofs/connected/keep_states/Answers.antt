@@ -15,8 +15,8 @@ keep_arcs-requires-clause-marks g c k d low =
     let within = nexts_within g.W.Weight.value c.args.fst.now c.loop-state.state c.arcs.result.now c.states-state-end.ensures.machine c.arcs.ensures in
     omega (arith, within k d low, c.requires.marks)
 
-pub push-requires-after_bounds : goal.push-requires-after_bounds
-push-requires-after_bounds g c κs within = room_for c.args.marks.now c.args.numbers.now c.args.fst.now.states c.loop-state.states c.loop-state.state (omega arith) c.arcs.result.now c.as_slice.result.now most_arcs c.arcs.ensures (c.as_slice.ensures.value ∙ (c.in_ok-keep_arcs.ensures ∙ ap (λ (zs : List (Arc g.row.W.Denot ℕ)). zs ++ kept_arcs c.args.marks.now c.args.numbers.now c.arcs.result.now) c.clear.ensures.items)) c.loop-state.invariant.few c.states-state-end.ensures.machine.few_arcs
+pub push-requires : goal.push-requires
+push-requires g c = room_for c.args.marks.now c.args.numbers.now c.args.fst.now.states c.loop-state.states c.loop-state.state (omega arith) c.arcs.result.now c.as_slice.result.now most_arcs c.arcs.ensures (c.as_slice.ensures.value ∙ (c.in_ok-keep_arcs.ensures ∙ ap (λ (zs : List (Arc g.row.W.Denot ℕ)). zs ++ kept_arcs c.args.marks.now c.args.numbers.now c.arcs.result.now) c.clear.ensures.items)) c.loop-state.invariant.few c.states-state-end.ensures.machine.few_arcs
 
 pub loop-state-preserved : goal.loop-state-preserved
 loop-state-preserved g c =

@@ -6,8 +6,8 @@ use Rattle.fst_trim.specs.Sorting.{IsArcSorted, IsStableSort}
 use Rattle.fst_trim.proofs.Rearranged.{rearranged_machine, rearranged_paths, rearranged-Rel, sorted_is_rearranged, sort_ends, sort_more, sort_room}
 use Rattle.fst_trim.proofs.sorting.arcsort.Goals as goal
 
-pub push-requires-after_bounds : goal.push-requires-after_bounds
-push-requires-after_bounds g c κs within =
+pub push-requires : goal.push-requires
+push-requires g c =
     let sorted = subst (λ (zs : List (Arc g.row.W.Denot ℕ)). IsStableSort c.args.side c.arcs.result.now zs) (sym c.as_slice.ensures.value) c.in_ok-sort_arcs.ensures in
     sort_room c.args.side c.args.a.now.states c.loop-state.states c.loop-state.state c.final_weight.result c.arcs.result.now c.as_slice.result.now c.loop-state.invariant c.final_weight.ensures c.arcs.ensures sorted most_arcs c.states-state-end.ensures.machine.few_arcs
 
@@ -16,8 +16,8 @@ loop-state-preserved g c =
     let sorted = subst (λ (zs : List (Arc g.row.W.Denot ℕ)). IsStableSort c.args.side c.arcs.result.now zs) (sym c.as_slice.ensures.value) c.in_ok-sort_arcs.ensures in
     sort_more c.args.side c.args.a.now.states c.loop-state.states c.loop-state.state c.final_weight.result c.arcs.result.now c.as_slice.result.now c.loop-state.invariant c.final_weight.ensures c.arcs.ensures sorted c.push.new.self c.in_ok-push.ensures.ok
 
-pub into_machine-requires-after_bounds : goal.into_machine-requires-after_bounds
-into_machine-requires-after_bounds g c κs within =
+pub into_machine-requires : goal.into_machine-requires
+into_machine-requires g c =
     let m = c.args.a.now in
     let new : Machine g.row.W.Denot = record { start = c.start.result; states = c.loop-state.states } in
     let h = sort_ends c.args.side m new c.loop-state.state (omega (arith, c.states-state-end.ensures.value)) (omega (arith, c.states-state-end.ensures.value)) c.start.ensures.value c.loop-state.invariant in
