@@ -23,6 +23,3 @@ mod summaries;
 mod top;
 
 pub use top::run;
-
-#[cfg(test)]
-mod tests;
