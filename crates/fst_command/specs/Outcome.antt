@@ -109,7 +109,8 @@ Answers None old new (refused cause) = ⊥
 Answers None old new no_memory = new ≡ old
 Answers None old new (unread name) = ⊥
 Answers None old new (unwritten name) = ⊥
-Answers (Some plan) old new done = (outputs : List Output) × Prescribes plan old.told outputs × Leaves outputs old.told new.told × Calls (length (inputs_of plan)) (length outputs) old new
+Answers (Some plan) old new done =
+    (outputs : List Output) × Prescribes plan old.told outputs × Leaves outputs old.told new.told × Calls (length (inputs_of plan)) (length outputs) old new
 Answers (Some plan) old new usage = ⊥
 Answers (Some plan) old new (refused cause) = Refuses plan old.told cause × TakesMore cause new.taken × (new.told ≡ old.told) × OnlyFetches plan old new
 Answers (Some plan) old new no_memory = ((new.told ≡ old.told) × OnlyFetches plan old new) ⊎ IsStarved plan old new
@@ -137,7 +138,7 @@ pub record Runs (words : List (List ℕ)) (old new : Seen) (status : ℕ) : Type
   pub shows : ShowsLine (line_of answer) old.showing new.showing
 
 -- Words of the stated form, contents that are told and of which no question finds a cause, and a run in
--- which no name was missed and no write failed: the status is that of Ok, or of want of memory.
+-- which no name was missed and no write failed: the status is that of Ok, or of out of memory.
 abbrev pub Completes : List (List ℕ) → Seen → Seen → ℕ → Type 0
 Completes words old new status =
     (plan : Plan) (files : Files) (contents : List (List ℕ)) → plan_of words ≡ Some plan → old.filed.told ≡ Some files →

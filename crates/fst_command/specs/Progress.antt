@@ -39,7 +39,7 @@ choices_with o isymbols osymbols = record {
 abbrev pub renaming_in : OptionFiles → Renaming
 renaming_in files = record { input = files.input_pairs; output = files.output_pairs }
 
--- what these contents of the files of the options stand for, whatever is read behind them
+-- what these contents of the files of the options stand for, whatever is read after them
 pub record Chosen (options : Options) (contents : List (List ℕ)) (files : OptionFiles) : Type 0 where
   pub choices : (rest : List (List ℕ)) → choices_of options (contents ++ rest) ≡ choices_with options files.isymbols files.osymbols
   pub renaming : (rest : List (List ℕ)) → renaming_of options (contents ++ rest) ≡ renaming_in files

@@ -139,14 +139,15 @@ IsOfForm (undecodable fault) = Unit {0}
 IsOfForm (uncomposed fault) = Unit {0}
 IsOfForm (unprintable fault) = Unit {0}
 
--- the refusal tells want of memory, or the first cause that the questions find
+-- the refusal tells out of memory, or the first cause that the questions find
 abbrev pub Declines : List Check → Refusal → Type 0
 Declines checks refusal = Tells no_memory refusal ⊎ ((cause : Cause) × IsFirst checks cause × IsOfForm cause × Tells (refused cause) refusal)
 
 -- what the file of an option stands for, or why nothing
 abbrev pub FileAnswer : {X : Type 0} → (List ℕ → List ℕ → Check) → (List ℕ → Option X) → List ℕ → Seen → Seen → Result X Refusal → Type 0
 FileAnswer check read name old new (Ok x) = (content : List ℕ) × Reads name old new (Ok content) × (read content ≡ Some x)
-FileAnswer check read name old new (Err refusal) = Reads name old new (Err refusal) ⊎ ((content : List ℕ) × Reads name old new (Ok content) × Declines (check name content ∷ []) refusal)
+FileAnswer check read name old new (Err refusal) =
+    Reads name old new (Err refusal) ⊎ ((content : List ℕ) × Reads name old new (Ok content) × Declines (check name content ∷ []) refusal)
 
 -- reading the file of an option: without the option this value stands in its place, and nothing is done
 abbrev pub ReadsOption : {X : Type 0} → (List ℕ → List ℕ → Check) → (List ℕ → Option X) → X → Option (List ℕ) → Seen → Seen → Result X Refusal → Type 0
@@ -163,11 +164,13 @@ Settles checks makes (Err refusal) = Declines checks refusal
 -- What a command makes of the content of its last input, where these contents were read before, for its one
 -- output.
 abbrev pub Decides : Plan → List (List ℕ) → Input → List ℕ → Result (List ℕ) Refusal → Type 0
-Decides plan before i content result = Settles (form_check plan before i content ∷ later_checks plan (before ++ content ∷ [])) (Makes plan (before ++ content ∷ [])) result
+Decides plan before i content result =
+    Settles (form_check plan before i content ∷ later_checks plan (before ++ content ∷ [])) (Makes plan (before ++ content ∷ [])) result
 
 -- the same for all its outputs
 abbrev pub DecidesOn : Plan → List (List ℕ) → Input → List ℕ → List (List ℕ) → Type 0
-DecidesOn plan before i content made = AllPass (form_check plan before i content ∷ later_checks plan (before ++ content ∷ [])) × Makes plan (before ++ content ∷ []) made
+DecidesOn plan before i content made =
+    AllPass (form_check plan before i content ∷ later_checks plan (before ++ content ∷ [])) × Makes plan (before ++ content ∷ []) made
 
 -- the answer of a command that ended so
 abbrev pub Ends : Answer → Result Unit Refusal → Type 0
@@ -197,7 +200,8 @@ DescribesTo name content result = Settles (binary_check name content ∷ kinds_c
 
 -- the binary form of the machine that is made of the machine of a file, or why there is none
 abbrev pub OperatesTo : Verb → Options → Renaming → List ℕ → List ℕ → Result (List ℕ) Refusal → Type 0
-OperatesTo verb options renaming name content result = Settles (binary_check name content ∷ operation_checks verb options (content ∷ [])) (Operated verb options renaming (content ∷ [])) result
+OperatesTo verb options renaming name content result =
+    Settles (binary_check name content ∷ operation_checks verb options (content ∷ [])) (Operated verb options renaming (content ∷ [])) result
 
 -- that of the machine that is made of the machines of two files, which were read
 abbrev pub JoinsTo : Verb → Options → Renaming → List (List ℕ) → Result (List ℕ) Refusal → Type 0
@@ -241,4 +245,5 @@ EncodesTo weights name content (Err refusal) = Declines (binary_check name conte
 -- the binary form of the machine that the machine of a file and the codex of a second file, which has this name,
 -- stand for, or why there is none
 abbrev pub DecodesTo : List ℕ → List ℕ → List ℕ → Result (List ℕ) Refusal → Type 0
-DecodesTo file name codex result = Settles (codex_check name codex ∷ codex_kind_check file codex ∷ decode_check file codex ∷ []) (Decoded (file ∷ codex ∷ [])) result
+DecodesTo file name codex result =
+    Settles (codex_check name codex ∷ codex_kind_check file codex ∷ decode_check file codex ∷ []) (Decoded (file ∷ codex ∷ [])) result

@@ -25,7 +25,7 @@ pub enum Refusal {
 }
 
 impl Refusal {
-    /// Whether it is want of memory.
+    /// Whether it is out of memory.
     pub fn is_memory(&self) -> bool
         ensures { IsTrue result ↔ (self.now ≡ Refusal.Memory) }
     {
@@ -55,7 +55,7 @@ impl Refusal {
     }
 }
 
-/// The refusal with a line, or want of memory where there was none for the line.
+/// The refusal with a line, or out of memory where there was none for the line.
 fn made(status: u8, line: Result<String, AllocError>) -> Refusal
     ensures { MakesLine status line result }
 {
