@@ -24,6 +24,3 @@ pub use options::Options;
 pub use plan::Plan;
 pub use read::read_words;
 pub use verb::Verb;
-
-#[cfg(test)]
-mod tests;

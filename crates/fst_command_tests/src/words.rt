@@ -1,7 +1,7 @@
 //! Words and what they ask for. Each answer was written down from the rules, and not from the program.
 
-use crate::{Name, Options, Plan, WordsFault, read_words};
 use fst_semiring::ArcType;
+use fst_words::{Name, Options, Plan, WordsFault, read_words};
 use std::alloc::{AllocError, Global};
 use std::process::Abort;
 use std::test::Fail;

@@ -16,4 +16,4 @@ mod products;
 #[cfg(test)]
 mod relation;
 #[cfg(test)]
-mod tests;
+mod comparisons;

@@ -1,0 +1,23 @@
+//! Tests of the commands: the words of a command line, and what `run` reads, writes and shows for them.
+//!
+//! The crate has nothing but tests, and no other crate stands on it. A test is a table of rows, which [`session`]
+//! plays over a desk in memory: files that are put, words that are run, and what then stands and is shown. The
+//! expected bytes were written out by hand from the forms and the constructions.
+#![tactic(auto)]
+
+#[cfg(test)]
+mod codices;
+#[cfg(test)]
+mod composition;
+#[cfg(test)]
+mod faults;
+#[cfg(test)]
+mod forms;
+#[cfg(test)]
+mod operations;
+#[cfg(test)]
+mod replacement;
+#[cfg(test)]
+mod session;
+#[cfg(test)]
+mod words;
