@@ -12,7 +12,9 @@ name_of verb = (form_of verb).name
 
 -- the commands
 abbrev pub all_verbs : List Verb
-all_verbs = Compile ∷ Print ∷ Info ∷ Invert ∷ Reverse ∷ Connect ∷ Union ∷ Concat ∷ Closure ∷ Project ∷ Replace ∷ Relabel ∷ Arcsort ∷ Compose ∷ Rmepsilon ∷ Shortestdistance ∷ Shortestpath ∷ Push ∷ Encode ∷ Determinize ∷ Minimize ∷ Batch ∷ Make ∷ []
+all_verbs =
+    Compile ∷ Print ∷ Info ∷ Invert ∷ Reverse ∷ Connect ∷ Union ∷ Concat ∷ Closure ∷ Project ∷ Replace ∷ Relabel ∷ Arcsort ∷ Compose ∷ Rmepsilon
+    ∷ Shortestdistance ∷ Shortestpath ∷ Push ∷ Encode ∷ Determinize ∷ Minimize ∷ Batch ∷ Make ∷ []
 
 -- the command that has this name
 unfoldable pub verb_named : List ℕ → Option Verb
