@@ -1,0 +1,71 @@
+//! A walk whose names can be moved and not copied.
+
+ghost use Rattle.std.specs.Prelude.{[], Some};
+ghost use Rattle.std.proofs.lemmas.Bool.Decides.{Decides-eqb};
+
+use crate::{NameArc, Names, Room, walk};
+use fst_semiring::{Tropical, Weight};
+use std::alloc::AllocError;
+use std::marker::Model;
+use std::test::Fail;
+
+/// A name that can be moved and not copied.
+#[derive(PartialEq, Eq, Hash, Drop)]
+struct Mark {
+    place: u32,
+}
+
+impl Model for Mark {
+    ghost use Rattle.std.specs.Prelude.{ℕ};
+
+    ghost Value = { ℕ };
+
+    ghost view = { λ m. m.place };
+
+    ghost inverse = { λ n. record { place = n } };
+}
+
+/// The graph of one name without arcs.
+struct Lone;
+
+impl Names<Tropical> for Lone {
+    ghost use Rattle.std.specs.Prelude.{[], Some};
+    ghost use Rattle.fst_semiring.specs.Cost.{infinite};
+
+    type Key = Mark;
+
+    ghost graph = { λ s. record { start = Some 7; arcs = λ n. []; final = λ n. infinite } };
+
+    ghost holds = { λ s. Unit {0} };
+
+    fn start(&self) -> Option<Mark> {
+        Some(Mark { place: 7 })
+    }
+
+    fn put_arcs(
+        &self,
+        _out: &mut Vec<NameArc<Mark, Tropical>>,
+        _key: &Mark,
+    ) -> Result<(), AllocError> {
+        Ok(())
+    }
+
+    fn final_weight(&self, _key: &Mark) -> <Tropical as Weight>::Wide {
+        Tropical::zero().widen()
+    }
+
+    ghost same = { λ a b. Decides-eqb a b };
+
+    ghost good = { λ s h n near k a e. absurd (Prim.cc) };
+}
+
+#[test]
+fn moves_its_names(rt: HostRuntime) -> Result<(), Fail> {
+    let room = Room { states: 1, arcs: 0 };
+    let walked = walk::<Tropical, Lone>(rt.alloc(), &Lone, room, 1)?;
+    let made = walked.expect(&rt, "a machine");
+    assert!(rt; made.fst.states() == 1 && made.fst.start() == Some(0));
+    assert!(rt; made.names.len() == 1);
+    assert!(rt; made.names.item(0).place == 7);
+    Ok(())
+}
