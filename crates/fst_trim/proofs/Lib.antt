@@ -8,6 +8,7 @@ pub mod Trimming
 pub mod Epsilons
 pub mod OneToOne
 pub mod KeptPaths
+pub mod Sought
 pub mod Ranks
 pub mod Rearranged
 pub mod Valued

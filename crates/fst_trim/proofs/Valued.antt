@@ -13,6 +13,7 @@ use Rattle.fst_machine.specs.Machine.{Arc, State, Machine, arc_total, valued, va
 use Rattle.fst_machine.specs.Graph.{graph_of}
 use Rattle.fst_machine.specs.Cycles.{IsAccessible, IsCoaccessible, IsUseful}
 use Rattle.fst_machine.proofs.Arcs.{mapped_some, mapped_at, at_mapped}
+use Rattle.fst_machine.proofs.Valued.{arc_total-valued}
 use Rattle.fst_trim.specs.declared.side.Side.{Side}
 use Rattle.fst_trim.specs.declared.side.Side.TheVariants.{Input, Output}
 use Rattle.fst_trim.specs.declared.summary.Info.{Info}
@@ -165,7 +166,7 @@ module _ {V : Type 0} (value : V → Cost) where
 
   -- as many arcs
   total_valued : (m : Machine V) → arc_total (valued value m).states ≡ arc_total m.states
-  total_valued m = sum_valued (λ s. length s.arcs) (λ s. length s.arcs) (λ s. length-map s.arcs (valued_arc value)) m.states
+  total_valued m = arc_total-valued value m.states
 
   -- and as many that pass a test
   arcs_with_valued : (p : Arc Cost ℕ → Bool) (m : Machine V) → arcs_with p (valued value m) ≡ arcs_with (λ a. p (valued_arc value a)) m

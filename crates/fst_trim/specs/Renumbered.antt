@@ -24,7 +24,10 @@ kept_arcs marks numbers (a ∷ arcs) = cond (get_or marks a.next false) (renumbe
 -- the marked states among these, of which the first has this number
 abbrev pub kept_states : {V : Type 0} → List Bool → List ℕ → ℕ → List (State V) → List (State V)
 kept_states marks numbers at [] = []
-kept_states marks numbers at (s ∷ states) = cond (get_or marks at false) (record { final = s.final; arcs = kept_arcs marks numbers s.arcs } ∷ kept_states marks numbers (at + 1) states) (kept_states marks numbers (at + 1) states)
+kept_states marks numbers at (s ∷ states) =
+    cond (get_or marks at false)
+    (record { final = s.final; arcs = kept_arcs marks numbers s.arcs } ∷ kept_states marks numbers (at + 1) states)
+    (kept_states marks numbers (at + 1) states)
 
 -- the new number of the start, where it is marked
 abbrev pub new_start : List Bool → List ℕ → Option ℕ → Option ℕ

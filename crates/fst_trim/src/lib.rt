@@ -5,6 +5,7 @@
 #![tactic(auto)]
 
 mod as_machine;
+mod before;
 mod connected;
 mod describing;
 mod first_arc;
