@@ -176,3 +176,19 @@ fn has_no_states_without_a_start(rt: HostRuntime) -> Result<(), Fail> {
     assert!(rt; made.fst.states() == 0 && made.fst.start().is_none() && made.names.len() == 0);
     Ok(())
 }
+
+#[test]
+fn makes_as_many_names_as_the_limit(rt: HostRuntime) -> Result<(), Fail> {
+    let alloc = rt.alloc();
+    let mut links = Vec::new(alloc);
+    for state in 0..6000 {
+        links.push((state, state + 1, 1, 1, 0))?;
+    }
+    let a = machine(&rt, alloc, 6001, links.as_slice(), &[6000])?;
+    let b = machine(&rt, alloc, 1, &[(0, 0, 1, 1, 0)], &[0])?;
+    let made = compose(alloc, &a, &b, 6001).expect(&rt, "a composition");
+    assert!(rt; same(&rt, &made.fst, &a));
+    assert!(rt; made.names.len() == 6001);
+    assert!(rt; refusal(alloc, &a, &b, 6000) == Some(ComposeFault::StateLimit { limit: 6000 }));
+    Ok(())
+}

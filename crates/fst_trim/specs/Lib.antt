@@ -4,6 +4,7 @@ pub mod Sources
 pub mod Finals
 pub mod Renumbered
 pub mod Counted
+pub mod OneToOne
+pub mod KeptPaths
 pub mod Sorting
-pub mod Beside
 pub mod Targets

@@ -1,6 +1,6 @@
 //! The machine with its useful states alone.
 
-ghost use Rattle.std.specs.Prelude.{◌≡◌, ◌<◌, ◌≤◌, ◌↔◌, ◌++◌, ℕ, All, [], false, length, get_or, slice_get, List, Some, IfSome, IfOk, OnOk};
+ghost use Rattle.std.specs.Prelude.{◌≡◌, ◌<◌, ◌≤◌, ◌↔◌, ◌++◌, ℕ, All, [], false, length, get_or, List, IfSome, IfOk, OnOk};
 ghost use Rattle.std.specs.Bool.{Decides};
 ghost use Rattle.fst_semiring.specs.Cost.{Cost};
 ghost use Rattle.fst_machine.specs.Connected.{IsConnected, IsTrim};
@@ -8,7 +8,7 @@ ghost use Rattle.fst_machine.specs.Cycles.{IsUseful};
 ghost use Rattle.fst_machine.specs.Graph.{graph_of};
 ghost use Rattle.fst_machine.specs.Machine.{IsMachine, valued};
 ghost use Rattle.fst_machine.specs.Relation.{Rel};
-ghost use Rattle.fst_trim.specs.Beside.{SamePaths};
+ghost use Rattle.fst_trim.specs.KeptPaths.{KeepsPaths};
 ghost use Rattle.fst_trim.specs.Renumbered.{IsNumbering, kept_arcs, kept_machine, kept_states, marked, new_start};
 
 use crate::useful::useful;
@@ -30,7 +30,7 @@ fn numbers_of(alloc: Global, marks: &[bool]) -> Result<Vec<u32>, AllocError>
     Ok(numbers)
 }
 
-/// Puts behind the others those arcs that lead to marked states, by the numbers of these.
+/// Puts after the others those arcs that lead to marked states, by the numbers of these.
 fn keep_arcs<W: Copy>(
     kept: &mut Vec<FstArc<W>>,
     arcs: &[FstArc<W>],
@@ -99,13 +99,13 @@ fn number_of_start(start: Option<u32>, marks: &[bool], numbers: &[u32]) -> Optio
 /// them in order. The start stays where it is one of them; where no state stays, there is no start. (OpenFst
 /// manual, "Connect".)
 ///
-/// The successful paths are those of `a`, up to the numbers of the states and the places of the arcs, so both
-/// relate the same.
+/// The successful paths are those of `a`, one to one, up to the numbers of the states and the places of the arcs, so
+/// both relate the same.
 ///
 /// Time and space: linear in the states and the arcs, on any depth of the machine.
 pub fn connect<W: Weight>(alloc: Global, a: &Fst<W>) -> Result<Fst<W>, AllocError>
     ensures machine { IfOk result (λ c. IsConnected (valued W.value a.now) (valued W.value c)) }
-    ensures paths { IfOk result (λ c. (h : IsConnected (valued W.value a.now) (valued W.value c)) → SamePaths W.KIND (λ p i. slice_get h.kept i ≡ Some p) (graph_of (valued W.value a.now)) (graph_of (valued W.value c))) }
+    ensures paths { IfOk result (λ c. (h : IsConnected (valued W.value a.now) (valued W.value c)) → KeepsPaths W.KIND (valued W.value a.now) (valued W.value c) h.kept) }
     ensures relation { IfOk result (λ c. (x y : List ℕ) (w : Cost) → Rel W.KIND (graph_of (valued W.value a.now)) x y w ↔ Rel W.KIND (graph_of (valued W.value c)) x y w) }
 {
     let _states = a.states();

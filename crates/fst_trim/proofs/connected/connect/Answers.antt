@@ -1,9 +1,8 @@
-use Rattle.std.proofs.Common.{◌≡◌, ℕ, Some, slice_get, sym, subst}
+use Rattle.std.proofs.Common.{◌≡◌, ℕ, sym, subst}
 use Rattle.fst_machine.specs.Machine.{Machine, valued}
-use Rattle.fst_machine.specs.Graph.{graph_of}
 use Rattle.fst_machine.specs.Connected.{IsConnected}
-use Rattle.fst_machine.proofs.Connected.{connected-Rel, connected_serves, machine_serves}
-use Rattle.fst_trim.proofs.Alongside.{same_paths}
+use Rattle.fst_machine.proofs.Connected.{connected-Rel}
+use Rattle.fst_trim.proofs.KeptPaths.{connected_keeps}
 use Rattle.fst_trim.proofs.Trimming.{finished}
 use Rattle.fst_trim.proofs.connected.connect.Goals as goal
 
@@ -23,4 +22,4 @@ returns-clause-relation g c x y w =
     connected-Rel (valued g.W.Weight.value c.args.a.now) (valued g.W.Weight.value c.into_machine.result) connected g.W.Weight.KIND x y w
 
 pub returns-clause-paths : goal.returns-clause-paths
-returns-clause-paths g c h = same_paths (λ (p i : ℕ). slice_get h.kept i ≡ Some p) (graph_of (valued g.W.Weight.value c.args.a.now)) (graph_of (valued g.W.Weight.value c.into_machine.result)) (connected_serves (valued g.W.Weight.value c.args.a.now) (valued g.W.Weight.value c.into_machine.result) h) (machine_serves (valued g.W.Weight.value c.args.a.now) (valued g.W.Weight.value c.into_machine.result) h) g.W.Weight.KIND
+returns-clause-paths g c h = connected_keeps (valued g.W.Weight.value c.args.a.now) (valued g.W.Weight.value c.into_machine.result) h g.W.Weight.KIND
