@@ -3,21 +3,14 @@ use Rattle.std.proofs.Common.{◌≡◌, ℕ, suc, ◌-◌, ◌+◌, ◌≤◌, 
 use Rattle.std.proofs.lemmas.List.{append-nil, length-append}
 use Rattle.fst_semiring.specs.declared.arc_type.ArcType.{ArcType}
 use Rattle.fst_semiring.specs.Cost.{Cost}
-use Rattle.fst_binary.specs.Reading.{◌>>=◌}
-use Rattle.fst_binary.specs.Spelling.{word}
-use Rattle.fst_binary.proofs.Lengths.{length-word}
-use Rattle.fst_codex.specs.declared.fault.CodexFault.{CodexFault}
+use Rattle.fst_fields.specs.Reading.{◌>>=◌}
+use Rattle.fst_bytes.specs.Spelling.{word}
+use Rattle.fst_bytes.proofs.Lengths.{length-word}
+use Rattle.fst_codex.specs.Reading.{CodexFault, entries_at, entry_at}
 use Rattle.fst_codex.specs.Spelling.{entry_fields, weight_part}
-use Rattle.fst_codex.specs.Reading.{entries_at, entry_at}
+use Rattle.fst_bytes.specs.Reading.{with_front}
+use Rattle.fst_bytes.proofs.Loops.{front_ends, front_grows}
 use Rattle.fst_codex.specs.Table.{Entry}
-
--- what was read before, and what is still read
-abbrev pub with_front : {X : Type 0} → List X → Result (List X × ℕ) CodexFault → Result (List X × ℕ) CodexFault
-with_front front read = read >>= λ x. Ok (front ++ x.0, x.1)
-
-regroup : {X : Type 0} (front : List X) (x : X) (read : Result (List X × ℕ) CodexFault) → with_front front (read >>= λ y. Ok (x ∷ y.0, y.1)) ≡ with_front (front ++ x ∷ []) read
-regroup {X} front x (Ok y) = ap (λ (xs : List X). Ok (xs, y.1)) (simp append_assoc)
-regroup front x (Err f) = refl
 
 -- an entry more is read
 pub entries_go_on : (kind : ArcType) (weights : Bool) (front : List (Entry Cost)) (count i : ℕ) (bytes : List ℕ) (at : ℕ) (entry : Entry Cost) (after : ℕ) (total : Result (List (Entry Cost) × ℕ) CodexFault) → i < count → entry_at kind weights bytes at ≡ Ok (entry, after)
@@ -25,7 +18,7 @@ pub entries_go_on : (kind : ArcType) (weights : Bool) (front : List (Entry Cost)
 unfolding entries_at
 entries_go_on kind weights front count i bytes at entry after total more h so_far =
     let k : count - i ≡ suc (count - (i + 1)) = omega arith in
-    let one : with_front front (entries_at kind weights (count - i) bytes at) ≡ with_front (front ++ entry ∷ []) (entries_at kind weights (count - (i + 1)) bytes after) = rw (k, h) (regroup front entry (entries_at kind weights (count - (i + 1)) bytes after)) in
+    let one : with_front front (entries_at kind weights (count - i) bytes at) ≡ with_front (front ++ entry ∷ []) (entries_at kind weights (count - (i + 1)) bytes after) = rw (k, h) (front_grows front entry (entries_at kind weights (count - (i + 1)) bytes after)) in
     sym one ∙ so_far
 
 -- the fault of an entry is the fault of all
@@ -42,7 +35,7 @@ pub entries_are_read : (kind : ArcType) (weights : Bool) (front : List (Entry Co
 unfolding entries_at
 entries_are_read kind weights front count i bytes at total none so_far =
     let k : count - i ≡ 0 = omega arith in
-    let one : with_front front (entries_at kind weights (count - i) bytes at) ≡ Ok (front, at) = rw k (ap (λ (entries : List (Entry Cost)). Ok (entries, at)) (append-nil front)) in
+    let one : with_front front (entries_at kind weights (count - i) bytes at) ≡ Ok (front, at) = rw k (front_ends front at) in
     sym so_far ∙ one
 
 -- ---- how long an entry is

@@ -1,8 +1,8 @@
-use Rattle.std.proofs.Common.{List, ◌≡◌, ◌++◌, ◌∷◌, [], All, map, inr, sym, subst, arith}
+use Rattle.std.proofs.Common.{List, ◌≡◌, ◌++◌, ◌∷◌, [], All, map, sym, subst, arith}
 use Rattle.std.proofs.lemmas.Result.{err_from_is_err_and}
 use Rattle.std.proofs.lemmas.List.{map_push}
 use Rattle.std.proofs.lemmas.List.Elements.{All-push}
-use Rattle.fst_binary.proofs.Lengths.{length_push}
+use Rattle.fst_bytes.proofs.Lengths.{length_push}
 use Rattle.fst_codex.specs.Reading.{entries_at}
 use Rattle.fst_codex.specs.Table.{Entry, IsEntry, valued_entry}
 use Rattle.fst_codex.proofs.EntryLoops.{entries_go_on, entries_end, entries_are_read}
@@ -11,7 +11,7 @@ use Rattle.fst_codex.proofs.reading.read_entries.Goals as goal
 pub returns-in_err-entry-clause-value : goal.returns-in_err-entry-clause-value
 returns-in_err-entry-clause-value g c =
     let p = err_from_is_err_and c.from_residual-in_err-entry.result c.from_residual-in_err-entry.ensures.1 in
-    rw (p.1, p.2) (inr (entries_end g.W.Weight.KIND c.args.weights (map (valued_entry g.W.Weight.value) c.loop.entries.items) c.args.count c.loop.counter c.args.bytes.now c.loop.behind c.in_err-entry.field-0.0 (entries_at g.W.Weight.KIND c.args.weights c.args.count c.args.bytes.now c.args.at) c.loop-test.true (sym c.in_err-entry.ensures.value) c.loop.invariant.so_far))
+    rw (p.1, p.2) (entries_end g.W.Weight.KIND c.args.weights (map (valued_entry g.W.Weight.value) c.loop.entries.items) c.args.count c.loop.counter c.args.bytes.now c.loop.behind c.in_err-entry.field-0.0 (entries_at g.W.Weight.KIND c.args.weights c.args.count c.args.bytes.now c.args.at) c.loop-test.true (sym c.in_err-entry.ensures.value) c.loop.invariant.so_far)
 
 pub loop-preserved : goal.loop-preserved
 loop-preserved g c =

@@ -1,9 +1,9 @@
 use Rattle.std.proofs.Common.{◌≡◌, sym, ap, ◌∙◌, arith}
 use Rattle.fst_semiring.specs.declared.key.Key.{Key}
 use Rattle.fst_semiring.specs.Cost.{class_of}
-use Rattle.fst_binary.specs.Reading.{number_count}
-use Rattle.fst_binary.proofs.Lengths.{length-by_class}
-use Rattle.fst_binary.proofs.weight_field.weight_length.Goals as goal
+use Rattle.fst_bytes.specs.Reading.{number_count}
+use Rattle.fst_bytes.proofs.Lengths.{length-by_class}
+use Rattle.fst_bytes.proofs.weight_field.weight_length.Goals as goal
 
 pub returns-then-key-eq1-clause-value : goal.returns-then-key-eq1-clause-value
 returns-then-key-eq1-clause-value g c =

@@ -1,7 +1,7 @@
 use Rattle.std.proofs.Common.{◌∷◌, [], ap, arith}
-use Rattle.fst_binary.specs.Reading.{number_count}
-use Rattle.fst_binary.proofs.Lengths.{length-numbers, longer, longer_by_signed, one_number}
-use Rattle.fst_binary.proofs.weight_field.append_numbers.Goals as goal
+use Rattle.fst_bytes.specs.Reading.{number_count}
+use Rattle.fst_bytes.proofs.Lengths.{length-numbers, longer, longer_by_signed, one_number}
+use Rattle.fst_bytes.proofs.weight_field.append_numbers.Goals as goal
 
 pub append_signed-requires : goal.append_signed-requires
 append_signed-requires c =

@@ -1,8 +1,8 @@
 use Rattle.std.proofs.Common.{◌≡◌, true, ap, sym, ◌∙◌}
 use Rattle.fst_semiring.specs.Cost.{best}
-use Rattle.fst_binary.specs.Reading.{has_best}
-use Rattle.fst_binary.proofs.Weights.{found_by_key, best_has_field}
-use Rattle.fst_binary.proofs.weight_field.best_weight.Goals as goal
+use Rattle.fst_bytes.specs.Reading.{has_best}
+use Rattle.fst_bytes.proofs.Weights.{found_by_key, best_has_field}
+use Rattle.fst_bytes.proofs.weight_field.best_weight.Goals as goal
 
 pub returns : goal.returns
 returns g c =

@@ -2,7 +2,7 @@
 use Rattle.std.proofs.Common.{◌≡◌, ℕ, ◌+◌, ◌-◌, ◌<◌, ◌≤◌, Bool, true, false, cond, List, [], ◌++◌, length, get_or, take, drop, Result, Ok, Err, refl, sym, ap, ◌∙◌, append_assoc, arith, inl, inr}
 use Rattle.std.proofs.lemmas.Bool.{cases_lt}
 use Rattle.std.proofs.lemmas.List.{drop-drop, drop_at, take-append-drop, length-append, length-drop, length-take, get_or-drop, get_or-take, get_or_past, append-nil, drop_all}
-use Rattle.fst_binary.specs.Reading.{◌>>=◌}
+use Rattle.fst_fields.specs.Reading.{◌>>=◌}
 
 abbrev pub IsBytes : List ℕ → Type 0
 IsBytes bytes = (i : ℕ) → get_or bytes i 0 < 256
@@ -69,7 +69,7 @@ pub record Reads {X E : Type 0} (bytes : List ℕ) (read : Result (X × ℕ) E) 
   pub left : drop next bytes ≡ rest
   pub within : next ≤ length bytes
 
--- the bytes behind what stands at an offset
+-- the bytes after what stands at an offset
 pub past : (bytes : List ℕ) (at : ℕ) (x rest : List ℕ) (n : ℕ) → length x ≡ n → drop at bytes ≡ x ++ rest → drop (at + n) bytes ≡ rest
 past bytes at x rest n len e = sym (drop-drop n at bytes) ∙ ap (drop n) e ∙ drop_at x rest n len
 
@@ -79,6 +79,6 @@ ends_within bytes at x rest within e =
     let n : length bytes - at ≡ length x + length rest = sym (length-drop at bytes) ∙ ap length e ∙ length-append x rest in
     omega (arith, n, within)
 
--- one step behind the other
+-- one step after the other
 pub Reads-then : {X Y E : Type 0} (bytes : List ℕ) (read : Result (X × ℕ) E) (x : X) (mid : List ℕ) (f : X × ℕ → Result (Y × ℕ) E) (y : Y) (rest : List ℕ) → (r : Reads bytes read x mid) → Reads bytes (f (x, r.next)) y rest → Reads bytes (read >>= f) y rest
 Reads-then bytes read x mid f y rest r s = record { next = s.next; gives = rw r.gives s.gives; left = s.left; within = s.within }

@@ -12,8 +12,8 @@ use Rattle.fst_semiring.specs.declared.key.Key.{Key}
 use Rattle.fst_semiring.specs.Cost.{Cost, best, finite, infinite}
 use Rattle.fst_semiring.specs.Semiring.{IsCost, InRange, IsSmall}
 use Rattle.fst_semiring.specs.Keys.{key_of}
-use Rattle.fst_binary.specs.Spelling.{HasField}
-use Rattle.fst_binary.specs.Reading.{cost_of_numbers, has_best, integers_at, integer_at, is_small, number_count, numbers_at}
+use Rattle.fst_bytes.specs.Spelling.{HasField}
+use Rattle.fst_bytes.specs.Reading.{cost_of_numbers, has_best, integers_at, integer_at, is_small, number_count, numbers_at}
 
 -- values with one key are one value
 pub key_apart : (v w : Cost) → key_of v ≡ key_of w → v ≡ w

@@ -3,8 +3,8 @@ use Rattle.std.specs.Int.{cast_signed}
 use Rattle.std.proofs.lemmas.Int.{to_z-of_z}
 use Rattle.std.proofs.lemmas.List.{take_all, length-drop}
 use Rattle.byteorder.specs.Endian.{little_number}
-use Rattle.fst_binary.specs.Reading.{integer_at}
-use Rattle.fst_binary.proofs.weight_field.read_integer.Goals as goal
+use Rattle.fst_bytes.specs.Reading.{integer_at}
+use Rattle.fst_bytes.proofs.weight_field.read_integer.Goals as goal
 
 pub returns : goal.returns
 unfolding integer_at

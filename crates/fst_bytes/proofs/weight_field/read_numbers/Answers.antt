@@ -1,8 +1,8 @@
 use Rattle.std.proofs.Common.{sym, ◌∙◌, arith}
-use Rattle.fst_binary.specs.Spelling.{HasField}
-use Rattle.fst_binary.specs.Reading.{cost_of_numbers, integers_at, number_count}
-use Rattle.fst_binary.proofs.Weights.{key_apart, numbers_have_field, numbers_are_read}
-use Rattle.fst_binary.proofs.weight_field.read_numbers.Goals as goal
+use Rattle.fst_bytes.specs.Spelling.{HasField}
+use Rattle.fst_bytes.specs.Reading.{cost_of_numbers, integers_at, number_count}
+use Rattle.fst_bytes.proofs.Weights.{key_apart, numbers_have_field, numbers_are_read}
+use Rattle.fst_bytes.proofs.weight_field.read_numbers.Goals as goal
 
 pub returns-in-Some-clause-value : goal.returns-in-Some-clause-value
 returns-in-Some-clause-value g c =

@@ -1,18 +1,18 @@
-//! Weight fields: a tag and the numbers behind it.
+//! Weight fields: a tag and the numbers after it.
 
-ghost use Rattle.std.specs.Prelude.{◌≡◌, ◌≤◌, ◌++◌, ◌+◌, ◌*◌, ◌&&◌, length, drop, ℕ, List, IsOkAnd, Some, None, vec_capacity, IfOk, OnOk, OnErr, if◌then◌else◌};
+ghost use Rattle.std.specs.Prelude.{◌≡◌, ◌≢◌, ◌≤◌, ◌++◌, ◌+◌, ◌*◌, ◌&&◌, length, drop, ℕ, List, IsOkAnd, Some, None, vec_capacity, IfOk, OnOk, OnErr, if◌then◌else◌};
 ghost use Rattle.std.specs.Option.{option_map};
 ghost use Rattle.std.specs.List.{list_all};
 ghost use Rattle.std.specs.Result.{result_map_both};
-ghost use Rattle.fst_semiring.specs.Cost.{Cost, best, finite};
+ghost use Rattle.fst_semiring.specs.Cost.{Cost, best, finite, infinite};
 ghost use Rattle.fst_semiring.specs.Keys.{key_of};
-ghost use Rattle.fst_binary.specs.Spelling.{HasField, weight_field};
-ghost use Rattle.fst_binary.specs.Reading.{cost_of_numbers, has_best, integer_at, integers_at, is_small, number_count, numbers_at, weight_at};
+ghost use Rattle.fst_bytes.specs.Spelling.{HasField, weight_field};
+ghost use Rattle.fst_bytes.specs.Reading.{cost_of_numbers, file_weight_at, has_best, integer_at, integers_at, is_small, non_zero_weight_at, number_count, numbers_at, weight_at};
 
-use crate::append::{append, append_signed};
-use crate::fault::WeightFieldFault;
+use crate::appending::{append, append_signed};
+use crate::fault::{FileFault, WeightFieldFault, fault_at, short_of};
 use byteorder::{ByteOrder, LittleEndian};
-use fst_semiring::{ArcType, Key, LIMIT, Weight};
+use fst_semiring::{ArcType, Key, LIMIT, Weight, is_zero};
 use std::alloc::AllocError;
 
 /// Whether a number may stand in a weight.
@@ -29,8 +29,8 @@ fn is_key_in_range(key: Key) -> bool
     is_in_range(key.first) && is_in_range(key.second)
 }
 
-/// How many numbers stand behind the tag 1.
-pub(crate) fn count_of_numbers(kind: ArcType) -> usize
+/// How many numbers stand after the tag 1.
+pub fn count_of_numbers(kind: ArcType) -> usize
     ensures { result ≡ number_count kind }
 {
     match kind {
@@ -59,7 +59,7 @@ fn read_integer(bytes: &[u8], at: usize) -> i64
     LittleEndian::read_i64(&bytes[at..])
 }
 
-/// The key with the numbers behind the tag 1; 0 for those that the arc type does not have.
+/// The key with the numbers after the tag 1; 0 for those that the arc type does not have.
 fn read_key(kind: ArcType, bytes: &[u8], at: usize) -> Key
     requires { at + 8 * number_count kind ≤ length bytes.now }
     ensures key { result ≡ key_of (cost_of_numbers (integers_at (number_count kind) bytes.now at)) }
@@ -86,12 +86,12 @@ fn key_of_numbers(first: i64, second: i64) -> Key
     }
 }
 
-/// The weight with the numbers behind the tag 1, and the offset behind them.
+/// The weight with the numbers after the tag 1, and the offset after them.
 #[tactic(auto, unfolding(crate::specs::Reading::numbers_at))]
 fn read_numbers<W: Weight>(bytes: &[u8], at: usize) -> Result<(W, usize), WeightFieldFault>
     requires { at ≤ length bytes.now }
     ensures value { result_map_both (λ x. (W.value x.0, x.1)) (λ e. e) result ≡ numbers_at W.KIND bytes.now at }
-    ensures behind { IfOk result (λ x. x.1 ≤ length bytes.now) }
+    ensures after { IfOk result (λ x. x.1 ≤ length bytes.now) }
 {
     let kind = W::KIND;
     let len = 8 * count_of_numbers(kind);
@@ -123,32 +123,32 @@ fn best_weight<W: Weight>() -> Option<W>
     W::from_key(key)
 }
 
-/// The weight of the field at an offset, and the offset behind it.
+/// The weight of the field at an offset, and the offset after it.
 #[tactic(auto, unfolding(crate::specs::Reading::weight_at))]
-pub(crate) fn read_field<W: Weight>(
+fn read_field<W: Weight>(
     bytes: &[u8],
     offset: usize,
 ) -> Result<(W, usize), WeightFieldFault>
     requires { offset ≤ length bytes.now }
     ensures value { result_map_both (λ x. (W.value x.0, x.1)) (λ e. e) result ≡ weight_at W.KIND bytes.now offset }
-    ensures behind { IfOk result (λ x. x.1 ≤ length bytes.now) }
+    ensures after { IfOk result (λ x. x.1 ≤ length bytes.now) }
 {
     if offset == bytes.len() {
         return Err(WeightFieldFault::Short);
     }
-    let behind = offset + 1;
+    let next = offset + 1;
     match bytes[offset] {
-        0 => Ok((W::zero(), behind)),
-        1 => read_numbers(bytes, behind),
+        0 => Ok((W::zero(), next)),
+        1 => read_numbers(bytes, next),
         2 => match best_weight() {
-            Some(weight) => Ok((weight, behind)),
+            Some(weight) => Ok((weight, next)),
             None => Err(WeightFieldFault::BadWeight),
         },
         _ => Err(WeightFieldFault::BadWeight),
     }
 }
 
-/// The weight whose field begins at an offset, and the offset behind the field. Takes no memory.
+/// The weight whose field begins at an offset, and the offset after the field. Takes no memory.
 pub fn read_weight_field<W: Weight>(
     bytes: &[u8],
     offset: usize,
@@ -160,9 +160,48 @@ pub fn read_weight_field<W: Weight>(
     ensures only { (v : Cost) (rest : List ℕ) → HasField W.KIND v → drop offset bytes.now ≡ weight_field W.KIND v ++ rest → IsOkAnd result (λ x. (W.value x.0 ≡ v) × (drop x.1 bytes.now ≡ rest)) }
     // Which fault it is.
     ensures exact { result_map_both (λ x. (W.value x.0, x.1)) (λ e. e) result ≡ weight_at W.KIND bytes.now offset }
-    ensures behind { IfOk result (λ x. x.1 ≤ length bytes.now) }
+    ensures after { IfOk result (λ x. x.1 ≤ length bytes.now) }
 {
     read_field(bytes, offset)
+}
+
+/// The weight whose field begins at an offset of a file, and the offset after the field.
+#[tactic(auto, unfolding(crate::specs::Reading::file_weight_at))]
+pub fn read_weight<W: Weight, K: Copy>(
+    bytes: &[u8],
+    at: usize,
+    short: K,
+    wrong: K,
+) -> Result<(W, usize), FileFault<K>>
+    requires { at ≤ length bytes.now }
+    ensures value { result_map_both (λ x. (W.value x.0, x.1)) (λ e. e) result ≡ file_weight_at W.KIND short wrong bytes.now at }
+    ensures after { IfOk result (λ x. x.1 ≤ length bytes.now) }
+{
+    match read_field(bytes, at) {
+        Ok(read) => Ok(read),
+        Err(WeightFieldFault::Short) => Err(short_of(bytes, short)),
+        Err(WeightFieldFault::BadWeight) => Err(fault_at(at, wrong)),
+    }
+}
+
+/// The same of a weight that is not Zero.
+#[tactic(auto, unfolding(crate::specs::Reading::non_zero_weight_at))]
+pub fn read_non_zero_weight<W: Weight, K: Copy>(
+    bytes: &[u8],
+    at: usize,
+    short: K,
+    wrong: K,
+) -> Result<(W, usize), FileFault<K>>
+    requires { at ≤ length bytes.now }
+    ensures value { result_map_both (λ x. (W.value x.0, x.1)) (λ e. e) result ≡ non_zero_weight_at W.KIND short wrong bytes.now at }
+    ensures not_zero { IfOk result (λ x. W.value x.0 ≢ infinite) }
+    ensures after { IfOk result (λ x. x.1 ≤ length bytes.now) }
+{
+    let (weight, next) = read_weight(bytes, at, short, wrong)?;
+    if is_zero(weight) {
+        return Err(fault_at(at, wrong));
+    }
+    Ok((weight, next))
 }
 
 /// How many bytes the field of a weight takes, at most 17. Takes no memory.
@@ -180,7 +219,7 @@ pub fn weight_length<W: Weight>(weight: W) -> usize
 }
 
 /// Appends the field of a weight where there is room.
-pub(crate) fn append_weight<W: Weight>(out: &mut Vec<u8>, weight: W)
+pub fn append_weight<W: Weight>(out: &mut Vec<u8>, weight: W)
     requires { length out.old.items + length (weight_field W.KIND (W.value weight)) ≤ vec_capacity out.old }
     ensures items { out.new.items ≡ out.old.items ++ weight_field W.KIND (W.value weight) }
     ensures room { vec_capacity out.old ≤ vec_capacity out.new }
@@ -193,7 +232,7 @@ pub(crate) fn append_weight<W: Weight>(out: &mut Vec<u8>, weight: W)
     }
 }
 
-/// Appends the tag 1 and the numbers behind it where there is room.
+/// Appends the tag 1 and the numbers after it where there is room.
 fn append_numbers(out: &mut Vec<u8>, kind: ArcType, first: i64, second: i64)
     requires { length out.old.items + length (weight_field kind (finite first second)) ≤ vec_capacity out.old }
     ensures items { out.new.items ≡ out.old.items ++ weight_field kind (finite first second) }

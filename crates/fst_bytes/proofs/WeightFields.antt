@@ -1,5 +1,5 @@
 -- Weight fields that are read are those that stand there.
-use Rattle.std.proofs.Common.{Result, ◌≡◌, ℕ, ℤ, pos, negsuc, T, suc, ◌+◌, ◌*◌, ◌^◌, ◌<◌, ◌≤◌, ◌≤ℤ◌, int_le, Bool, true, false, ◌&&◌, cond, ltb, leb, eqb, List, [], ◌∷◌, ◌++◌, length, get_or, drop, slice_index, Ok, Err, ◌⊎◌, inl, inr, refl, sym, ap, subst, ◌∙◌, append_assoc, w64, to_z, of_z, SFits, arith}
+use Rattle.std.proofs.Common.{Result, ◌≡◌, ◌≢◌, ℕ, ℤ, pos, negsuc, T, suc, ◌+◌, ◌*◌, ◌^◌, ◌<◌, ◌≤◌, ◌≤ℤ◌, int_le, Bool, true, false, ◌&&◌, cond, ltb, leb, eqb, List, [], ◌∷◌, ◌++◌, length, get_or, drop, slice_index, Ok, Err, ◌⊎◌, inl, inr, refl, sym, ap, subst, ◌∙◌, append_assoc, w64, to_z, of_z, SFits, arith}
 use Rattle.std.specs.Prelude.{IfOk, IsOkAnd}
 use Rattle.std.specs.Result.{result_map_both}
 use Rattle.std.specs.List.{flat_map, list_all}
@@ -11,16 +11,17 @@ use Rattle.std.proofs.Math.Seq.{drop-cons}
 use Rattle.byteorder.specs.Endian.{little_number}
 use Rattle.fst_semiring.specs.declared.arc_type.ArcType.{ArcType}
 use Rattle.fst_semiring.specs.declared.arc_type.ArcType.TheVariants.{Boolean, Tropical, MinMax, Lexicographic}
-use Rattle.fst_semiring.specs.Cost.{Cost, best, finite, infinite}
+use Rattle.fst_semiring.specs.Cost.{Cost, best, finite, infinite, is_infinite}
 use Rattle.fst_semiring.specs.Semiring.{IsSmall}
-use Rattle.fst_binary.specs.declared.fault.WeightFieldFault.{WeightFieldFault}
-use Rattle.fst_binary.specs.declared.fault.WeightFieldFault.TheVariants as fields
-use Rattle.fst_binary.specs.Spelling.{HasField, long, numbers_of, signed, weight_field}
-use Rattle.fst_binary.specs.Reading.{cost_of_numbers, has_best, integer_at, integers_at, is_small, number_at, number_count, numbers_at, weight_at}
-use Rattle.fst_binary.proofs.Numbers.{longs, number_takes}
-use Rattle.fst_binary.proofs.Steps.{IsBytes, Reads, Takes, Takes-none, Takes-then, done, ends_within, guard_ok, guard_passed, ok_is, past}
-use Rattle.fst_binary.proofs.Lengths.{length-signed}
-use Rattle.fst_binary.proofs.Weights.{and_left, and_right, best_has_field, numbers_have_field}
+use Rattle.fst_bytes.specs.declared.fault.FileFault.{FileFault}
+use Rattle.fst_bytes.specs.declared.fault.WeightFieldFault.{WeightFieldFault}
+use Rattle.fst_bytes.specs.declared.fault.WeightFieldFault.TheVariants as fields
+use Rattle.fst_bytes.specs.Spelling.{HasField, long, numbers_of, signed, weight_field}
+use Rattle.fst_bytes.specs.Reading.{cost_of_numbers, fault, field_fault, file_weight_at, has_best, integer_at, integers_at, is_small, non_zero_weight_at, number_at, number_count, numbers_at, weight_at}
+use Rattle.fst_bytes.proofs.Numbers.{longs, number_takes}
+use Rattle.fst_bytes.proofs.Steps.{IsBytes, Reads, Takes, Takes-none, Takes-then, bind_ok, done, ends_within, guard_ok, guard_passed, ok_is, past}
+use Rattle.fst_bytes.proofs.Lengths.{length-signed}
+use Rattle.fst_bytes.proofs.Weights.{and_left, and_right, best_has_field, numbers_have_field}
 
 pub signed_is : (n : ℤ) → signed n ≡ long (of_z w64 n)
 unfolding signed long
@@ -37,8 +38,8 @@ unfolding number_at integer_at
 integer_takes bytes at fits whole =
     let n = little_number 8 (drop at bytes) in
     let long_enough : ltb (length bytes) (at + 8) ≡ false = le-ltb _ _ whole in
-    let read : number_at 8 bytes at ≡ Ok (n, at + 8) = rw long_enough refl in
-    let t = number_takes 8 (2 ^ 64) long longs bytes at n (at + 8) fits read in
+    let read : number_at {K = ℕ} 0 8 bytes at ≡ Ok (n, at + 8) = rw long_enough refl in
+    let t = number_takes {K = ℕ} 0 8 (2 ^ 64) long longs bytes at n (at + 8) fits read in
     let same : signed (to_z w64 n) ≡ long n = signed_is (to_z w64 n) ∙ ap long (of_z-to_z {w = w64} {n = n} (record { fits = t.1 })) in
     subst (λ (x : List ℕ). Takes bytes at x (at + 8)) (sym same) t.0
 
@@ -50,7 +51,7 @@ integer_again bytes at n rest small e =
     let number : little_number 8 (drop at bytes) ≡ of_z w64 n = ap (little_number 8) (e ∙ ap (λ (x : List ℕ). x ++ rest) (signed_is n)) ∙ longs.again (of_z w64 n) rest low in
     ap (to_z w64) number ∙ to_z-of_z w64 n fits
 
--- what stands behind the tag 1
+-- what stands after the tag 1
 abbrev pub numbers_field : ArcType → Cost → List ℕ
 numbers_field kind infinite = []
 numbers_field kind best = []
@@ -172,12 +173,54 @@ weight_again kind bytes at best rest within fits e =
 weight_again kind bytes at (finite a b) rest within fits e =
     let numbers = flat_map signed (numbers_of kind a b) in
     let t = tag_stands bytes at 1 (numbers ++ rest) within e in
-    let behind = past bytes at (1 ∷ []) (numbers ++ rest) 1 refl e in
+    let after = past bytes at (1 ∷ []) (numbers ++ rest) 1 refl e in
     let begins = ends_within bytes at (1 ∷ []) (numbers ++ rest) within e in
-    let n = numbers_read kind bytes (at + 1) a b rest begins fits behind in
-    let ends = ends_within bytes (at + 1) numbers rest begins behind in
+    let n = numbers_read kind bytes (at + 1) a b rest begins fits after in
+    let ends = ends_within bytes (at + 1) numbers rest begins after in
     let whole : ltb (length bytes) (at + 1 + 8 * number_count kind) ≡ false = le-ltb _ _ (omega (arith, ends, n.2)) in
-    record { next = at + 1 + 8 * number_count kind; gives = rw (t.0, t.1, whole, n.1, n.0) refl; left = past bytes (at + 1) numbers rest (8 * number_count kind) n.2 behind; within = omega (arith, ends, n.2) }
+    record { next = at + 1 + 8 * number_count kind; gives = rw (t.0, t.1, whole, n.1, n.0) refl; left = past bytes (at + 1) numbers rest (8 * number_count kind) n.2 after; within = omega (arith, ends, n.2) }
+
+-- ---- a weight field in a file
+
+mapped_is : {A D E : Type 0} (f : D → E) (r : Result A D) (y : A) → result_map_both (λ x. x) f r ≡ Ok y → r ≡ Ok y
+mapped_is f (Ok x) y e = cc
+mapped_is f (Err d) y e = absurd cc
+
+pub file_weight_takes : {K : Type 0} (kind : ArcType) (short wrong : K) (bytes : List ℕ) (at : ℕ) (v : Cost) (next : ℕ) → IsBytes bytes → file_weight_at kind short wrong bytes at ≡ Ok (v, next) → Takes bytes at (weight_field kind v) next × HasField kind v
+unfolding file_weight_at
+file_weight_takes kind short wrong bytes at v next fits e = weight_takes kind bytes at v next fits (mapped_is (field_fault short wrong bytes at) (weight_at kind bytes at) (v, next) e)
+
+pub file_weight_again : {K : Type 0} (kind : ArcType) (short wrong : K) (bytes : List ℕ) (at : ℕ) (v : Cost) (rest : List ℕ) → at ≤ length bytes → HasField kind v → drop at bytes ≡ weight_field kind v ++ rest → Reads bytes (file_weight_at kind short wrong bytes at) v rest
+unfolding file_weight_at
+file_weight_again kind short wrong bytes at v rest within fits e =
+    let r = weight_again kind bytes at v rest within fits e in
+    record { next = r.next; gives = rw r.gives refl; left = r.left; within = r.within }
+
+pub not_infinite : (v : Cost) → is_infinite v ≡ false → v ≢ infinite
+not_infinite infinite e same = absurd cc
+not_infinite best e same = absurd cc
+not_infinite (finite a b) e same = absurd cc
+
+pub is_finite : (v : Cost) → v ≢ infinite → is_infinite v ≡ false
+is_finite infinite h = absurd (h refl)
+is_finite best h = refl
+is_finite (finite a b) h = refl
+
+pub non_zero_weight_takes : {K : Type 0} (kind : ArcType) (short wrong : K) (bytes : List ℕ) (at : ℕ) (v : Cost) (next : ℕ) → IsBytes bytes → non_zero_weight_at kind short wrong bytes at ≡ Ok (v, next) → Takes bytes at (weight_field kind v) next × HasField kind v × (v ≢ infinite)
+unfolding non_zero_weight_at
+non_zero_weight_takes {K} kind short wrong bytes at v next fits e =
+    let b = bind_ok (file_weight_at kind short wrong bytes at) (λ w. cond (is_infinite w.0) (fault wrong at) (Ok w)) (v, next) e in
+    let g = guard_ok (is_infinite b.0.0) (Ok b.0) (record { offset = at; kind = wrong }) (v, next) b.2 in
+    let same : b.0 ≡ (v, next) = ok_is {A = Cost × ℕ} {E = FileFault K} _ _ g.1 in
+    let read : file_weight_at kind short wrong bytes at ≡ Ok (v, next) = b.1 ∙ ap (λ (p : Cost × ℕ). Ok p) same in
+    let t = file_weight_takes kind short wrong bytes at v next fits read in
+    (t.0, t.1, not_infinite v (ap (λ (p : Cost × ℕ). is_infinite p.0) (sym same) ∙ g.0))
+
+pub non_zero_weight_again : {K : Type 0} (kind : ArcType) (short wrong : K) (bytes : List ℕ) (at : ℕ) (v : Cost) (rest : List ℕ) → at ≤ length bytes → HasField kind v → v ≢ infinite → drop at bytes ≡ weight_field kind v ++ rest → Reads bytes (non_zero_weight_at kind short wrong bytes at) v rest
+unfolding non_zero_weight_at
+non_zero_weight_again kind short wrong bytes at v rest within fits not e =
+    let r = file_weight_again kind short wrong bytes at v rest within fits e in
+    record { next = r.next; gives = rw (r.gives, is_finite v not) refl; left = r.left; within = r.within }
 
 -- ---- the same of what a function returned
 

@@ -1,0 +1,1 @@
+//! Fields written out by hand, and their faults.
