@@ -7,12 +7,12 @@ use Rattle.std.proofs.lemmas.List.{length-map}
 use Rattle.std.proofs.lemmas.List.Sums.{get_or-le-sum_by}
 use Rattle.std.proofs.lemmas.Option.{get_or_from_slice_get, slice_get-map, slice_get_within}
 use Rattle.fst_semiring.specs.declared.arc_type.ArcType.{ArcType}
-use Rattle.fst_semiring.specs.Cost.{Cost}
+use Rattle.fst_semiring.specs.Cost.{Cost, is_infinite}
 use Rattle.fst_machine.specs.Machine.{Arc, State, arc_total, most_arcs, valued_arc, valued_state}
 use Rattle.fst_text.specs.declared.fault.PrintFault.{PrintFault}
 use Rattle.fst_text.specs.Options.{Options}
 use Rattle.fst_text.specs.Entries.{Entry, arc_entry, final_entry}
-use Rattle.fst_text.specs.Printed.{LacksName, entries_at, fields_of_entry, final_entries, is_zero, other_entries, split_arc, split_state, state_entries, text_of_entries, text_of_line, unnamed_label}
+use Rattle.fst_text.specs.Printed.{LacksName, entries_at, fields_of_entry, final_entries, other_entries, split_arc, split_state, state_entries, text_of_entries, text_of_line, unnamed_label}
 use Rattle.fst_text.proofs.Naming.{entries-front, fault-as}
 
 -- what is read of a state is of the one that stands there
@@ -85,7 +85,7 @@ others-pushed value kind options start q states old out more low e h =
 -- a final entry has no labels
 pub final-unnamed : (options : Options) (state : ℕ) (w : Cost) (arcs : List (Arc Cost ℕ)) → unnamed_label options (final_entries state w arcs) ≡ None
 final-unnamed options state w [] = refl
-final-unnamed options state w (a ∷ arcs) = go (is_zero w) where
+final-unnamed options state w (a ∷ arcs) = go (is_infinite w) where
   go : (zero_is : Bool) → unnamed_label options (cond zero_is [] (final_entry state w ∷ [])) ≡ None
   go true = refl
   go false = refl

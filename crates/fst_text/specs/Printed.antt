@@ -5,7 +5,7 @@ use Rattle.std.specs.List.{flat_map}
 use Rattle.std.specs.Fmt.{decimal}
 use Rattle.std.specs.Ordering.{is_eq}
 use Rattle.fst_semiring.specs.declared.arc_type.ArcType.{ArcType}
-use Rattle.fst_semiring.specs.Cost.{Cost, class_of, cost_cmp}
+use Rattle.fst_semiring.specs.Cost.{Cost, cost_cmp, is_infinite}
 use Rattle.fst_semiring.specs.Semiring.{one_of}
 use Rattle.fst_semiring.specs.WeightText.{text_of_cost}
 use Rattle.fst_symbols.specs.Symbols.{Symbol, name_of}
@@ -23,10 +23,6 @@ behind_tabs fields = flat_map (λ field. 9 ∷ field) fields
 abbrev pub text_of_line : List (List ℕ) → List ℕ
 text_of_line [] = 10 ∷ []
 text_of_line (field ∷ fields) = field ++ behind_tabs fields ++ 10 ∷ []
-
--- the value is Zero
-abbrev pub is_zero : Cost → Bool
-is_zero w = class_of w == 2
 
 -- the value is One
 abbrev pub is_one : ArcType → Cost → Bool
@@ -69,7 +65,7 @@ text_of_entries kind options es = flat_map (λ e. text_of_line (fields_of_entry 
 -- a state has a final entry where it is final, and where it has no arcs
 abbrev pub final_entries : ℕ → Cost → List (Arc Cost ℕ) → List Entry
 final_entries state w [] = final_entry state w ∷ []
-final_entries state w (a ∷ arcs) = if is_zero w then [] else final_entry state w ∷ []
+final_entries state w (a ∷ arcs) = if is_infinite w then [] else final_entry state w ∷ []
 
 -- the entries of a state: its arcs in order, then its final entry
 abbrev pub state_entries : ℕ → State Cost → List Entry

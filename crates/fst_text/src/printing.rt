@@ -1,16 +1,16 @@
 //! The text of a machine.
 
-ghost use Rattle.std.specs.Prelude.{◌≡◌, ◌<◌, ◌≤◌, ◌==◌, ◌∷◌, ◌++◌, if◌then◌else◌, [], length, map, None, Some, IfOk, OnOk};
+ghost use Rattle.std.specs.Prelude.{◌≡◌, ◌<◌, ◌≤◌, ◌+◌, ◌*◌, ◌==◌, ◌∷◌, ◌++◌, if◌then◌else◌, [], length, map, None, Some, IfOk, OnOk};
 ghost use Rattle.std.specs.Fmt.{decimal};
 ghost use Rattle.std.specs.Option.{option_map};
-ghost use Rattle.fst_machine.specs.Machine.{most_arcs, valued, valued_arc, valued_state};
+ghost use Rattle.fst_machine.specs.Machine.{arc_total, most_arcs, valued, valued_arc, valued_state};
 ghost use Rattle.fst_text.specs.Entries.{arc_entry};
 ghost use Rattle.fst_text.specs.Printed.{Names, Prints, behind_tabs, entries_at, field_of_label, final_entries, first_unnamed, is_one, label_fields, labels_of_arc, other_entries, split_arc, split_state, text_of_entries, text_of_machine, unnamed_label, weight_fields};
 
 use crate::fault::PrintFault;
 use crate::options::TextOptions;
 use fst_machine::{Fst, FstArc};
-use fst_semiring::Weight;
+use fst_semiring::{Weight, is_zero};
 use fst_symbols::SymbolTable;
 use itoa::Buffer;
 use std::alloc::{AllocError, Global};
@@ -148,7 +148,7 @@ fn push_final<W: Weight>(
 ) -> Result<(), AllocError>
     ensures { OnOk result (out.new.items ≡ out.old.items ++ text_of_entries W.KIND options.now (final_entries state (W.value weight) (map (valued_arc W.value) arcs.now))) }
 {
-    if !arcs.is_empty() && W::key(weight.widen()).class == 2 {
+    if !arcs.is_empty() && is_zero(weight) {
         return Ok(());
     }
     push_number(out, state)?;
@@ -236,7 +236,9 @@ fn split_state<W: Weight>(fst: &Fst<W>) -> Option<PrintFault>
 }
 
 /// The bytes that are reserved for a text: most machines fit, and room that stays empty costs no memory.
-fn room<W: Weight>(fst: &Fst<W>) -> usize {
+fn room<W: Weight>(fst: &Fst<W>) -> usize
+    ensures { result ≡ arc_total fst.now.states * 32 + length fst.now.states * 16 }
+{
     fst.arc_count() as usize * ARC_ROOM + fst.states() as usize * STATE_ROOM
 }
 
