@@ -34,7 +34,9 @@ IsExact kind a b most result = (fault : ComposeFault) → IsErrOf result fault �
 -- A fault comes only where it stands against the composition, or memory has run out; and where one does, it comes, or
 -- memory has run out.
 abbrev pub IsExactly : ArcType → Machine Cost → Machine Cost → ℕ → {X : Type 0} → Result X ComposeFault → Type 0
-IsExactly kind a b most result = (fault : ComposeFault) → (IsErrOf result fault → Refuses kind a b most fault ⊎ (fault ≡ Memory)) × (Refuses kind a b most fault → IsErrOf result fault ⊎ IsErrOf result Memory)
+IsExactly kind a b most result =
+    (fault : ComposeFault) →
+    (IsErrOf result fault → Refuses kind a b most fault ⊎ (fault ≡ Memory)) × (Refuses kind a b most fault → IsErrOf result fault ⊎ IsErrOf result Memory)
 
 -- what stops the walk stops the composition
 abbrev pub cause_of : WalkFault → ComposeFault

@@ -20,4 +20,5 @@ Keeps {N} P g = (p : N) (k : ℕ) (a : Arc Cost N) → P p → slice_get (g.arcs
 -- name of the finished list is.
 pub record NameLaws (kind : ArcType) (a b : Graph ℕ) (states others : ℕ) : Type 0 where
   pub keeps : Keeps (λ p. p < states) a → Keeps (λ p. p < others) b → Keeps (IsNameBelow states others) (composed kind a b)
-  pub below : Keeps (λ p. p < states) a → Keeps (λ p. p < others) b → (start : Name ℕ ℕ) (names : List (Name ℕ ℕ)) → IsNameBelow states others start → IsBreadthFirst (composed kind a b) start names → (n : Name ℕ ℕ) → Has names n → IsNameBelow states others n
+  pub below : Keeps (λ p. p < states) a → Keeps (λ p. p < others) b → (start : Name ℕ ℕ) (names : List (Name ℕ ℕ)) → IsNameBelow states others start
+      → IsBreadthFirst (composed kind a b) start names → (n : Name ℕ ℕ) → Has names n → IsNameBelow states others n

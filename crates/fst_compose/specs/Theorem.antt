@@ -14,7 +14,7 @@ use Rattle.fst_trim.specs.KeptPaths.{IsRenumbered}
 use Rattle.fst_compose.specs.Names.{Name}
 use Rattle.fst_compose.specs.Composition.{composed}
 use Rattle.fst_compose.specs.Moves.{moves_at, arc_by}
-use Rattle.fst_compose.specs.Reading.{GoesThrough, IsReadBy, IsReadOff}
+use Rattle.fst_compose.specs.Reading.{GoesThrough, IsReadBy, IsReadOff, Path}
 
 module _ {N M : Type 0} (kind : ArcType) (a : Graph N) (b : Graph M) where
   -- The first relates x to some string that the second relates to z, and the weight is the product.
@@ -29,11 +29,14 @@ module _ {N M : Type 0} (kind : ArcType) (a : Graph N) (b : Graph M) where
   -- The successful paths of a graph are the matching pairs of paths of the two, one to one, by what its paths are read
   -- to: a successful path is read to just one pair of paths, which match and have its triple; each matching pair is read
   -- from a successful path with its triple, and from one only. So its relation is that of the two, one after the other.
-  pub record Pairs {P : Type 0} (g : Graph P) (Reads : List (Transition P) → List (Transition N) → List (Transition M) → Type 0) : Type 0 where
-    pub reads : (path : List (Transition P)) (w : Cost) → IsSuccessful kind g path w → (one : List (Transition N)) × (two : List (Transition M)) × Reads path one two × IsMatchingPair kind a b one two (input (letters path)) (output (letters path)) w
-    pub clear : (path : List (Transition P)) (one other : List (Transition N)) (two another : List (Transition M)) → Reads path one two → Reads path other another → (one ≡ other) × (two ≡ another)
-    pub has : (one : List (Transition N)) (two : List (Transition M)) (x z : List ℕ) (w : Cost) → IsMatchingPair kind a b one two x z w → (path : List (Transition P)) × IsSuccessful kind g path w × Reads path one two × (x ≡ input (letters path)) × (z ≡ output (letters path))
-    pub once : (path other : List (Transition P)) (v w : Cost) (one : List (Transition N)) (two : List (Transition M)) → IsSuccessful kind g path v → IsSuccessful kind g other w → Reads path one two → Reads other one two → path ≡ other
+  pub record Pairs {P : Type 0} (g : Graph P) (Reads : Path P → Path N → Path M → Type 0) : Type 0 where
+    pub reads : (path : Path P) (w : Cost) → IsSuccessful kind g path w
+        → (one : Path N) × (two : Path M) × Reads path one two × IsMatchingPair kind a b one two (input (letters path)) (output (letters path)) w
+    pub clear : (path : Path P) (one other : Path N) (two another : Path M) → Reads path one two → Reads path other another → (one ≡ other) × (two ≡ another)
+    pub has : (one : Path N) (two : Path M) (x z : List ℕ) (w : Cost) → IsMatchingPair kind a b one two x z w
+        → (path : Path P) × IsSuccessful kind g path w × Reads path one two × (x ≡ input (letters path)) × (z ≡ output (letters path))
+    pub once : (path other : Path P) (v w : Cost) (one : Path N) (two : Path M) → IsSuccessful kind g path v → IsSuccessful kind g other w
+        → Reads path one two → Reads other one two → path ≡ other
     pub says : (x z : List ℕ) (w : Cost) → Rel kind g x z w ↔ Relates x z w
 
   -- What the composition is, as a graph: its arcs are made by the moves at each name, in order, and its successful paths
@@ -44,7 +47,7 @@ module _ {N M : Type 0} (kind : ArcType) (a : Graph N) (b : Graph M) where
 
   -- A path of numbers is read to what the path of the composition is read off to that goes through the names of these
   -- numbers, by arcs in the same places.
-  abbrev pub IsReadNamed : List (Name N M) → List (Transition ℕ) → List (Transition N) → List (Transition M) → Type 0
+  abbrev pub IsReadNamed : List (Name N M) → Path ℕ → Path N → Path M → Type 0
   IsReadNamed names = IsReadBy kind (composed kind a b) (GoesThrough names) (IsReadOff a b)
 
   -- So is a machine whose states stand for these names.
@@ -52,7 +55,7 @@ module _ {N M : Type 0} (kind : ArcType) (a : Graph N) (b : Graph M) where
   IsComposition names m = Pairs (graph_of m) (IsReadNamed names)
 
   -- A path of new numbers is read to what the path of the whole machine is read to that it comes from.
-  abbrev pub IsReadThrough : List (Name N M) → Machine Cost → List ℕ → List (Transition ℕ) → List (Transition N) → List (Transition M) → Type 0
+  abbrev pub IsReadThrough : List (Name N M) → Machine Cost → List ℕ → Path ℕ → Path N → Path M → Type 0
   IsReadThrough names whole kept = IsReadBy kind (graph_of whole) (IsRenumbered whole kept) (IsReadNamed names)
 
   -- And so is the machine of its useful states.

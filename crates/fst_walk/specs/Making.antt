@@ -22,9 +22,10 @@ NextRange place fine None next = (fine × (next ≡ None)) ⊎ ((fine → ⊥) �
 NextRange place fine (Some first) next = next ≡ Some first
 
 -- A state is put after the others, if its weights and those before it are in range and the arcs are not too many.
-pub record PutsState (place : ℕ) (fits : Bool) (last : Cost) (out : List (Arc Cost ℕ)) (total : ℕ) (overflow next : Option ℕ) (old new : List (State Cost)) : Type 0 where
-  pub range : NextRange place ((fits ≡ true) × InRange last) overflow next
-  pub put : next ≡ None → total ≤ most_arcs → new ≡ old ++ record { final = last; arcs = out } ∷ []
+module _ (place : ℕ) (fits : Bool) (last : Cost) (out : List (Arc Cost ℕ)) (total : ℕ) where
+  pub record PutsState (overflow next : Option ℕ) (old new : List (State Cost)) : Type 0 where
+    pub range : NextRange place ((fits ≡ true) × InRange last) overflow next
+    pub put : next ≡ None → total ≤ most_arcs → new ≡ old ++ record { final = last; arcs = out } ∷ []
 
 -- the arc to this number in place of its name
 abbrev pub placed_arc : {N : Type 0} → Arc Cost N → ℕ → Arc Cost ℕ
