@@ -9,8 +9,7 @@ use Rattle.fst_symbols.specs.Reading.{table_of_text}
 use Rattle.fst_rational.specs.Labels.{Pair}
 use Rattle.fst_rational.specs.Pairs.{pairs_of_text}
 use Rattle.fst_text.specs.Options as text
-use Rattle.fst_binary.specs.Reading.{arc_type_of_bytes, machine_of_bytes}
-use Rattle.fst_binary.specs.declared.fault.BinaryFault.{BinaryFault}
+use Rattle.fst_binary.specs.Reading.{BinaryFault, arc_type_of_bytes, machine_of_bytes}
 use Rattle.fst_codex.specs.Reading.{codex_arc_type_of_bytes, codex_of_bytes}
 use Rattle.fst_codex.specs.Table.{Table}
 use Rattle.fst_codex.specs.declared.fault.CodexFault.{CodexFault}
