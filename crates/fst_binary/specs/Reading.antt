@@ -10,7 +10,8 @@ use Rattle.fst_bytes.specs.declared.fault.FileFault.{FileFault}
 use Rattle.fst_bytes.specs.Reading.{arc_type_at, fault, file_weight_at, label_at, named_at, non_zero_weight_at, number_at, number_where}
 use Rattle.fst_machine.specs.Machine.{Arc, State, Machine, arc_total, most_arcs, most_states}
 use Rattle.fst_binary.specs.declared.fault.BinaryKind.{BinaryKind}
-use Rattle.fst_binary.specs.declared.fault.BinaryKind.TheVariants.{Short, BadMagic, UnknownFstType, UnknownArcType, BadVersion, BadFlags, BadStart, BadCount, BadLabel, BadNext, BadWeight, Extra, Memory}
+use Rattle.fst_binary.specs.declared.fault.BinaryKind.TheVariants.{Short, BadMagic, UnknownFstType, UnknownArcType, BadVersion, BadFlags, BadStart}
+use Rattle.fst_binary.specs.declared.fault.BinaryKind.TheVariants.{BadCount, BadLabel, BadNext, BadWeight, Extra, Memory}
 use Rattle.fst_binary.specs.declared.header.Header.{Header}
 
 -- a fault of a file in the binary form
@@ -105,7 +106,9 @@ states_at kind states arcs before (suc n) bytes at = do
 unfoldable pub machine_at : ArcType → Header → List ℕ → Result (Machine Cost) BinaryFault
 machine_at kind header bytes = do
   all ← states_at kind header.states header.arcs 0 header.states bytes header.behind
-  if arc_total all.0 == header.arcs then (if all.1 == length bytes then Ok (record { start = header.start; states = all.0 }) else fault Extra all.1) else fault BadCount header.counted
+  if arc_total all.0 == header.arcs
+      then (if all.1 == length bytes then Ok (record { start = header.start; states = all.0 }) else fault Extra all.1)
+      else fault BadCount header.counted
 
 -- the machine of a file whose arc type is this one
 unfoldable pub machine_of_bytes : ArcType → List ℕ → Result (Machine Cost) BinaryFault

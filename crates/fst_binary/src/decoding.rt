@@ -1,6 +1,6 @@
 //! Reading the binary form.
 
-ghost use Rattle.std.specs.Prelude.{◌≡◌, ◌≤◌, ◌<◌, ◌+◌, ◌*◌, [], length, map, IfOk, OnOk, IfSome, Ok, nat_le, nat_lt};
+ghost use Rattle.std.specs.Prelude.{◌≡◌, ◌≢◌, ◌≤◌, ◌<◌, ◌+◌, ◌*◌, [], length, map, IfErr, IfOk, OnOk, IfSome, Ok, nat_le, nat_lt};
 ghost use Rattle.std.specs.Result.{result_map_both};
 ghost use Rattle.fst_semiring.specs.Cost.{Cost};
 ghost use Rattle.fst_machine.specs.Machine.{Machine, arc_total, most_arcs, most_states, valued, valued_arc, valued_state};
@@ -12,8 +12,8 @@ ghost use Rattle.fst_bytes.specs.Stopping.{Answers};
 use crate::fault::{BinaryFault, BinaryKind};
 use crate::header::{Header, read_header, read_types};
 use fst_bytes::{
-    Stopped, fault_at, most_that_fit, read_count, read_label, read_non_zero_weight, read_weight,
-    read_word,
+    Stopped, expect_end, fault_at, most_that_fit, read_count, read_label, read_non_zero_weight,
+    read_weight, read_word,
 };
 use fst_machine::{Fst, FstArc, StateList};
 use fst_semiring::Weight;
@@ -22,7 +22,7 @@ use std::alloc::{AllocError, Global};
 /// Why reading a machine stopped.
 type BinaryStop = Stopped<BinaryKind>;
 
-/// One of so many states, and the offset after its number.
+/// The number of one of the states, and the offset after it.
 #[tactic(auto, unfolding(fst_bytes::specs::Reading::number_where))]
 fn read_next(bytes: &[u8], at: usize, states: u32) -> Result<(u32, usize), BinaryFault>
     requires { at ≤ length bytes.now }
@@ -37,7 +37,7 @@ fn read_next(bytes: &[u8], at: usize, states: u32) -> Result<(u32, usize), Binar
     }
 }
 
-/// An arc of a machine with so many states, and the offset after it.
+/// An arc of a machine with this number of states, and the offset after it.
 #[tactic(auto, unfolding(crate::specs::Reading::arc_at))]
 fn read_arc<W: Weight>(
     bytes: &[u8],
@@ -50,8 +50,12 @@ fn read_arc<W: Weight>(
 {
     let (ilabel, behind) = read_label(bytes, at, BinaryKind::Short, BinaryKind::BadLabel)?;
     let (olabel, behind) = read_label(bytes, behind, BinaryKind::Short, BinaryKind::BadLabel)?;
-    let (weight, behind) =
-        read_non_zero_weight(bytes, behind, BinaryKind::Short, BinaryKind::BadWeight)?;
+    let (weight, behind) = read_non_zero_weight(
+        bytes,
+        behind,
+        BinaryKind::Short,
+        BinaryKind::BadWeight,
+    )?;
     let (next, behind) = read_next(bytes, behind, states)?;
     let arc = FstArc {
         ilabel,
@@ -62,8 +66,8 @@ fn read_arc<W: Weight>(
     Ok((arc, behind))
 }
 
-/// Puts so many arcs of a machine with so many states in place of those of a list, and gives the offset after
-/// them. A refusal may leave some of them there.
+/// Puts the arcs of a state in place of those of a list, and gives the offset after them. A refusal may leave some of
+/// them there.
 fn read_arcs<W: Weight>(
     bytes: &[u8],
     at: usize,
@@ -86,8 +90,8 @@ fn read_arcs<W: Weight>(
     Ok(behind)
 }
 
-/// The number of arcs of a state, which with those of the states before are at most so many, and the offset
-/// after it.
+/// The number of arcs of a state, which with those of the states before are at most the header's, and the offset after
+/// it.
 #[tactic(auto, unfolding(fst_bytes::specs::Reading::number_where))]
 fn read_arc_count(
     bytes: &[u8],
@@ -132,8 +136,8 @@ fn read_state<W: Weight>(
     Ok((last, behind))
 }
 
-/// No states, with room for so many states and arcs, which may be no more than so many bytes can hold: a state has at
-/// least nine bytes, and an arc thirteen.
+/// No states, with room for these numbers of states and arcs. That is no more than the bytes that are left can hold: a
+/// state has at least nine bytes, and an arc thirteen.
 fn reserve<W: Weight>(
     alloc: Global,
     left: usize,
@@ -176,6 +180,18 @@ fn read_states<W: Weight>(
     Ok((states, behind))
 }
 
+/// There have to be as many arcs as the header says.
+fn expect_arcs(arcs: usize, header: Header) -> Result<(), BinaryFault>
+    ensures ok { OnOk result (arcs ≡ header.arcs) }
+    ensures err { IfErr result (λ fault. (fault ≡ record { offset = header.counted; kind = BinaryKind.BadCount }) × (arcs ≢ header.arcs)) }
+{
+    if arcs == header.arcs as usize {
+        Ok(())
+    } else {
+        Err(fault_at(header.counted, BinaryKind::BadCount))
+    }
+}
+
 /// The machine of a header and of what stands after it, to the end of the bytes.
 #[tactic(auto, unfolding(crate::specs::Reading::machine_at))]
 fn read_machine<W: Weight>(
@@ -190,12 +206,8 @@ fn read_machine<W: Weight>(
     ensures { Answers (λ m. valued W.value m) result (machine_at W.KIND header bytes.now) }
 {
     let (states, behind) = read_states(alloc, bytes, header)?;
-    if states.arc_count() != header.arcs as usize {
-        return Err(Stopped::At(fault_at(header.counted, BinaryKind::BadCount)));
-    }
-    if behind != bytes.len() {
-        return Err(Stopped::At(fault_at(behind, BinaryKind::Extra)));
-    }
+    expect_arcs(states.arc_count(), header)?;
+    expect_end(bytes, behind, BinaryKind::Extra)?;
     Ok(states.into_machine(header.start))
 }
 

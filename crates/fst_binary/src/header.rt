@@ -62,12 +62,7 @@ pub(crate) fn read_types(bytes: &[u8]) -> Result<(ArcType, usize), BinaryFault>
         BinaryKind::BadMagic,
     )?;
     let behind = read_fst_type(bytes, behind)?;
-    read_arc_type(
-        bytes,
-        behind,
-        BinaryKind::Short,
-        BinaryKind::UnknownArcType,
-    )
+    read_arc_type(bytes, behind, BinaryKind::Short, BinaryKind::UnknownArcType)
 }
 
 /// The arc type of a machine's bytes, or the first fault of the fields up to it. Takes no memory.
@@ -96,7 +91,7 @@ fn read_start(bytes: &[u8], at: usize) -> Result<(Option<u32>, usize), BinaryFau
     }
 }
 
-/// Whether a start is none, or one of so many states.
+/// Whether a start is none, or the number of one of the states.
 fn is_start_of(start: Option<u32>, states: u32) -> bool
     ensures value { result ≡ is_start start states }
     ensures below { result ≡ true → IfSome start (λ s. s < states) }

@@ -1,5 +1,5 @@
 -- What a function gives that may run out of memory beside, as a fault of the file.
-use Rattle.std.proofs.Common.{◌≡◌, Result, Ok, Err, refl, inl, inr}
+use Rattle.std.proofs.Common.{Result, Err, refl, inl, inr}
 use Rattle.fst_fields.specs.Reading.{Gives}
 use Rattle.fst_bytes.specs.declared.fault.FileFault.{FileFault}
 use Rattle.fst_bytes.specs.declared.fault.Stopped.{Stopped}

@@ -1,6 +1,7 @@
 -- Reading fields at an offset. What is read is a value and the offset after it, or a fault. The kinds of fault are
 -- those of the form that is read: `short` is the kind for a field that is not whole, and `wrong` that of the field.
-use Rattle.std.specs.Prelude.{◌≡◌, ℕ, zero, suc, ◌+◌, ◌*◌, ℤ, pos, neg_ℤ, List, [], ◌∷◌, ◌++◌, length, take, drop, Bool, true, false, ◌&&◌, Result, Ok, Err, nat_lt, nat_le, int_le, ◌==◌, if◌then◌else◌, bytes_eq, slice_index}
+use Rattle.std.specs.Prelude.{ℕ, zero, suc, ◌+◌, ◌*◌, ℤ, pos, neg_ℤ, List, [], ◌∷◌, ◌++◌, length, take, drop}
+use Rattle.std.specs.Prelude.{Bool, true, false, ◌&&◌, Result, Ok, Err, nat_lt, nat_le, int_le, ◌==◌, if◌then◌else◌, bytes_eq, slice_index}
 use Rattle.std.specs.Option.{ok_or}
 use Rattle.std.specs.Result.{result_map_both}
 use Rattle.std.specs.List.{find, list_any, list_all}
@@ -97,8 +98,8 @@ unfoldable pub numbers_at : ArcType → List ℕ → ℕ → Result (Cost × ℕ
 numbers_at kind bytes at =
     if nat_lt (length bytes) (at + 8 * number_count kind) then Err Short
     else (if list_all is_small (integers_at (number_count kind) bytes at)
-      then Ok (cost_of_numbers (integers_at (number_count kind) bytes at), at + 8 * number_count kind)
-      else Err BadWeight)
+    then Ok (cost_of_numbers (integers_at (number_count kind) bytes at), at + 8 * number_count kind)
+    else Err BadWeight)
 
 -- a weight field: a tag and what stands after it
 unfoldable pub weight_at : ArcType → List ℕ → ℕ → Result (Cost × ℕ) WeightFieldFault

@@ -1,6 +1,6 @@
 //! Why bytes are no file, and why reading them stopped.
 
-ghost use Rattle.std.specs.Prelude.{◌≡◌, length};
+ghost use Rattle.std.specs.Prelude.{◌≡◌, ◌≢◌, IfErr, OnOk, length};
 ghost use Rattle.fst_bytes.specs.Stopping.{fault_of};
 ghost use Rattle.fst_bytes.specs.declared.fault.Stopped.TheVariants as stops;
 
@@ -53,8 +53,8 @@ impl<K: Copy> Stopped<K> {
 impl<K: Copy> From<FileFault<K>> for Stopped<K> {
     ghost from_gives = { λ fault stopped. stopped ≡ stops.At fault };
 
-    fn from(fault: FileFault<K>) -> Stopped<K> {
-        Stopped::At(fault)
+    fn from(found: FileFault<K>) -> Stopped<K> {
+        Stopped::At(found)
     }
 }
 
@@ -71,6 +71,18 @@ impl<T: Drop, K: Copy> From<AllocFailed<T>> for Stopped<K> {
 
     fn from(_e: AllocFailed<T>) -> Stopped<K> {
         Stopped::Memory
+    }
+}
+
+/// The bytes have to end at an offset.
+pub fn expect_end<K: Copy>(bytes: &[u8], at: usize, extra: K) -> Result<(), FileFault<K>>
+    ensures ok { OnOk result (at ≡ length bytes.now) }
+    ensures err { IfErr result (λ fault. (fault ≡ record { offset = at; kind = extra }) × (at ≢ length bytes.now)) }
+{
+    if at == bytes.len() {
+        Ok(())
+    } else {
+        Err(fault_at(at, extra))
     }
 }
 

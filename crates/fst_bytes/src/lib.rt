@@ -1,4 +1,4 @@
-//! The fields that the binary forms of the project are made of, both ways: little-endian numbers, names behind their
+//! The fields that the binary forms of the project are made of, both ways: little-endian numbers, names after their
 //! lengths, labels and weight fields.
 //!
 //! `specs/Spelling.antt` says how a field is written, and `specs/Reading.antt` what is read at an offset: a value and
@@ -17,7 +17,7 @@ pub use appending::{
     append, append_arc_type, append_long, append_signed, append_text, append_word, push_arc_type,
     push_long, push_word,
 };
-pub use fault::{FileFault, Stopped, WeightFieldFault, fault_at, short_of};
+pub use fault::{FileFault, Stopped, WeightFieldFault, expect_end, fault_at, short_of};
 pub use name::read_arc_type;
 pub use number::{expect_word, read_bytes, read_count, read_label, read_long, read_word};
 pub use room::most_that_fit;

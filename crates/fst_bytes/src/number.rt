@@ -11,11 +11,7 @@ use fst_fields::MOST_LABEL;
 
 /// The number of four bytes at an offset, and the offset after it.
 #[tactic(auto, unfolding(crate::specs::Reading::number_at))]
-pub fn read_word<K: Copy>(
-    bytes: &[u8],
-    at: usize,
-    short: K,
-) -> Result<(u32, usize), FileFault<K>>
+pub fn read_word<K: Copy>(bytes: &[u8], at: usize, short: K) -> Result<(u32, usize), FileFault<K>>
     requires { at ≤ length bytes.now }
     ensures value { result ≡ number_at short 4 bytes.now at }
     ensures after { IfOk result (λ x. x.1 ≤ length bytes.now) }
@@ -28,11 +24,7 @@ pub fn read_word<K: Copy>(
 
 /// The number of eight bytes at an offset, and the offset after it.
 #[tactic(auto, unfolding(crate::specs::Reading::number_at))]
-pub fn read_long<K: Copy>(
-    bytes: &[u8],
-    at: usize,
-    short: K,
-) -> Result<(u64, usize), FileFault<K>>
+pub fn read_long<K: Copy>(bytes: &[u8], at: usize, short: K) -> Result<(u64, usize), FileFault<K>>
     requires { at ≤ length bytes.now }
     ensures value { result ≡ number_at short 8 bytes.now at }
     ensures after { IfOk result (λ x. x.1 ≤ length bytes.now) }

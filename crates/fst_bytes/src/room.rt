@@ -2,7 +2,8 @@
 
 ghost use Rattle.std.specs.Prelude.{◌≡◌, ◌<◌, ◌≤◌, ◌*◌, ◌/◌, min};
 
-/// How many of so many things there can be in the bytes that are left, where each has at least so many bytes.
+/// How many things there can be in the bytes that are left, where each has at least so many bytes: at most a stated
+/// count.
 pub fn most_that_fit(count: usize, left: usize, least: usize) -> usize
     requires { 0 < least }
     ensures value { result ≡ min count (left / least) }

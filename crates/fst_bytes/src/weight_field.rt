@@ -125,10 +125,7 @@ fn best_weight<W: Weight>() -> Option<W>
 
 /// The weight of the field at an offset, and the offset after it.
 #[tactic(auto, unfolding(crate::specs::Reading::weight_at))]
-fn read_field<W: Weight>(
-    bytes: &[u8],
-    offset: usize,
-) -> Result<(W, usize), WeightFieldFault>
+fn read_field<W: Weight>(bytes: &[u8], offset: usize) -> Result<(W, usize), WeightFieldFault>
     requires { offset ≤ length bytes.now }
     ensures value { result_map_both (λ x. (W.value x.0, x.1)) (λ e. e) result ≡ weight_at W.KIND bytes.now offset }
     ensures after { IfOk result (λ x. x.1 ≤ length bytes.now) }

@@ -1,21 +1,17 @@
 -- Fields that stand in a file are read.
-use Rattle.std.proofs.Common.{◌≡◌, ◌≢◌, ℕ, ◌+◌, ◌^◌, ◌<◌, ◌≤◌, Bool, true, false, ltb, leb, eqb, List, [], ◌∷◌, ◌++◌, length, take, drop, Ok, refl, sym, ap, ◌∙◌, append_assoc, arith}
-use Rattle.std.specs.List.{list_any}
-use Rattle.std.proofs.lemmas.Bool.{le-leb, le-ltb}
-use Rattle.std.proofs.lemmas.List.{take_at}
+use Rattle.std.proofs.Common.{◌≡◌, ℕ, ◌+◌, ◌^◌, ◌≤◌, Bool, true, false, leb, List, [], ◌∷◌, ◌++◌, length, drop, Ok, refl, sym, ap, ◌∙◌, append_assoc, arith}
+use Rattle.std.proofs.lemmas.Bool.{le-leb}
 use Rattle.fst_semiring.specs.declared.arc_type.ArcType.{ArcType}
-use Rattle.fst_semiring.specs.Cost.{Cost, infinite}
+use Rattle.fst_semiring.specs.Cost.{Cost}
 use Rattle.fst_machine.specs.Machine.{greatest_label}
-use Rattle.fst_bytes.specs.Spelling.{HasField, text, weight_field, word}
+use Rattle.fst_bytes.specs.Spelling.{HasField, text, word}
 use Rattle.fst_semiring.specs.Names.{name_of}
 use Rattle.fst_bytes.proofs.Names.{IsNamed, name_is_short, named_again, part_again}
 use Rattle.fst_bytes.proofs.Numbers.{where_again, words}
 use Rattle.fst_bytes.proofs.Steps.{Reads, ends_within, past}
 use Rattle.fst_bytes.proofs.WeightFields.{non_zero_weight_again, tag_stands}
-use Rattle.fst_codex.specs.declared.fault.CodexKind.{CodexKind}
 use Rattle.fst_codex.specs.declared.fault.CodexKind.TheVariants.{BadLabel, BadWeight, Short, UnknownArcType}
 use Rattle.fst_codex.specs.Spelling.{codex_types, entry_fields, flag, magic, weight_part}
-use Rattle.fst_bytes.specs.Reading.{arc_type_at, non_zero_weight_at, number_at, number_where, part_at}
 use Rattle.fst_codex.specs.Reading.{entry_at, flag_at, magic_at, types_at, weight_part_at}
 use Rattle.fst_codex.specs.Table.{Entry, IsEntry}
 

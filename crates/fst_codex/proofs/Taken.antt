@@ -1,30 +1,26 @@
 -- Fields that are read are those that stand there.
-use Rattle.std.proofs.Common.{◌≡◌, ◌≢◌, ℕ, ℤ, pos, zero, suc, ◌+◌, ◌^◌, ◌<◌, ◌≤◌, Bool, true, false, cond, ltb, leb, eqb, inl, inr, List, [], ◌∷◌, ◌++◌, length, take, drop, Some, Ok, refl, sym, ap, subst, ◌∙◌, arith}
+use Rattle.std.proofs.Common.{◌≡◌, ◌≢◌, ℕ, ℤ, pos, zero, suc, ◌+◌, ◌^◌, ◌<◌, ◌≤◌, Bool, true, false, cond, leb, eqb, inl, inr, List, [], ◌∷◌, ◌++◌, length, Some, Ok, refl, sym, ap, subst}
 use Rattle.std.specs.Prelude.{bytes_eq, slice_index}
-use Rattle.std.specs.Option.{ok_or}
-use Rattle.std.specs.Result.{result_map_both}
-use Rattle.std.specs.List.{AllByRecursion, find, flat_map, list_any}
-use Rattle.std.proofs.lemmas.Bool.{eqb-true, leb-false, leb-true, ltb-false}
-use Rattle.std.proofs.lemmas.List.{length-drop, length-take}
+use Rattle.std.specs.List.{AllByRecursion, find, flat_map}
+use Rattle.std.proofs.lemmas.Bool.{eqb-true, leb-false, leb-true}
 use Rattle.std.proofs.lemmas.Slice.Eq.{bytes_eq-Decides}
 use Rattle.fst_semiring.specs.declared.arc_type.ArcType.{ArcType}
-use Rattle.fst_semiring.specs.Cost.{Cost, finite, infinite, is_infinite}
+use Rattle.fst_semiring.specs.Cost.{Cost, finite, infinite}
 use Rattle.fst_semiring.specs.declared.arc_type.ArcType.TheVariants.{Boolean, Tropical, MinMax, Lexicographic}
 use Rattle.fst_semiring.specs.Semiring.{one_of}
 use Rattle.fst_machine.specs.Machine.{greatest_label}
-use Rattle.fst_bytes.specs.Spelling.{HasField, text, weight_field, word}
+use Rattle.fst_bytes.specs.Spelling.{HasField, text, word}
 use Rattle.fst_semiring.specs.Names.{name_of}
 use Rattle.fst_fields.specs.Reading.{◌>>=◌}
 use Rattle.fst_bytes.proofs.Names.{named_takes, part_takes}
 use Rattle.fst_bytes.proofs.Numbers.{where_takes, words}
-use Rattle.fst_bytes.proofs.Steps.{IsBytes, IsBytes-drop, IsBytes-take, Takes, Takes-front, Takes-none, Takes-then, bind_ok, done, guard_ok, guard_passed, ok_is}
+use Rattle.fst_bytes.proofs.Steps.{IsBytes, Takes, Takes-none, Takes-then, bind_ok, done, guard_ok, guard_passed, ok_is}
 use Rattle.fst_bytes.proofs.WeightFields.{chosen, non_zero_weight_takes, tag_takes}
 use Rattle.fst_bytes.proofs.Weights.{zero_is_small}
 use Rattle.fst_codex.specs.Reading.{CodexFault, entries_at, entry_at, flag_at, magic_at, types_at, weight_part_at}
-use Rattle.fst_codex.specs.declared.fault.CodexKind.{CodexKind}
 use Rattle.fst_codex.specs.declared.fault.CodexKind.TheVariants.{Short, BadFlags, BadLabel, BadMagic, BadWeight, UnknownArcType}
 use Rattle.fst_codex.specs.Spelling.{codex_types, entry_fields, flag, magic, weight_part}
-use Rattle.fst_bytes.specs.Reading.{arc_type_at, non_zero_weight_at, fault, number_at, number_where, part_at}
+use Rattle.fst_bytes.specs.Reading.{arc_type_at, fault, number_where, part_at}
 use Rattle.fst_codex.specs.Table.{Entry}
 use Rattle.fst_codex.proofs.Fields.{GoodEntry}
 

@@ -1,6 +1,6 @@
 -- Reading the file form of a codex from left to right, with the first fault that is met. What is read is a value
 -- and the offset after it.
-use Rattle.std.specs.Prelude.{◌≡◌, ℕ, zero, suc, ◌+◌, List, [], ◌∷◌, length, Bool, true, false, Result, Ok, nat_le, ◌==◌, if◌then◌else◌, bytes_eq, slice_index}
+use Rattle.std.specs.Prelude.{ℕ, zero, suc, ◌+◌, List, [], ◌∷◌, length, Bool, true, false, Result, Ok, nat_le, ◌==◌, if◌then◌else◌, bytes_eq, slice_index}
 use Rattle.fst_fields.specs.Reading as reading
 use Rattle.fst_fields.specs.Reading.{◌>>=◌}
 use Rattle.fst_semiring.specs.declared.arc_type.ArcType.{ArcType}

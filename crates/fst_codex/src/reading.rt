@@ -12,8 +12,8 @@ ghost use Rattle.fst_codex.specs.Table.{IsEntry, Table, valued_entry, valued_tab
 use crate::codex::{Codex, CodexEntry, MOST_ENTRIES};
 use crate::fault::{CodexFault, CodexKind};
 use fst_bytes::{
-    Stopped, fault_at, most_that_fit, read_arc_type, read_bytes, read_count, read_label,
-    read_non_zero_weight, short_of,
+    Stopped, expect_end, fault_at, most_that_fit, read_arc_type, read_bytes, read_count,
+    read_label, read_non_zero_weight, short_of,
 };
 use fst_semiring::{ArcType, Weight};
 use std::alloc::{AllocError, Global};
@@ -42,12 +42,7 @@ fn read_types(bytes: &[u8]) -> Result<(ArcType, usize), CodexFault>
     ensures behind { IfOk result (λ x. x.1 ≤ length bytes.now) }
 {
     let behind = read_magic(bytes)?;
-    read_arc_type(
-        bytes,
-        behind,
-        CodexKind::Short,
-        CodexKind::UnknownArcType,
-    )
+    read_arc_type(bytes, behind, CodexKind::Short, CodexKind::UnknownArcType)
 }
 
 /// The arc type of a codex's bytes, or the first fault of the fields up to it. Takes no memory.
@@ -125,7 +120,7 @@ fn least_length(weights: bool) -> usize
     if weights { 9 } else { 8 }
 }
 
-/// No entries, with room for so many, which may be no more than so many bytes can hold.
+/// No entries, with room for this number of them. That is no more than the bytes that are left can hold.
 fn reserve<W: Weight>(
     alloc: Global,
     left: usize,
@@ -176,14 +171,12 @@ fn read_table<W: Weight>(alloc: Global, bytes: &[u8], at: usize) -> Result<Codex
     let (count, behind) = read_count(
         bytes,
         behind,
-        u64::from(MOST_ENTRIES),
+        MOST_ENTRIES as u64,
         CodexKind::Short,
         CodexKind::BadCount,
     )?;
     let (entries, behind) = read_entries(alloc, bytes, behind, weights, count as usize)?;
-    if behind != bytes.len() {
-        return Err(Stopped::At(fault_at(behind, CodexKind::Extra)));
-    }
+    expect_end(bytes, behind, CodexKind::Extra)?;
     Ok(Codex::new(weights, entries))
 }
 

@@ -19,7 +19,7 @@ use Rattle.fst_binary.specs.declared.fault.BinaryKind.{BinaryKind}
 use Rattle.fst_binary.specs.declared.fault.BinaryKind.TheVariants as binary
 use Rattle.fst_compose.specs.declared.fault.ComposeFault.{ComposeFault}
 use Rattle.fst_compose.specs.declared.fault.ComposeFault.TheVariants as composing
-use Rattle.fst_codex.specs.declared.fault.CodexFault.{CodexFault}
+use Rattle.fst_codex.specs.Reading.{CodexFault}
 use Rattle.fst_codex.specs.declared.fault.CodexKind.{CodexKind}
 use Rattle.fst_codex.specs.declared.fault.CodexKind.TheVariants as codexes
 use Rattle.fst_codex.specs.declared.decoding.DecodeFault.{DecodeFault}
