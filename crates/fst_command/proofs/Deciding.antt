@@ -23,12 +23,7 @@ use Rattle.fst_text.specs.declared.fault.TextFault.{TextFault}
 use Rattle.fst_text.specs.declared.fault.TextFault.TheVariants as texts
 use Rattle.fst_text.specs.declared.fault.PrintFault.{PrintFault}
 use Rattle.fst_text.specs.declared.fault.PrintFault.TheVariants as printing
-<<<<<<< HEAD
 use Rattle.fst_binary.specs.Reading.{BinaryFault, Fails, arc_type_of_bytes, machine_of_bytes}
-=======
-use Rattle.fst_binary.specs.Reading.{Fails, arc_type_of_bytes, machine_of_bytes}
-use Rattle.fst_binary.specs.Reading.{BinaryFault}
->>>>>>> 341b7a321e71ece5a3628b790bc265513dd35066
 use Rattle.fst_binary.specs.declared.fault.BinaryKind.TheVariants as kinds
 use Rattle.fst_binary.specs.Spelling.{spelling}
 use Rattle.fst_trim.specs.Sorting.{IsArcSorted}
