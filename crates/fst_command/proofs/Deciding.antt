@@ -26,7 +26,7 @@ use Rattle.fst_text.specs.declared.fault.PrintFault.TheVariants as printing
 use Rattle.fst_binary.specs.Reading.{BinaryFault, Fails, arc_type_of_bytes, machine_of_bytes}
 use Rattle.fst_binary.specs.declared.fault.BinaryKind.TheVariants as kinds
 use Rattle.fst_binary.specs.Spelling.{spelling}
-use Rattle.fst_trim.specs.Sorting.{IsArcSorted}
+use Rattle.fst_trim.specs.Sorting.{IsArcSorted, SortsPaths}
 use Rattle.fst_trim.specs.declared.side.Side.{Side}
 use Rattle.fst_trim.proofs.Valued.{IsArcSorted-valued}
 use Rattle.fst_words.specs.declared.options.Options.{Options}
@@ -36,7 +36,7 @@ use Rattle.fst_command.specs.declared.refusal.Refusal.{Refusal}
 use Rattle.fst_command.specs.declared.refusal.Refusal.TheVariants as refusals
 use Rattle.fst_command.specs.Causes.{Cause, bad_binary, bad_pairs, bad_symbols, bad_text, kinds_differ, too_large, unprintable, Answer, no_memory, refused}
 use Rattle.fst_command.specs.Checks.{Check, Finds, HasOther, IsPast, KindsDiffer, Passes, length_check, symbols_check, pairs_check, text_check, binary_check, kinds_check, size_check, print_check, operation_checks, read_limit}
-use Rattle.fst_command.specs.Operations.{Denotes, IsLimitedBy, Operates, grown, side_of}
+use Rattle.fst_command.specs.Operations.{Denotes, HaveSameTriples, IsLimitedBy, KeepsSorted, Operates, grown, side_of}
 use Rattle.fst_command.specs.Told.{IsMade, Tells}
 use Rattle.fst_command.specs.Steps.{JoinsTo, Declines, IsOfForm, OperatesTo}
 
@@ -213,6 +213,12 @@ settles-one verb options renaming kind name content bytes m made x reads operate
 pub sorted-by : {V E : Type 0} (value : V → Cost) (side : Side) (word : Option (List ℕ)) (m : Machine V) (made : Result (Machine V) E) → side ≡ side_of word → IfOk made (λ c. IsArcSorted side m c) → IfOk made (λ c. IsArcSorted (side_of word) (valued value m) (valued value c))
 sorted-by value side word m (Ok c) is sorted = subst (λ (s : Side). IsArcSorted s (valued value m) (valued value c)) is (IsArcSorted-valued value side m c sorted)
 sorted-by value side word m (Err e) is sorted = tt
+
+-- the same of the paths that are kept and of what is related
+pub sorted-keeps : {V E : Type 0} (value : V → Cost) (kind : ArcType) (side : Side) (word : Option (List ℕ)) (m : Machine V) (made : Result (Machine V) E) → side ≡ side_of word →
+    IfOk made (λ c. SortsPaths kind side (valued value m) (valued value c)) → IfOk made (λ c. HaveSameTriples kind (valued value m) (valued value c)) → IfOk made (λ c. KeepsSorted kind (side_of word) (valued value m) (valued value c))
+sorted-keeps value kind side word m (Ok c) is paths same = subst (λ (s : Side). KeepsSorted kind s (valued value m) (valued value c)) is (paths, same)
+sorted-keeps value kind side word m (Err e) is paths same = tt
 
 -- a file that is no binary form
 pub declines-file : (name content : List ℕ) (fault : BinaryFault) (refusal : Refusal) (checks : List Check) → machine_of_file content ≡ Err fault → IsMade (refused (bad_binary name fault)) refusal → Declines (binary_check name content ∷ checks) refusal
