@@ -243,3 +243,32 @@ fn makes_no_more_states_than_there_may_be(rt: HostRuntime) -> Result<(), Fail> {
     assert!(rt; doubled(&rt, alloc, 16)? == Ok(196_605));
     Ok(())
 }
+
+#[test]
+fn names_the_first_of_four_recursive_rules(rt: HostRuntime) -> Result<(), Fail> {
+    let alloc = rt.alloc();
+    let r = machine(&rt, alloc, 2, &[(0, 1, 8, 0, 1)], &[(1, 0)])?;
+    let six = machine(&rt, alloc, 2, &[(0, 1, 7, 0, 1)], &[(1, 0)])?;
+    let seven = machine(&rt, alloc, 2, &[(0, 1, 8, 0, 1)], &[(1, 0)])?;
+    let eight = machine(&rt, alloc, 2, &[(0, 1, 9, 0, 1)], &[(1, 0)])?;
+    let nine = machine(&rt, alloc, 2, &[(0, 1, 6, 0, 1)], &[(1, 0)])?;
+    let mut rules = two(&rt, alloc, &r, &six, 6)?;
+    rules.add(Rule {
+        label: 7,
+        machine: &seven,
+    })?;
+    rules.add(Rule {
+        label: 8,
+        machine: &eight,
+    })?;
+    rules.add(Rule {
+        label: 9,
+        machine: &nine,
+    })?;
+    let refused = match replace(alloc, &rules) {
+        Ok(_) => None,
+        Err(fault) => Some(fault),
+    };
+    assert!(rt; refused == Some(ReplaceFault::Recursive { label: 6 }));
+    Ok(())
+}

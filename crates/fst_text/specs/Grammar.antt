@@ -1,6 +1,6 @@
 -- The text form of a machine: which texts have it, what they say, and the first fault of the others.
 -- (OpenFst Quick Tour, "Creating FSTs". The limits and the numbers of digits are this project's own.)
-use Rattle.std.specs.Prelude.{◌≡◌, ℕ, ◌+◌, Bool, List, [], ◌∷◌, ◌++◌, length, map, nat_le, nat_lt, Option, Some, None, Result, Ok, Err, if◌then◌else◌}
+use Rattle.std.specs.Prelude.{ℕ, ◌+◌, Bool, List, [], ◌∷◌, ◌++◌, length, map, nat_le, nat_lt, Option, Some, None, Result, Ok, Err, if◌then◌else◌}
 use Rattle.std.specs.List.{flat_map}
 use Rattle.fst_fields.specs.Lines.{lines_of, fields_of}
 use Rattle.fst_fields.specs.Reading as reading

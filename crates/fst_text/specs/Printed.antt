@@ -9,6 +9,7 @@ use Rattle.fst_semiring.specs.Cost.{Cost, cost_cmp, is_infinite}
 use Rattle.fst_semiring.specs.Semiring.{one_of}
 use Rattle.fst_semiring.specs.WeightText.{text_of_cost}
 use Rattle.fst_symbols.specs.Symbols.{Symbol, name_of}
+use Rattle.fst_fields.specs.Reading as reading
 use Rattle.fst_machine.specs.Machine.{Arc, State, Machine}
 use Rattle.fst_text.specs.Entries.{Entry, arc_entry, final_entry}
 use Rattle.fst_text.specs.declared.fault.PrintFault.{PrintFault}
@@ -121,21 +122,11 @@ refusal options m = elim (split_machine options m) [ None ↦ option_map Unknown
 abbrev pub text_of_machine : ArcType → Options → Machine Cost → Result (List ℕ) PrintFault
 text_of_machine kind options m = elim (refusal options m) [ None ↦ Ok (text_of_entries kind options (entries_of_machine m)) | Some fault ↦ Err fault ]
 
--- what was returned, seen by view, is this text or this refusal, unless memory ran out
+-- what was returned, seen by view, is this text or this refusal, or memory ran out
 abbrev pub Prints : {X : Type 0} → (X → List ℕ) → Result X PrintFault → Result (List ℕ) PrintFault → Type 0
-Prints view (Ok x) text = text ≡ Ok (view x)
-Prints view (Err Memory) text = Unit {0}
-Prints view (Err (NotAcceptor state place)) text = text ≡ Err (NotAcceptor state place)
-Prints view (Err (UnknownSymbol label)) text = text ≡ Err (UnknownSymbol label)
+Prints view result text = reading.Gives Memory view result text
 
--- a fault is that this label has no name, unless memory ran out
-abbrev pub LacksName : PrintFault → Option ℕ → Type 0
-LacksName Memory unnamed = Unit {0}
-LacksName (UnknownSymbol label) unnamed = unnamed ≡ Some label
-LacksName (NotAcceptor state place) unnamed = ⊥
-
--- a call has printed where every label has a name, and else refuses the first that has none, unless memory
--- ran out
+-- every label that was printed has a name; or a fault tells of the first that has none
 abbrev pub Names : {X : Type 0} → Result X PrintFault → Option ℕ → Type 0
 Names (Ok x) unnamed = unnamed ≡ None
-Names (Err fault) unnamed = LacksName fault unnamed
+Names (Err fault) unnamed = option_map UnknownSymbol unnamed ≡ Some fault
