@@ -79,18 +79,13 @@ made_tells answer (refusals.Told status line) made = inr made
 
 -- a machine without a text form: no question before that one finds a cause
 pub declines-unprintable : {X : Type 0} (view : X → List ℕ) (choices : Choices) (name content : List ℕ) (t : Typed) (fault : PrintFault) (refusal : Refusal) → machine_of_file content ≡ Ok t → Prints view (Err fault) (text_of_machine t.kind choices t.machine) → IsMade (refused (unprintable fault)) refusal → (fault ≡ printing.Memory → refusal ≡ refusals.Memory) → Declines (binary_check name content ∷ kinds_check (content ∷ []) ∷ print_check choices content ∷ []) refusal
-declines-unprintable view choices name content t fault refusal reads prints made memory = go fault prints memory (made_tells (refused (unprintable fault)) refusal made) where
-  found : (f : PrintFault) → text_of_machine t.kind choices t.machine ≡ Err f → Tells (refused (unprintable f)) refusal → Declines (binary_check name content ∷ kinds_check (content ∷ []) ∷ print_check choices content ∷ []) refusal
-  found f is tells = inr (unprintable f, inr ((λ cause g. not_both _ _ _ reads g.1), inr (Passes-kinds content, inl (record { machine = t; fault = f; reads = reads; prints = is; is = refl }))), tt, tells)
-
-  either : (f : PrintFault) → text_of_machine t.kind choices t.machine ≡ Err f → Tells no_memory refusal ⊎ Tells (refused (unprintable f)) refusal → Declines (binary_check name content ∷ kinds_check (content ∷ []) ∷ print_check choices content ∷ []) refusal
-  either f is (inl tells) = inl tells
-  either f is (inr tells) = found f is tells
-
-  go : (f : PrintFault) → Prints view (Err f) (text_of_machine t.kind choices t.machine) → (f ≡ printing.Memory → refusal ≡ refusals.Memory) → Tells no_memory refusal ⊎ Tells (refused (unprintable f)) refusal → Declines (binary_check name content ∷ kinds_check (content ∷ []) ∷ print_check choices content ∷ []) refusal
-  go printing.Memory p m tells = inl (subst (λ (r : Refusal). Tells no_memory r) (sym (m refl)) (record { status = refl; line = refl }))
-  go (printing.NotAcceptor state place) p m tells = either (printing.NotAcceptor state place) p tells
-  go (printing.UnknownSymbol label) p m tells = either (printing.UnknownSymbol label) p tells
+declines-unprintable view choices name content t fault refusal reads (inl e) made memory =
+    inl (subst (λ (r : Refusal). Tells no_memory r) (sym (memory e)) (record { status = refl; line = refl }))
+declines-unprintable view choices name content t fault refusal reads (inr is) made memory = go (made_tells (refused (unprintable fault)) refusal made) where
+  go : Tells no_memory refusal ⊎ Tells (refused (unprintable fault)) refusal → Declines (binary_check name content ∷ kinds_check (content ∷ []) ∷ print_check choices content ∷ []) refusal
+  go (inl tells) = inl tells
+  go (inr tells) =
+      inr (unprintable fault, inr ((λ cause g. not_both _ _ _ reads g.1), inr (Passes-kinds content, inl (record { machine = t; fault = fault; reads = reads; prints = is; is = refl }))), tt, tells)
 
 -- a fault that reading gives, or memory ran out: the refusal that is made of it tells what one question finds
 pub declines-read : {Y E : Type 0} (out fault : E) (read : Result Y E) (check : Check) (cause : Cause) (refusal : Refusal) →
