@@ -1,41 +1,15 @@
--- Reading arcs, or states, one after the other, as a loop does.
+-- Reading states one after the other, as a loop does.
 use Rattle.std.proofs.Common.{◌≡◌, ℕ, suc, ◌-◌, ◌+◌, ◌≤◌, ◌<◌, List, [], ◌∷◌, ◌++◌, length, Result, Ok, Err, refl, sym, ◌∙◌, arith}
 use Rattle.fst_semiring.specs.declared.arc_type.ArcType.{ArcType}
 use Rattle.fst_semiring.specs.Cost.{Cost}
-use Rattle.fst_machine.specs.Machine.{Arc, State}
+use Rattle.fst_machine.specs.Machine.{State}
 use Rattle.fst_bytes.specs.declared.fault.Stopped.{Stopped}
 use Rattle.fst_bytes.specs.declared.fault.Stopped.TheVariants.{At, Memory}
 use Rattle.fst_bytes.specs.Reading.{with_front}
 use Rattle.fst_bytes.specs.Stopping.{Stops}
 use Rattle.fst_bytes.proofs.Loops.{front_ends, front_grows}
 use Rattle.fst_binary.specs.declared.fault.BinaryKind.{BinaryKind}
-use Rattle.fst_binary.specs.Reading.{BinaryFault, arc_at, arcs_at, state_at, states_at}
-
--- an arc more is read
-pub arcs_go_on : (kind : ArcType) (states : ℕ) (front : List (Arc Cost ℕ)) (count i : ℕ) (bytes : List ℕ) (at : ℕ) (arc : Arc Cost ℕ) (after : ℕ) (total : Result (List (Arc Cost ℕ) × ℕ) BinaryFault) → i < count → arc_at kind states bytes at ≡ Ok (arc, after)
-    → with_front front (arcs_at kind states (count - i) bytes at) ≡ total → with_front (front ++ arc ∷ []) (arcs_at kind states (count - (i + 1)) bytes after) ≡ total
-unfolding arcs_at
-arcs_go_on kind states front count i bytes at arc after total more h so_far =
-    let k : count - i ≡ suc (count - (i + 1)) = omega arith in
-    let one : with_front front (arcs_at kind states (count - i) bytes at) ≡ with_front (front ++ arc ∷ []) (arcs_at kind states (count - (i + 1)) bytes after) = rw (k, h) (front_grows front arc (arcs_at kind states (count - (i + 1)) bytes after)) in
-    sym one ∙ so_far
-
--- the fault of an arc is the fault of all
-pub arcs_end : (kind : ArcType) (states : ℕ) (front : List (Arc Cost ℕ)) (count i : ℕ) (bytes : List ℕ) (at : ℕ) (f : BinaryFault) (total : Result (List (Arc Cost ℕ) × ℕ) BinaryFault) → i < count → arc_at kind states bytes at ≡ Err f
-    → with_front front (arcs_at kind states (count - i) bytes at) ≡ total → total ≡ Err f
-unfolding arcs_at
-arcs_end kind states front count i bytes at f total more h so_far =
-    let k : count - i ≡ suc (count - (i + 1)) = omega arith in
-    let one : with_front front (arcs_at kind states (count - i) bytes at) ≡ Err f = rw (k, h) refl in
-    sym so_far ∙ one
-
--- no arc is left
-pub arcs_are_read : (kind : ArcType) (states : ℕ) (front : List (Arc Cost ℕ)) (count i : ℕ) (bytes : List ℕ) (at : ℕ) (total : Result (List (Arc Cost ℕ) × ℕ) BinaryFault) → count ≤ i → with_front front (arcs_at kind states (count - i) bytes at) ≡ total → total ≡ Ok (front, at)
-unfolding arcs_at
-arcs_are_read kind states front count i bytes at total none so_far =
-    let k : count - i ≡ 0 = omega arith in
-    let one : with_front front (arcs_at kind states (count - i) bytes at) ≡ Ok (front, at) = rw k (front_ends front at) in
-    sym so_far ∙ one
+use Rattle.fst_binary.specs.Reading.{BinaryFault, state_at, states_at}
 
 -- a state more is read
 pub states_go_on : (kind : ArcType) (states arcs before : ℕ) (front : List (State Cost)) (count i : ℕ) (bytes : List ℕ) (at : ℕ) (state : State Cost) (after : ℕ) (total : Result (List (State Cost) × ℕ) BinaryFault) → i < count → state_at kind states arcs before bytes at ≡ Ok (state, after)

@@ -12,6 +12,7 @@ use Rattle.fst_binary.specs.Spelling.{arc_fields, state_fields}
 use Rattle.fst_bytes.specs.Spelling.{HasField, long, weight_field, word}
 use Rattle.fst_fields.specs.Reading.{◌>>=◌}
 use Rattle.fst_bytes.specs.Reading.{non_zero_weight_at, file_weight_at, number_where}
+use Rattle.fst_bytes.proofs.Loops.{many_again, many_takes}
 use Rattle.fst_bytes.proofs.Numbers.{longs, where_again, where_takes, words}
 use Rattle.fst_bytes.proofs.Steps.{IsBytes, Reads, Takes, Takes-none, Takes-then, bind_ok, ok_is}
 use Rattle.fst_bytes.proofs.WeightFields.{file_weight_again, file_weight_takes, non_zero_weight_again, non_zero_weight_takes}
@@ -55,25 +56,10 @@ arc_again kind states bytes at a rest few within good e =
     record { next = n.next; gives = rw (i.gives, o.gives, w.gives, n.gives) refl; left = n.left; within = n.within }
 
 arcs_takes : (kind : ArcType) (states count : ℕ) (bytes : List ℕ) (at : ℕ) (arcs : List (Arc Cost ℕ)) (next : ℕ) → at ≤ length bytes → IsBytes bytes → arcs_at kind states count bytes at ≡ Ok (arcs, next) → Takes bytes at (flat_map (arc_fields kind) arcs) next × AllByRecursion (GoodArc kind states) arcs × (length arcs ≡ count)
-unfolding arcs_at
-arcs_takes kind states zero bytes at arcs next within fits e =
-    subst (λ (p : List (Arc Cost ℕ) × ℕ). Takes bytes at (flat_map (arc_fields kind) p.0) p.1 × AllByRecursion (GoodArc kind states) p.0 × (length p.0 ≡ 0)) (ok_is {A = List (Arc Cost ℕ) × ℕ} {E = BinaryFault} ([], at) (arcs, next) e) (Takes-none bytes at within, tt, refl)
-arcs_takes kind states (suc count) bytes at arcs next within fits e =
-    let b = bind_ok (arc_at kind states bytes at) (λ first. arcs_at kind states count bytes first.1 >>= λ others. Ok (first.0 ∷ others.0, others.1)) (arcs, next) e in
-    let c = bind_ok (arcs_at kind states count bytes b.0.1) (λ others. Ok (b.0.0 ∷ others.0, others.1)) (arcs, next) b.2 in
-    let t0 = arc_takes kind states bytes at b.0.0 b.0.1 fits b.1 in
-    let t1 = arcs_takes kind states count bytes b.0.1 c.0.0 c.0.1 t0.0.within fits c.1 in
-    let both = Takes-then bytes at (arc_fields kind b.0.0) b.0.1 (flat_map (arc_fields kind) c.0.0) c.0.1 t0.0 t1.0 in
-    subst (λ (p : List (Arc Cost ℕ) × ℕ). Takes bytes at (flat_map (arc_fields kind) p.0) p.1 × AllByRecursion (GoodArc kind states) p.0 × (length p.0 ≡ suc count)) (ok_is {A = List (Arc Cost ℕ) × ℕ} {E = BinaryFault} (b.0.0 ∷ c.0.0, c.0.1) (arcs, next) c.2) (both, (t0.1, t1.1), ap suc t1.2)
+arcs_takes kind states count bytes at arcs next within fits e = many_takes (arc_at kind states bytes) (arc_fields kind) (GoodArc kind states) bytes (λ i a end _ read. arc_takes kind states bytes i a end fits read) count at arcs next within e
 
 arcs_again : (kind : ArcType) (states : ℕ) (bytes : List ℕ) (at : ℕ) (arcs : List (Arc Cost ℕ)) (rest : List ℕ) → states < 2 ^ 32 → at ≤ length bytes → AllByRecursion (GoodArc kind states) arcs → drop at bytes ≡ flat_map (arc_fields kind) arcs ++ rest → Reads bytes (arcs_at kind states (length arcs) bytes at) arcs rest
-unfolding arcs_at
-arcs_again kind states bytes at [] rest few within good e = record { next = at; gives = refl; left = e; within = within }
-arcs_again kind states bytes at (a ∷ arcs) rest few within good e =
-    let apart : drop at bytes ≡ arc_fields kind a ++ (flat_map (arc_fields kind) arcs ++ rest) = e ∙ append_assoc (arc_fields kind a) (flat_map (arc_fields kind) arcs) rest in
-    let first = arc_again kind states bytes at a (flat_map (arc_fields kind) arcs ++ rest) few within good.0 apart in
-    let others = arcs_again kind states bytes first.next arcs rest few first.within good.1 first.left in
-    record { next = others.next; gives = rw (first.gives, others.gives) refl; left = others.left; within = others.within }
+arcs_again kind states bytes at arcs rest few within good e = many_again (arc_at kind states bytes) (arc_fields kind) (GoodArc kind states) bytes (λ i a left. arc_again kind states bytes i a left few) at arcs rest within good e
 
 -- ---- states
 

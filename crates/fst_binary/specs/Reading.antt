@@ -7,7 +7,7 @@ use Rattle.fst_semiring.specs.declared.arc_type.ArcType.{ArcType}
 use Rattle.fst_semiring.specs.Cost.{Cost}
 use Rattle.fst_semiring.specs.Names.{known}
 use Rattle.fst_bytes.specs.declared.fault.FileFault.{FileFault}
-use Rattle.fst_bytes.specs.Reading.{arc_type_at, fault, file_weight_at, label_at, named_at, non_zero_weight_at, number_at, number_where}
+use Rattle.fst_bytes.specs.Reading.{arc_type_at, fault, file_weight_at, label_at, many_at, named_at, non_zero_weight_at, number_at, number_where}
 use Rattle.fst_machine.specs.Machine.{Arc, State, Machine, arc_total, most_arcs, most_states}
 use Rattle.fst_binary.specs.declared.fault.BinaryKind.{BinaryKind}
 use Rattle.fst_binary.specs.declared.fault.BinaryKind.TheVariants.{Short, BadMagic, UnknownFstType, UnknownArcType, BadVersion, BadFlags, BadStart}
@@ -79,12 +79,8 @@ arc_at kind states bytes at = do
   Ok (record { ilabel = ilabel.0; olabel = olabel.0; weight = weight.0; next = next.0 }, next.1)
 
 -- so many arcs
-unfoldable pub arcs_at : ArcType → ℕ → ℕ → List ℕ → ℕ → Result (List (Arc Cost ℕ) × ℕ) BinaryFault
-arcs_at kind states zero bytes at = Ok ([], at)
-arcs_at kind states (suc n) bytes at = do
-  first ← arc_at kind states bytes at
-  others ← arcs_at kind states n bytes first.1
-  Ok (first.0 ∷ others.0, others.1)
+abbrev pub arcs_at : ArcType → ℕ → ℕ → List ℕ → ℕ → Result (List (Arc Cost ℕ) × ℕ) BinaryFault
+arcs_at kind states n bytes at = many_at (arc_at kind states bytes) n at
 
 -- a state of a machine with so many states and arcs, of which the states before have some
 unfoldable pub state_at : ArcType → ℕ → ℕ → ℕ → List ℕ → ℕ → Result (State Cost × ℕ) BinaryFault

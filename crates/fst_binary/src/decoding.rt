@@ -9,7 +9,10 @@ ghost use Rattle.fst_binary.specs.Reading.{Gives, arc_at, arc_type_of_bytes, arc
 ghost use Rattle.fst_bytes.specs.Reading.{number_where};
 ghost use Rattle.fst_bytes.specs.Stopping.{Answers};
 
-use crate::fault::{BinaryFault, BinaryKind};
+use crate::fault::BinaryFault;
+use crate::fault::BinaryKind::{
+    self, BadCount, BadLabel, BadNext, BadWeight, Extra, Memory, Short,
+};
 use crate::header::{Header, read_header, read_types};
 use fst_bytes::{
     Stopped, expect_end, fault_at, most_that_fit, read_count, read_label, read_non_zero_weight,
@@ -29,11 +32,11 @@ fn read_next(bytes: &[u8], at: usize, states: u32) -> Result<(u32, usize), Binar
     ensures value { result ≡ number_where (λ n. nat_lt n states) BinaryKind.Short BinaryKind.BadNext 4 bytes.now at }
     ensures behind { IfOk result (λ x. x.1 ≤ length bytes.now) }
 {
-    let (next, behind) = read_word(bytes, at, BinaryKind::Short)?;
+    let (next, behind) = read_word(bytes, at, Short)?;
     if next < states {
         Ok((next, behind))
     } else {
-        Err(fault_at(at, BinaryKind::BadNext))
+        Err(fault_at(at, BadNext))
     }
 }
 
@@ -48,14 +51,9 @@ fn read_arc<W: Weight>(
     ensures value { result_map_both (λ x. (valued_arc W.value x.0, x.1)) (λ e. e) result ≡ arc_at W.KIND states bytes.now at }
     ensures behind { IfOk result (λ x. x.1 ≤ length bytes.now) }
 {
-    let (ilabel, behind) = read_label(bytes, at, BinaryKind::Short, BinaryKind::BadLabel)?;
-    let (olabel, behind) = read_label(bytes, behind, BinaryKind::Short, BinaryKind::BadLabel)?;
-    let (weight, behind) = read_non_zero_weight(
-        bytes,
-        behind,
-        BinaryKind::Short,
-        BinaryKind::BadWeight,
-    )?;
+    let (ilabel, behind) = read_label(bytes, at, Short, BadLabel)?;
+    let (olabel, behind) = read_label(bytes, behind, Short, BadLabel)?;
+    let (weight, behind) = read_non_zero_weight(bytes, behind, Short, BadWeight)?;
     let (next, behind) = read_next(bytes, behind, states)?;
     let arc = FstArc {
         ilabel,
@@ -105,13 +103,7 @@ fn read_arc_count(
     ensures most { IfOk result (λ x. before + x.0 ≤ arcs) }
     ensures behind { IfOk result (λ x. x.1 ≤ length bytes.now) }
 {
-    read_count(
-        bytes,
-        at,
-        u64::from(arcs - before),
-        BinaryKind::Short,
-        BinaryKind::BadCount,
-    )
+    read_count(bytes, at, u64::from(arcs - before), Short, BadCount)
 }
 
 /// The final weight of a state, and the offset after its arcs, which are put in place of those of a list. The
@@ -130,7 +122,7 @@ fn read_state<W: Weight>(
     ensures most { OnOk result (before + length arcs.new.items ≤ header.arcs) }
     ensures behind { IfOk result (λ x. x.1 ≤ length bytes.now) }
 {
-    let (last, behind) = read_weight(bytes, at, BinaryKind::Short, BinaryKind::BadWeight)?;
+    let (last, behind) = read_weight(bytes, at, Short, BadWeight)?;
     let (count, behind) = read_arc_count(bytes, behind, header.arcs, before)?;
     let behind = read_arcs(bytes, behind, header.states, count as usize, arcs)?;
     Ok((last, behind))
@@ -188,7 +180,7 @@ fn expect_arcs(arcs: usize, header: Header) -> Result<(), BinaryFault>
     if arcs == header.arcs as usize {
         Ok(())
     } else {
-        Err(fault_at(header.counted, BinaryKind::BadCount))
+        Err(fault_at(header.counted, BadCount))
     }
 }
 
@@ -207,7 +199,7 @@ fn read_machine<W: Weight>(
 {
     let (states, behind) = read_states(alloc, bytes, header)?;
     expect_arcs(states.arc_count(), header)?;
-    expect_end(bytes, behind, BinaryKind::Extra)?;
+    expect_end(bytes, behind, Extra)?;
     Ok(states.into_machine(header.start))
 }
 
@@ -228,7 +220,7 @@ fn read_whole<W: Weight>(alloc: Global, bytes: &[u8]) -> Result<Fst<W>, BinaryFa
 {
     match read_file(alloc, bytes) {
         Ok(fst) => Ok(fst),
-        Err(stopped) => Err(stopped.into_fault(BinaryKind::Memory)),
+        Err(stopped) => Err(stopped.into_fault(Memory)),
     }
 }
 

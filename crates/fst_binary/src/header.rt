@@ -7,7 +7,10 @@ ghost use Rattle.fst_semiring.specs.Names.{known};
 ghost use Rattle.fst_bytes.specs.Reading.{named_at};
 ghost use Rattle.fst_binary.specs.Reading.{arc_type_of_bytes, header_at, is_start, start_at, types_at};
 
-use crate::fault::{BinaryFault, BinaryKind};
+use crate::fault::BinaryFault;
+use crate::fault::BinaryKind::{
+    self, BadCount, BadFlags, BadMagic, BadStart, BadVersion, Short, UnknownArcType, UnknownFstType,
+};
 use fst_bytes::{
     expect_word, fault_at, read_arc_type, read_bytes, read_count, read_long, read_word,
 };
@@ -36,15 +39,15 @@ fn read_fst_type(bytes: &[u8], at: usize) -> Result<usize, BinaryFault>
     ensures value { result_map_both (λ behind. (codes "vector", behind)) (λ e. e) result ≡ named_at (λ text. text) (codes "vector" ∷ []) BinaryKind.Short BinaryKind.UnknownFstType bytes.now at }
     ensures behind { IfOk result (λ behind. behind ≤ length bytes.now) }
 {
-    let (count, behind) = read_word(bytes, at, BinaryKind::Short)?;
+    let (count, behind) = read_word(bytes, at, Short)?;
     if count != 6 {
-        return Err(fault_at(at, BinaryKind::UnknownFstType));
+        return Err(fault_at(at, UnknownFstType));
     }
-    let (name, behind) = read_bytes(bytes, behind, count as usize, BinaryKind::Short)?;
+    let (name, behind) = read_bytes(bytes, behind, count as usize, Short)?;
     if name == b"vector".as_slice() {
         Ok(behind)
     } else {
-        Err(fault_at(at, BinaryKind::UnknownFstType))
+        Err(fault_at(at, UnknownFstType))
     }
 }
 
@@ -54,15 +57,9 @@ pub(crate) fn read_types(bytes: &[u8]) -> Result<(ArcType, usize), BinaryFault>
     ensures value { result ≡ types_at known bytes.now }
     ensures behind { IfOk result (λ x. x.1 ≤ length bytes.now) }
 {
-    let behind = expect_word(
-        bytes,
-        0,
-        2_125_659_606,
-        BinaryKind::Short,
-        BinaryKind::BadMagic,
-    )?;
+    let behind = expect_word(bytes, 0, 2_125_659_606, Short, BadMagic)?;
     let behind = read_fst_type(bytes, behind)?;
-    read_arc_type(bytes, behind, BinaryKind::Short, BinaryKind::UnknownArcType)
+    read_arc_type(bytes, behind, Short, UnknownArcType)
 }
 
 /// The arc type of a machine's bytes, or the first fault of the fields up to it. Takes no memory.
@@ -81,13 +78,13 @@ fn read_start(bytes: &[u8], at: usize) -> Result<(Option<u32>, usize), BinaryFau
     ensures value { result ≡ start_at bytes.now at }
     ensures behind { IfOk result (λ x. x.1 ≤ length bytes.now) }
 {
-    let (number, behind) = read_long(bytes, at, BinaryKind::Short)?;
+    let (number, behind) = read_long(bytes, at, Short)?;
     if number == u64::MAX {
         Ok((None, behind))
     } else if number < MOST_STATES as u64 {
         Ok((Some(number as u32), behind))
     } else {
-        Err(fault_at(at, BinaryKind::BadStart))
+        Err(fault_at(at, BadStart))
     }
 }
 
@@ -112,28 +109,16 @@ pub(crate) fn read_header(bytes: &[u8], at: usize) -> Result<Header, BinaryFault
     ensures few_arcs { IfOk result (λ header. header.arcs ≤ most_arcs) }
     ensures behind { IfOk result (λ header. header.behind ≤ length bytes.now) }
 {
-    let behind = expect_word(bytes, at, 2, BinaryKind::Short, BinaryKind::BadVersion)?;
-    let behind = expect_word(bytes, behind, 0, BinaryKind::Short, BinaryKind::BadFlags)?;
-    let (_, start_offset) = read_long(bytes, behind, BinaryKind::Short)?;
+    let behind = expect_word(bytes, at, 2, Short, BadVersion)?;
+    let behind = expect_word(bytes, behind, 0, Short, BadFlags)?;
+    let (_, start_offset) = read_long(bytes, behind, Short)?;
     let (start, behind) = read_start(bytes, start_offset)?;
-    let (states, counted) = read_count(
-        bytes,
-        behind,
-        MOST_STATES as u64,
-        BinaryKind::Short,
-        BinaryKind::BadCount,
-    )?;
+    let (states, counted) = read_count(bytes, behind, MOST_STATES as u64, Short, BadCount)?;
     let states = states as u32;
     if !is_start_of(start, states) {
-        return Err(fault_at(start_offset, BinaryKind::BadStart));
+        return Err(fault_at(start_offset, BadStart));
     }
-    let (arcs, behind) = read_count(
-        bytes,
-        counted,
-        MOST_ARCS as u64,
-        BinaryKind::Short,
-        BinaryKind::BadCount,
-    )?;
+    let (arcs, behind) = read_count(bytes, counted, MOST_ARCS as u64, Short, BadCount)?;
     Ok(Header {
         start,
         states,

@@ -127,6 +127,14 @@ non_zero_weight_at kind short wrong bytes at = do
 
 -- ---- one after the other
 
+-- so many things, each read where the one before it ends
+unfoldable pub many_at : {X E : Type 0} → (ℕ → Result (X × ℕ) E) → ℕ → ℕ → Result (List X × ℕ) E
+many_at read zero at = Ok ([], at)
+many_at read (suc n) at = do
+  first ← read at
+  others ← many_at read n first.1
+  Ok (first.0 ∷ others.0, others.1)
+
 -- what was read before, and what is still read
 abbrev pub with_front : {X E : Type 0} → List X → Result (List X × ℕ) E → Result (List X × ℕ) E
 with_front front read = read >>= λ x. Ok (front ++ x.0, x.1)

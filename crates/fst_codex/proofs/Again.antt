@@ -10,22 +10,17 @@ use Rattle.fst_semiring.specs.Cost.{Cost}
 use Rattle.fst_bytes.specs.Spelling.{HasField, long}
 use Rattle.fst_semiring.specs.Names.{known}
 use Rattle.fst_bytes.proofs.Names.{named_alone, named_of_all}
+use Rattle.fst_bytes.proofs.Loops.{many_again}
 use Rattle.fst_bytes.proofs.Numbers.{longs, where_again}
 use Rattle.fst_bytes.proofs.Steps.{Reads}
 use Rattle.fst_codex.specs.declared.fault.CodexKind.TheVariants.{BadCount, Short}
 use Rattle.fst_codex.specs.Spelling.{HasCodexSpelling, codex_spelling, codex_types, entry_fields, flag}
-use Rattle.fst_codex.specs.Reading.{codex_arc_type_of_bytes, codex_of_bytes, entries_at, table_at}
+use Rattle.fst_codex.specs.Reading.{codex_arc_type_of_bytes, codex_of_bytes, entries_at, entry_at, table_at}
 use Rattle.fst_codex.specs.Table.{Entry, Table, IsEntry, IsTable, most_entries, valued_entry, valued_table}
 use Rattle.fst_codex.proofs.Fields.{GoodEntry, entry_again, flag_again, types_again}
 
 entries_again : (kind : ArcType) (weights : Bool) (bytes : List ℕ) (at : ℕ) (es : List (Entry Cost)) (rest : List ℕ) → at ≤ length bytes → AllByRecursion (GoodEntry kind weights) es → drop at bytes ≡ flat_map (entry_fields kind weights) es ++ rest → Reads bytes (entries_at kind weights (length es) bytes at) es rest
-unfolding entries_at
-entries_again kind weights bytes at [] rest within good stands = record { next = at; gives = refl; left = stands; within = within }
-entries_again kind weights bytes at (e ∷ es) rest within good stands =
-    let apart : drop at bytes ≡ entry_fields kind weights e ++ (flat_map (entry_fields kind weights) es ++ rest) = stands ∙ append_assoc (entry_fields kind weights e) (flat_map (entry_fields kind weights) es) rest in
-    let first = entry_again kind weights bytes at e (flat_map (entry_fields kind weights) es ++ rest) within good.0 apart in
-    let others = entries_again kind weights bytes first.next es rest first.within good.1 first.left in
-    record { next = others.next; gives = rw (first.gives, others.gives) refl; left = others.left; within = others.within }
+entries_again kind weights bytes at es rest within good stands = many_again (entry_at kind weights bytes) (entry_fields kind weights) (GoodEntry kind weights) bytes (λ i e left. entry_again kind weights bytes i e left) at es rest within good stands
 
 paired : {X : Type 0} (P Q : X → Type 0) (xs : List X) → AllByRecursion P xs → AllByRecursion Q xs → AllByRecursion (λ x. P x × Q x) xs
 paired P Q [] f h = tt

@@ -1,5 +1,5 @@
 -- Fields that are read are those that stand there.
-use Rattle.std.proofs.Common.{◌≡◌, ◌≢◌, ℕ, ℤ, pos, zero, suc, ◌+◌, ◌^◌, ◌<◌, ◌≤◌, Bool, true, false, cond, leb, eqb, inl, inr, List, [], ◌∷◌, ◌++◌, length, Some, Ok, refl, sym, ap, subst}
+use Rattle.std.proofs.Common.{◌≡◌, ◌≢◌, ℕ, ℤ, pos, ◌+◌, ◌^◌, ◌<◌, ◌≤◌, Bool, true, false, cond, leb, eqb, inl, inr, List, [], ◌++◌, length, Some, Ok, refl, sym, subst}
 use Rattle.std.specs.Prelude.{bytes_eq, slice_index}
 use Rattle.std.specs.List.{AllByRecursion, find, flat_map}
 use Rattle.std.proofs.lemmas.Bool.{eqb-true, leb-false, leb-true}
@@ -13,6 +13,7 @@ use Rattle.fst_bytes.specs.Spelling.{HasField, text, word}
 use Rattle.fst_semiring.specs.Names.{name_of}
 use Rattle.fst_fields.specs.Reading.{◌>>=◌}
 use Rattle.fst_bytes.proofs.Names.{named_takes, part_takes}
+use Rattle.fst_bytes.proofs.Loops.{many_takes}
 use Rattle.fst_bytes.proofs.Numbers.{where_takes, words}
 use Rattle.fst_bytes.proofs.Steps.{IsBytes, Takes, Takes-none, Takes-then, bind_ok, done, guard_ok, guard_passed, ok_is}
 use Rattle.fst_bytes.proofs.WeightFields.{chosen, non_zero_weight_takes, tag_takes}
@@ -100,13 +101,4 @@ entry_takes kind weights bytes at entry next fits e =
     subst (λ (p : Entry Cost × ℕ). Takes bytes at (entry_fields kind weights p.0) p.1 × GoodEntry kind weights p.0) (ok_is {A = Entry Cost × ℕ} {E = CodexFault} (own, d.0.1) (entry, next) d.2) (three, good)
 
 pub entries_takes : (kind : ArcType) (weights : Bool) (count : ℕ) (bytes : List ℕ) (at : ℕ) (es : List (Entry Cost)) (next : ℕ) → at ≤ length bytes → IsBytes bytes → entries_at kind weights count bytes at ≡ Ok (es, next) → Takes bytes at (flat_map (entry_fields kind weights) es) next × AllByRecursion (GoodEntry kind weights) es × (length es ≡ count)
-unfolding entries_at
-entries_takes kind weights zero bytes at es next within fits e =
-    subst (λ (p : List (Entry Cost) × ℕ). Takes bytes at (flat_map (entry_fields kind weights) p.0) p.1 × AllByRecursion (GoodEntry kind weights) p.0 × (length p.0 ≡ 0)) (ok_is {A = List (Entry Cost) × ℕ} {E = CodexFault} ([], at) (es, next) e) (Takes-none bytes at within, tt, refl)
-entries_takes kind weights (suc count) bytes at es next within fits e =
-    let b = bind_ok (entry_at kind weights bytes at) (λ first. entries_at kind weights count bytes first.1 >>= λ others. Ok (first.0 ∷ others.0, others.1)) (es, next) e in
-    let c = bind_ok (entries_at kind weights count bytes b.0.1) (λ others. Ok (b.0.0 ∷ others.0, others.1)) (es, next) b.2 in
-    let t0 = entry_takes kind weights bytes at b.0.0 b.0.1 fits b.1 in
-    let t1 = entries_takes kind weights count bytes b.0.1 c.0.0 c.0.1 t0.0.within fits c.1 in
-    let both = Takes-then bytes at (entry_fields kind weights b.0.0) b.0.1 (flat_map (entry_fields kind weights) c.0.0) c.0.1 t0.0 t1.0 in
-    subst (λ (p : List (Entry Cost) × ℕ). Takes bytes at (flat_map (entry_fields kind weights) p.0) p.1 × AllByRecursion (GoodEntry kind weights) p.0 × (length p.0 ≡ suc count)) (ok_is {A = List (Entry Cost) × ℕ} {E = CodexFault} (b.0.0 ∷ c.0.0, c.0.1) (es, next) c.2) (both, (t0.1, t1.1), ap suc t1.2)
+entries_takes kind weights count bytes at es next within fits e = many_takes (entry_at kind weights bytes) (entry_fields kind weights) (GoodEntry kind weights) bytes (λ i entry end _ read. entry_takes kind weights bytes i entry end fits read) count at es next within e

@@ -1,6 +1,6 @@
 -- Reading the file form of a codex from left to right, with the first fault that is met. What is read is a value
 -- and the offset after it.
-use Rattle.std.specs.Prelude.{ℕ, zero, suc, ◌+◌, List, [], ◌∷◌, length, Bool, true, false, Result, Ok, nat_le, ◌==◌, if◌then◌else◌, bytes_eq, slice_index}
+use Rattle.std.specs.Prelude.{ℕ, ◌+◌, List, [], ◌∷◌, length, Bool, true, false, Result, Ok, nat_le, ◌==◌, if◌then◌else◌, bytes_eq, slice_index}
 use Rattle.fst_fields.specs.Reading as reading
 use Rattle.fst_fields.specs.Reading.{◌>>=◌}
 use Rattle.fst_semiring.specs.declared.arc_type.ArcType.{ArcType}
@@ -8,7 +8,7 @@ use Rattle.fst_semiring.specs.Cost.{Cost}
 use Rattle.fst_semiring.specs.Names.{known}
 use Rattle.fst_semiring.specs.Semiring.{one_of}
 use Rattle.fst_bytes.specs.declared.fault.FileFault.{FileFault}
-use Rattle.fst_bytes.specs.Reading.{arc_type_at, fault, label_at, non_zero_weight_at, number_where, part_at}
+use Rattle.fst_bytes.specs.Reading.{arc_type_at, fault, label_at, many_at, non_zero_weight_at, number_where, part_at}
 use Rattle.fst_codex.specs.declared.fault.CodexKind.{CodexKind}
 use Rattle.fst_codex.specs.declared.fault.CodexKind.TheVariants.{Short, BadMagic, UnknownArcType, BadFlags, BadCount, BadLabel, BadWeight, Extra, Memory}
 use Rattle.fst_codex.specs.Spelling.{magic}
@@ -72,12 +72,8 @@ entry_at kind weights bytes at = do
   Ok (record { ilabel = ilabel.0; olabel = olabel.0; weight = weight.0 }, weight.1)
 
 -- so many entries
-unfoldable pub entries_at : ArcType → Bool → ℕ → List ℕ → ℕ → Result (List (Entry Cost) × ℕ) CodexFault
-entries_at kind weights zero bytes at = Ok ([], at)
-entries_at kind weights (suc n) bytes at = do
-  first ← entry_at kind weights bytes at
-  others ← entries_at kind weights n bytes first.1
-  Ok (first.0 ∷ others.0, others.1)
+abbrev pub entries_at : ArcType → Bool → ℕ → List ℕ → ℕ → Result (List (Entry Cost) × ℕ) CodexFault
+entries_at kind weights n bytes at = many_at (entry_at kind weights bytes) n at
 
 -- how many bytes an entry has at least: two labels, and a tag where weights stand in the entries
 abbrev pub least_of : Bool → ℕ

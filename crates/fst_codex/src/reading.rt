@@ -10,7 +10,10 @@ ghost use Rattle.fst_codex.specs.Spelling.{HasCodexSpelling, codex_spelling};
 ghost use Rattle.fst_codex.specs.Table.{IsEntry, Table, valued_entry, valued_table};
 
 use crate::codex::{Codex, CodexEntry, MOST_ENTRIES};
-use crate::fault::{CodexFault, CodexKind};
+use crate::fault::CodexFault;
+use crate::fault::CodexKind::{
+    self, BadCount, BadFlags, BadLabel, BadMagic, BadWeight, Extra, Memory, Short, UnknownArcType,
+};
 use fst_bytes::{
     Stopped, expect_end, fault_at, most_that_fit, read_arc_type, read_bytes, read_count,
     read_label, read_non_zero_weight, short_of,
@@ -27,11 +30,11 @@ fn read_magic(bytes: &[u8]) -> Result<usize, CodexFault>
     ensures value { result ≡ magic_at bytes.now }
     ensures behind { IfOk result (λ behind. behind ≤ length bytes.now) }
 {
-    let (magic, behind) = read_bytes(bytes, 0, 8, CodexKind::Short)?;
+    let (magic, behind) = read_bytes(bytes, 0, 8, Short)?;
     if b"FSTCODEX".as_slice() == magic {
         Ok(behind)
     } else {
-        Err(fault_at(0, CodexKind::BadMagic))
+        Err(fault_at(0, BadMagic))
     }
 }
 
@@ -42,7 +45,7 @@ fn read_types(bytes: &[u8]) -> Result<(ArcType, usize), CodexFault>
     ensures behind { IfOk result (λ x. x.1 ≤ length bytes.now) }
 {
     let behind = read_magic(bytes)?;
-    read_arc_type(bytes, behind, CodexKind::Short, CodexKind::UnknownArcType)
+    read_arc_type(bytes, behind, Short, UnknownArcType)
 }
 
 /// The arc type of a codex's bytes, or the first fault of the fields up to it. Takes no memory.
@@ -62,12 +65,12 @@ fn read_flag(bytes: &[u8], at: usize) -> Result<(bool, usize), CodexFault>
     ensures behind { IfOk result (λ x. x.1 ≤ length bytes.now) }
 {
     if at == bytes.len() {
-        return Err(short_of(bytes, CodexKind::Short));
+        return Err(short_of(bytes, Short));
     }
     match bytes[at] {
         0 => Ok((false, at + 1)),
         1 => Ok((true, at + 1)),
-        _ => Err(fault_at(at, CodexKind::BadFlags)),
+        _ => Err(fault_at(at, BadFlags)),
     }
 }
 
@@ -83,7 +86,7 @@ fn read_weight_part<W: Weight>(
     ensures behind { IfOk result (λ x. x.1 ≤ length bytes.now) }
 {
     if weights {
-        read_non_zero_weight(bytes, at, CodexKind::Short, CodexKind::BadWeight)
+        read_non_zero_weight(bytes, at, Short, BadWeight)
     } else {
         Ok((W::one(), at))
     }
@@ -101,8 +104,8 @@ fn read_entry<W: Weight>(
     ensures good { IfOk result (λ x. IsEntry W.KIND W.value weights x.0) }
     ensures behind { IfOk result (λ x. x.1 ≤ length bytes.now) }
 {
-    let (ilabel, behind) = read_label(bytes, at, CodexKind::Short, CodexKind::BadLabel)?;
-    let (olabel, behind) = read_label(bytes, behind, CodexKind::Short, CodexKind::BadLabel)?;
+    let (ilabel, behind) = read_label(bytes, at, Short, BadLabel)?;
+    let (olabel, behind) = read_label(bytes, behind, Short, BadLabel)?;
     let (weight, behind) = read_weight_part(bytes, behind, weights)?;
     let entry = CodexEntry {
         ilabel,
@@ -168,15 +171,9 @@ fn read_table<W: Weight>(alloc: Global, bytes: &[u8], at: usize) -> Result<Codex
     ensures { Answers (λ t. valued_table W.value t) result (table_at W.KIND bytes.now at) }
 {
     let (weights, behind) = read_flag(bytes, at)?;
-    let (count, behind) = read_count(
-        bytes,
-        behind,
-        MOST_ENTRIES as u64,
-        CodexKind::Short,
-        CodexKind::BadCount,
-    )?;
+    let (count, behind) = read_count(bytes, behind, MOST_ENTRIES as u64, Short, BadCount)?;
     let (entries, behind) = read_entries(alloc, bytes, behind, weights, count as usize)?;
-    expect_end(bytes, behind, CodexKind::Extra)?;
+    expect_end(bytes, behind, Extra)?;
     Ok(Codex::new(weights, entries))
 }
 
@@ -196,7 +193,7 @@ fn read_whole<W: Weight>(alloc: Global, bytes: &[u8]) -> Result<Codex<W>, CodexF
 {
     match read_file(alloc, bytes) {
         Ok(codex) => Ok(codex),
-        Err(stopped) => Err(stopped.into_fault(CodexKind::Memory)),
+        Err(stopped) => Err(stopped.into_fault(Memory)),
     }
 }
 

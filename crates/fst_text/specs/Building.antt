@@ -109,6 +109,6 @@ said value (Arc source dest ilabel olabel weight) = arc_entry source (record { i
 said value (Final state weight) = final_entry state (value weight)
 
 -- A building has room for an entry, whose labels are in range, and whose weight is not Zero where it is an arc.
-abbrev pub Fits : Bool → Building → Entry → Type 0
-Fits kept b (arc_entry source a) = ((room_of kept b).state source ≡ true) × ((room_of kept b).states source a.next ≡ true) × ((room_of kept b).arc ≡ true) × (a.ilabel ≤ greatest_label) × (a.olabel ≤ greatest_label) × (a.weight ≢ infinite)
-Fits kept b (final_entry state w) = (room_of kept b).state state ≡ true
+abbrev pub HasRoomFor : Bool → Building → Entry → Type 0
+HasRoomFor kept b (arc_entry source a) = ((room_of kept b).state source ≡ true) × ((room_of kept b).states source a.next ≡ true) × ((room_of kept b).arc ≡ true) × (a.ilabel ≤ greatest_label) × (a.olabel ≤ greatest_label) × (a.weight ≢ infinite)
+HasRoomFor kept b (final_entry state w) = (room_of kept b).state state ≡ true

@@ -8,7 +8,7 @@ ghost use Rattle.fst_semiring.specs.Cost.{infinite};
 ghost use Rattle.fst_machine.specs.Machine.{arc_total, bare_state, changed, greatest_label, most_arcs, most_states, with_arc};
 ghost use Rattle.fst_text.specs.Entries.{arc_entry, final_entry};
 ghost use Rattle.fst_text.specs.Grammar.{acceptor_line, arc_line, arc_weight_of_field, entry_of_fields, final_line, label_of_field, output_label, state_of_field, transducer_line, weight_of_field};
-ghost use Rattle.fst_text.specs.Building.{Fits, IsPlaced, after_line, built, nothing_built, or_start, place_of, room_of, said, with_entry, with_number, with_state};
+ghost use Rattle.fst_text.specs.Building.{HasRoomFor, IsPlaced, after_line, built, nothing_built, or_start, place_of, room_of, said, with_entry, with_number, with_state};
 
 use crate::entry::LineEntry;
 use crate::fault::TextFault;
@@ -293,7 +293,7 @@ impl<W: Weight> Builder<W> {
         weight: W,
     ) -> Result<(), AllocError>
         requires placed { IsPlaced (built W.value self.old) }
-        requires fits { Fits kept (built W.value self.old) (arc_entry source (record { ilabel = ilabel; olabel = olabel; weight = W.value weight; next = dest })) }
+        requires fits { HasRoomFor kept (built W.value self.old) (arc_entry source (record { ilabel = ilabel; olabel = olabel; weight = W.value weight; next = dest })) }
         ensures added { OnOk result (built W.value self.new ≡ with_entry kept (built W.value self.old) (arc_entry source (record { ilabel = ilabel; olabel = olabel; weight = W.value weight; next = dest }))) }
         ensures placed { OnOk result (IsPlaced (built W.value self.new)) }
     {
@@ -328,7 +328,7 @@ impl<W: Weight> Builder<W> {
     /// Adds what a line says, for which there is room.
     fn add_entry(&mut self, kept: bool, entry: LineEntry<W>) -> Result<(), AllocError>
         requires placed { IsPlaced (built W.value self.old) }
-        requires fits { Fits kept (built W.value self.old) (said W.value entry) }
+        requires fits { HasRoomFor kept (built W.value self.old) (said W.value entry) }
         ensures added { OnOk result (built W.value self.new ≡ with_entry kept (built W.value self.old) (said W.value entry)) }
         ensures placed { OnOk result (IsPlaced (built W.value self.new)) }
     {
@@ -357,7 +357,7 @@ impl<W: Weight> Builder<W> {
         weight: Option<&[u8]>,
     ) -> Result<LineEntry<W>, TextFault>
         ensures read { IsRead (said W.value) result (arc_line W.KIND options.now line (room_of options.now.keep_state_numbering (built W.value self.now)) source.now dest.now ilabel.now (option_map (λ f. f.now) olabel.entry) (option_map (λ f. f.now) weight.entry)) }
-        ensures fits { IfOk result (λ e. Fits options.now.keep_state_numbering (built W.value self.now) (said W.value e)) }
+        ensures fits { IfOk result (λ e. HasRoomFor options.now.keep_state_numbering (built W.value self.now) (said W.value e)) }
     {
         let kept = options.keep_state_numbering;
         let source = self.read_first(kept, line, source)?;
@@ -387,7 +387,7 @@ impl<W: Weight> Builder<W> {
         weight: Option<&[u8]>,
     ) -> Result<LineEntry<W>, TextFault>
         ensures read { IsRead (said W.value) result (final_line W.KIND line (room_of options.now.keep_state_numbering (built W.value self.now)) state.now (option_map (λ f. f.now) weight.entry)) }
-        ensures fits { IfOk result (λ e. Fits options.now.keep_state_numbering (built W.value self.now) (said W.value e)) }
+        ensures fits { IfOk result (λ e. HasRoomFor options.now.keep_state_numbering (built W.value self.now) (said W.value e)) }
     {
         let state = self.read_first(options.keep_state_numbering, line, state)?;
         let weight = read_weight::<W>(line, weight)?;
@@ -403,7 +403,7 @@ impl<W: Weight> Builder<W> {
         rest: &[u8],
     ) -> Result<LineEntry<W>, TextFault>
         ensures read { IsRead (said W.value) result (entry_of_fields W.KIND options.now line (room_of options.now.keep_state_numbering (built W.value self.now)) (first.now ∷ fields_of rest.now)) }
-        ensures fits { IfOk result (λ e. Fits options.now.keep_state_numbering (built W.value self.now) (said W.value e)) }
+        ensures fits { IfOk result (λ e. HasRoomFor options.now.keep_state_numbering (built W.value self.now) (said W.value e)) }
     {
         let Some((second, rest)) = next_field(rest) else {
             return self.read_final(options, line, first, None);
@@ -428,7 +428,7 @@ impl<W: Weight> Builder<W> {
         rest: &[u8],
     ) -> Result<LineEntry<W>, TextFault>
         ensures read { IsRead (said W.value) result (acceptor_line W.KIND options.now line (room_of options.now.keep_state_numbering (built W.value self.now)) (source.now ∷ dest.now ∷ label.now ∷ fields_of rest.now)) }
-        ensures fits { IfOk result (λ e. Fits options.now.keep_state_numbering (built W.value self.now) (said W.value e)) }
+        ensures fits { IfOk result (λ e. HasRoomFor options.now.keep_state_numbering (built W.value self.now) (said W.value e)) }
     {
         let Some((weight, rest)) = next_field(rest) else {
             return self.read_arc(options, line, source, dest, label, None, None);
@@ -450,7 +450,7 @@ impl<W: Weight> Builder<W> {
         rest: &[u8],
     ) -> Result<LineEntry<W>, TextFault>
         ensures read { IsRead (said W.value) result (transducer_line W.KIND options.now line (room_of options.now.keep_state_numbering (built W.value self.now)) (source.now ∷ dest.now ∷ ilabel.now ∷ fields_of rest.now)) }
-        ensures fits { IfOk result (λ e. Fits options.now.keep_state_numbering (built W.value self.now) (said W.value e)) }
+        ensures fits { IfOk result (λ e. HasRoomFor options.now.keep_state_numbering (built W.value self.now) (said W.value e)) }
     {
         let Some((olabel, rest)) = next_field(rest) else {
             return Err(TextFault::BadColumns { line });

@@ -1,5 +1,5 @@
 -- Keeping just the useful states of a machine keeps its successful paths, one to one.
-use Rattle.std.proofs.Common.{◌≡◌, ℕ, List, Some, slice_get, sym, refl, ◌∙◌, subst}
+use Rattle.std.proofs.Common.{◌≡◌, ℕ, List, Some, slice_get, sym, ◌∙◌, subst}
 use Rattle.std.proofs.lemmas.Option.{same_Some}
 use Rattle.fst_semiring.specs.Cost.{Cost}
 use Rattle.fst_semiring.specs.declared.arc_type.ArcType.{ArcType}
@@ -8,7 +8,7 @@ use Rattle.fst_machine.specs.Graph.{graph_of}
 use Rattle.fst_machine.specs.Connected.{IsConnected, IsKeptAt}
 use Rattle.fst_machine.proofs.Connected.{Kept_has, Kept_from, accessible_next, connected_serves, machine_serves, one_arc, one_place}
 use Rattle.fst_machine.proofs.Elements.{at_Has}
-use Rattle.fst_trim.specs.KeptPaths.{KeepsPaths}
+use Rattle.fst_trim.specs.KeptPaths.{IsConnectedOn, KeepsPaths}
 use Rattle.fst_trim.proofs.OneToOne.{TiesArcs, TiesOnce, tied_one_to_one}
 
 module _ (m c : Machine Cost) (h : IsConnected m c) where
@@ -43,3 +43,6 @@ module _ (m c : Machine Cost) (h : IsConnected m c) where
   -- keeping the useful states keeps the successful paths
   pub connected_keeps : (kind : ArcType) → KeepsPaths kind m c h.kept
   connected_keeps kind = tied_one_to_one (λ (p i : ℕ). slice_get h.kept i ≡ Some p) (λ (p i : ℕ). IsKeptAt h.kept ((graph_of m).arcs p)) (graph_of m) (graph_of c) connected_ties machine_ties kept_once kept_only kind
+
+pub connected_on_keeps : (m c : Machine Cost) (kept : List ℕ) (kind : ArcType) → IsConnectedOn m c kept → KeepsPaths kind m c kept
+connected_on_keeps m c kept kind on = subst (λ (ps : List ℕ). KeepsPaths kind m c ps) on.1 (connected_keeps m c on.0 kind)

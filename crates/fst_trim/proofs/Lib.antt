@@ -13,3 +13,5 @@ pub mod Rearranged
 pub mod Valued
 pub mod SortedPaths
 pub mod Joined
+pub mod Placing
+pub mod LinkLists

@@ -1,5 +1,5 @@
 -- Sorting the arcs of each state keeps the successful paths, one to one.
-use Rattle.std.proofs.Common.{◌≡◌, ◌⊎◌, inl, inr, ℕ, ◌<◌, ◌≤◌, Bool, true, List, [], Some, filter, length, map, nat_eq, slice_get, is_lt, nat_cmp, refl, sym, ap, ◌∙◌, subst, arith}
+use Rattle.std.proofs.Common.{◌≡◌, ◌⊎◌, inl, inr, ℕ, ◌<◌, ◌≤◌, Bool, true, List, [], Some, filter, length, map, slice_get, is_lt, nat_cmp, refl, sym, ap, ◌∙◌, subst, arith}
 use Rattle.std.specs.List.Sorted.{IsStableByKey, ties}
 use Rattle.std.proofs.lemmas.Bool.{cases_lt, eq-eqb}
 use Rattle.std.proofs.lemmas.Option.{same_Some}
@@ -11,7 +11,7 @@ use Rattle.fst_trim.specs.declared.side.Side.{Side}
 use Rattle.fst_trim.specs.Sides.{label_of}
 use Rattle.fst_trim.specs.Sorting.{IsArcSorted, IsMovedPlace, SortsPaths, has_label}
 use Rattle.fst_trim.proofs.Looking.{look, look_past}
-use Rattle.fst_trim.proofs.OneToOne.{TiesArcs, TiesOnce, tied_one_to_one}
+use Rattle.fst_trim.proofs.OneToOne.{TiesArcs, tied_one_to_one}
 use Rattle.fst_trim.proofs.Ranks.{rank, rank_at, rank_from, rank_once, ties_is}
 use Rattle.fst_trim.proofs.Rearranged.{read_inside, rearranged_serves, sorted_is_rearranged, turned}
 use Rattle.fst_trim.proofs.Valued.{stable_sort_valued}

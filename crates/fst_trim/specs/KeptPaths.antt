@@ -5,8 +5,13 @@ use Rattle.fst_semiring.specs.declared.arc_type.ArcType.{ArcType}
 use Rattle.fst_machine.specs.Machine.{Machine}
 use Rattle.fst_machine.specs.Graph.{graph_of}
 use Rattle.fst_machine.specs.Paths.{Transition}
-use Rattle.fst_machine.specs.Connected.{IsKeptAt}
+use Rattle.fst_machine.specs.Connected.{IsConnected, IsKeptAt}
 use Rattle.fst_trim.specs.OneToOne.{Tied, IsOneToOne}
+
+-- c is m connected, and these are the states that it keeps: state i of c is the i-th of them, with the arcs between
+-- them in their order
+abbrev pub IsConnectedOn : Machine Cost → Machine Cost → List ℕ → Type 0
+IsConnectedOn m c kept = (h : IsConnected m c) × (h.kept ≡ kept)
 
 -- The second path goes through the states of the first by their new numbers, and by their arcs, in their new
 -- places.

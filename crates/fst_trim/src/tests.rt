@@ -1,10 +1,10 @@
 //! Tables of small machines, with answers from the definitions.
 
 use super::{
-    Info, Side, arcsort, connect, info, is_acceptor, is_deterministic, is_sorted, not_acceptor_at,
-    not_deterministic_at,
+    Connected, Info, Link as ArcLink, Links, Side, arcsort, connect, connect_kept, info,
+    is_acceptor, is_deterministic, is_sorted, not_acceptor_at, not_deterministic_at,
 };
-use fst_machine::{Fst, FstArc, GrowFault, MOST_STATES, Step};
+use fst_machine::{Fst, FstArc, GrowFault, MOST_STATES, Step, WideFst};
 use fst_semiring::{ArcType, Tropical, Weight};
 use std::process::Abort;
 use std::test::Fail;
@@ -355,5 +355,73 @@ fn counts_what_is_there(rt: HostRuntime) -> Result<(), Fail> {
         deterministic: false,
     };
     assert!(rt; said == wanted);
+    Ok(())
+}
+
+/// Whether the links lead to these states and have these places.
+fn leads<V>(links: &[ArcLink<V>], ends: &[(u32, u32)]) -> bool {
+    if links.len() != ends.len() {
+        return false;
+    }
+    for place in 0..links.len() {
+        let link = &links[place];
+        let (next, at) = ends[place];
+        if link.next != next || link.place != at {
+            return false;
+        }
+    }
+    true
+}
+
+#[test]
+fn lists_the_links_of_each_state(rt: HostRuntime) -> Result<(), Fail> {
+    let mut fst: Fst<Tropical> = Fst::new(rt.alloc());
+    let arcs = [
+        (0, 5, 0, 1),
+        (0, 0, 0, 1),
+        (1, 2, 2, 0),
+        (1, 0, 3, 1),
+        (1, 0, 0, 1),
+    ];
+    machine(&rt, &mut fst, 2, &arcs)?;
+    let links = Links::of(rt.alloc(), &fst)?;
+    assert!(rt; links.len() == 2);
+    assert!(rt; leads(links.links(0), &[(1, 0), (1, 1)]));
+    assert!(rt; leads(links.links(1), &[(0, 0), (1, 1), (1, 2)]));
+    let epsilons = Links::epsilons(rt.alloc(), &fst)?;
+    assert!(rt; epsilons.len() == 2);
+    assert!(rt; leads(epsilons.links(0), &[(1, 1)]));
+    assert!(rt; leads(epsilons.links(1), &[(1, 2)]));
+    let turned = Links::turned(rt.alloc(), &fst)?;
+    assert!(rt; turned.len() == 2);
+    assert!(rt; leads(turned.links(0), &[(1, 0)]));
+    assert!(rt; leads(turned.links(1), &[(0, 0), (0, 1), (1, 1), (1, 2)]));
+    Ok(())
+}
+
+#[test]
+fn lists_the_links_of_wide_machines(rt: HostRuntime) -> Result<(), Fail> {
+    let fst: WideFst<Tropical> = WideFst::new(rt.alloc());
+    let links = Links::of(rt.alloc(), &fst)?;
+    assert!(rt; links.len() == 0);
+    let turned = Links::turned(rt.alloc(), &fst)?;
+    assert!(rt; turned.len() == 0);
+    Ok(())
+}
+
+#[test]
+fn lists_the_kept_states(rt: HostRuntime) -> Result<(), Fail> {
+    let mut fst: Fst<Tropical> = Fst::new(rt.alloc());
+    machine(
+        &rt,
+        &mut fst,
+        4,
+        &[(1, 1, 1, 0), (1, 2, 2, 3), (0, 3, 3, 3)],
+    )?;
+    set_ends(&rt, &mut fst, Some(1), &[3]);
+    let Connected { machine, kept } = connect_kept(rt.alloc(), &fst)?;
+    assert!(rt; kept.as_slice() == [0, 1, 3].as_slice());
+    assert!(rt; machine.start() == Some(1));
+    assert!(rt; machine.states() == 3);
     Ok(())
 }

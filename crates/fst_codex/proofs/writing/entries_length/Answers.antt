@@ -4,7 +4,7 @@ use Rattle.fst_bytes.specs.Spelling.{HasField}
 use Rattle.fst_bytes.proofs.Lists.{item_counted, item_left, item_more}
 use Rattle.fst_codex.specs.Spelling.{entry_fields, weight_part}
 use Rattle.fst_codex.specs.Table.{Entry, valued_entry}
-use Rattle.fst_codex.proofs.EntryLoops.{length-entry_fields}
+use Rattle.fst_codex.proofs.Lengths.{length-entry_fields}
 use Rattle.fst_codex.proofs.writing.entries_length.Goals as goal
 
 pub loop-entry-preserved : goal.loop-entry-preserved

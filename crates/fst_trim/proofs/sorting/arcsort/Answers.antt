@@ -1,5 +1,5 @@
-use Rattle.std.proofs.Common.{◌≡◌, ℕ, List, sym, subst, arith}
-use Rattle.fst_machine.specs.Machine.{Arc, Machine, most_arcs, valued}
+use Rattle.std.proofs.Common.{ℕ, List, sym, subst, arith}
+use Rattle.fst_machine.specs.Machine.{Arc, Machine, most_arcs}
 use Rattle.fst_trim.specs.Sorting.{IsArcSorted, IsStableSort}
 use Rattle.fst_trim.proofs.Rearranged.{rearranged_machine, rearranged-Rel, sorted_is_rearranged, sort_ends, sort_more, sort_room}
 use Rattle.fst_trim.proofs.SortedPaths.{sorted_paths}
