@@ -4,6 +4,7 @@ use Rattle.std.specs.Prelude.{get_or}
 use Rattle.fst_semiring.specs.declared.arc_type.ArcType.{ArcType}
 use Rattle.fst_semiring.specs.Cost.{Cost}
 use Rattle.fst_machine.specs.Machine.{Machine, valued}
+use Rattle.fst_fields.specs.Reading as reading
 use Rattle.fst_rational.specs.declared.fault.RationalFault.{RationalFault}
 use Rattle.fst_rational.specs.declared.fault.RationalFault.TheVariants as sizes
 use Rattle.fst_rational.specs.declared.pairs.PairsFault.{PairsFault}
@@ -16,14 +17,16 @@ use Rattle.fst_symbols.specs.Symbols.{Symbol}
 use Rattle.fst_symbols.specs.Reading.{Gives, table_of_text}
 use Rattle.fst_symbols.specs.declared.fault.SymbolsFault.{SymbolsFault}
 use Rattle.fst_symbols.specs.declared.fault.SymbolsFault.TheVariants as tables
+use Rattle.fst_text.specs.Grammar.{machine_of_text}
 use Rattle.fst_text.specs.Printed.{Prints, text_of_machine}
+use Rattle.fst_text.specs.declared.fault.TextFault.{TextFault}
+use Rattle.fst_text.specs.declared.fault.TextFault.TheVariants as texts
 use Rattle.fst_text.specs.declared.fault.PrintFault.{PrintFault}
 use Rattle.fst_text.specs.declared.fault.PrintFault.TheVariants as printing
-use Rattle.fst_binary.specs.Reading.{Fails, arc_type_of_bytes, machine_of_bytes}
-use Rattle.fst_binary.specs.Reading.{BinaryFault}
+use Rattle.fst_binary.specs.Reading.{BinaryFault, Fails, arc_type_of_bytes, machine_of_bytes}
 use Rattle.fst_binary.specs.declared.fault.BinaryKind.TheVariants as kinds
 use Rattle.fst_binary.specs.Spelling.{spelling}
-use Rattle.fst_trim.specs.Sorting.{IsArcSorted}
+use Rattle.fst_trim.specs.Sorting.{IsArcSorted, SortsPaths}
 use Rattle.fst_trim.specs.declared.side.Side.{Side}
 use Rattle.fst_trim.proofs.Valued.{IsArcSorted-valued}
 use Rattle.fst_words.specs.declared.options.Options.{Options}
@@ -31,11 +34,11 @@ use Rattle.fst_words.specs.declared.verb.Verb.{Verb}
 use Rattle.fst_command.specs.Contents.{Choices, Renaming, Typed, AreMachines, typed, typed_by, machine_of_file}
 use Rattle.fst_command.specs.declared.refusal.Refusal.{Refusal}
 use Rattle.fst_command.specs.declared.refusal.Refusal.TheVariants as refusals
-use Rattle.fst_command.specs.Causes.{Cause, bad_binary, bad_pairs, bad_symbols, kinds_differ, too_large, unprintable, Answer, no_memory, refused}
-use Rattle.fst_command.specs.Checks.{Check, HasOther, IsPast, KindsDiffer, Passes, length_check, symbols_check, pairs_check, binary_check, kinds_check, size_check, print_check, operation_checks, read_limit}
-use Rattle.fst_command.specs.Operations.{Denotes, IsLimitedBy, Operates, grown, side_of}
+use Rattle.fst_command.specs.Causes.{Cause, bad_binary, bad_pairs, bad_symbols, bad_text, kinds_differ, too_large, unprintable, Answer, no_memory, refused}
+use Rattle.fst_command.specs.Checks.{Check, Finds, HasOther, IsPast, KindsDiffer, Passes, length_check, symbols_check, pairs_check, text_check, binary_check, kinds_check, size_check, print_check, operation_checks, read_limit}
+use Rattle.fst_command.specs.Operations.{Denotes, HaveSameTriples, IsLimitedBy, KeepsSorted, Operates, grown, side_of}
 use Rattle.fst_command.specs.Told.{IsMade, Tells}
-use Rattle.fst_command.specs.Steps.{JoinsTo, Declines, OperatesTo}
+use Rattle.fst_command.specs.Steps.{JoinsTo, Declines, IsOfForm, OperatesTo}
 
 -- a result is not both a value and a fault
 pub not_both : {A E : Type 0} (r : Result A E) (x : A) (e : E) → r ≡ Ok x → r ≡ Err e → ⊥
@@ -76,45 +79,38 @@ made_tells answer (refusals.Told status line) made = inr made
 
 -- a machine without a text form: no question before that one finds a cause
 pub declines-unprintable : {X : Type 0} (view : X → List ℕ) (choices : Choices) (name content : List ℕ) (t : Typed) (fault : PrintFault) (refusal : Refusal) → machine_of_file content ≡ Ok t → Prints view (Err fault) (text_of_machine t.kind choices t.machine) → IsMade (refused (unprintable fault)) refusal → (fault ≡ printing.Memory → refusal ≡ refusals.Memory) → Declines (binary_check name content ∷ kinds_check (content ∷ []) ∷ print_check choices content ∷ []) refusal
-declines-unprintable view choices name content t fault refusal reads prints made memory = go fault prints memory (made_tells (refused (unprintable fault)) refusal made) where
-  found : (f : PrintFault) → text_of_machine t.kind choices t.machine ≡ Err f → Tells (refused (unprintable f)) refusal → Declines (binary_check name content ∷ kinds_check (content ∷ []) ∷ print_check choices content ∷ []) refusal
-  found f is tells = inr (unprintable f, inr ((λ cause g. not_both _ _ _ reads g.1), inr (Passes-kinds content, inl (record { machine = t; fault = f; reads = reads; prints = is; is = refl }))), tt, tells)
+declines-unprintable view choices name content t fault refusal reads (inl e) made memory =
+    inl (subst (λ (r : Refusal). Tells no_memory r) (sym (memory e)) (record { status = refl; line = refl }))
+declines-unprintable view choices name content t fault refusal reads (inr is) made memory = go (made_tells (refused (unprintable fault)) refusal made) where
+  go : Tells no_memory refusal ⊎ Tells (refused (unprintable fault)) refusal → Declines (binary_check name content ∷ kinds_check (content ∷ []) ∷ print_check choices content ∷ []) refusal
+  go (inl tells) = inl tells
+  go (inr tells) =
+      inr (unprintable fault, inr ((λ cause g. not_both _ _ _ reads g.1), inr (Passes-kinds content, inl (record { machine = t; fault = fault; reads = reads; prints = is; is = refl }))), tt, tells)
 
-  either : (f : PrintFault) → text_of_machine t.kind choices t.machine ≡ Err f → Tells no_memory refusal ⊎ Tells (refused (unprintable f)) refusal → Declines (binary_check name content ∷ kinds_check (content ∷ []) ∷ print_check choices content ∷ []) refusal
-  either f is (inl tells) = inl tells
-  either f is (inr tells) = found f is tells
-
-  go : (f : PrintFault) → Prints view (Err f) (text_of_machine t.kind choices t.machine) → (f ≡ printing.Memory → refusal ≡ refusals.Memory) → Tells no_memory refusal ⊎ Tells (refused (unprintable f)) refusal → Declines (binary_check name content ∷ kinds_check (content ∷ []) ∷ print_check choices content ∷ []) refusal
-  go printing.Memory p m tells = inl (subst (λ (r : Refusal). Tells no_memory r) (sym (m refl)) (record { status = refl; line = refl }))
-  go (printing.NotAcceptor state place) p m tells = either (printing.NotAcceptor state place) p tells
-  go (printing.UnknownSymbol label) p m tells = either (printing.UnknownSymbol label) p tells
+-- a fault that reading gives, or memory ran out: the refusal that is made of it tells what one question finds
+pub declines-read : {Y E : Type 0} (out fault : E) (read : Result Y E) (check : Check) (cause : Cause) (refusal : Refusal) →
+    reading.Fails out fault read → (read ≡ Err fault → Finds check cause) → IsOfForm cause → IsMade (refused cause) refusal → (fault ≡ out → refusal ≡ refusals.Memory) → Declines (check ∷ []) refusal
+declines-read out fault read check cause refusal (inl e) finds form made memory =
+    inl (subst (λ (r : Refusal). Tells no_memory r) (sym (memory e)) (record { status = refl; line = refl }))
+declines-read out fault read check cause refusal (inr is) finds form made memory = go (made_tells (refused cause) refusal made) where
+  go : Tells no_memory refusal ⊎ Tells (refused cause) refusal → Declines (check ∷ []) refusal
+  go (inl tells) = inl tells
+  go (inr tells) = inr (cause, inl (finds is), form, tells)
 
 -- a content that is no symbol table
 pub declines-symbols : {X : Type 0} (view : X → List Symbol) (name content : List ℕ) (fault : SymbolsFault) (refusal : Refusal) → Gives view (Err fault) (table_of_text content) → IsMade (refused (bad_symbols name fault)) refusal → (fault ≡ tables.Memory → refusal ≡ refusals.Memory) → Declines (symbols_check name content ∷ []) refusal
-declines-symbols view name content fault refusal gives made memory = go fault gives memory (made_tells (refused (bad_symbols name fault)) refusal made) where
-  either : (f : SymbolsFault) → table_of_text content ≡ Err f → Tells no_memory refusal ⊎ Tells (refused (bad_symbols name f)) refusal → Declines (symbols_check name content ∷ []) refusal
-  either f is (inl tells) = inl tells
-  either f is (inr tells) = inr (bad_symbols name f, inl (f, is, refl), tt, tells)
-
-  go : (f : SymbolsFault) → Gives view (Err f) (table_of_text content) → (f ≡ tables.Memory → refusal ≡ refusals.Memory) → Tells no_memory refusal ⊎ Tells (refused (bad_symbols name f)) refusal → Declines (symbols_check name content ∷ []) refusal
-  go tables.Memory g m tells = inl (subst (λ (r : Refusal). Tells no_memory r) (sym (m refl)) (record { status = refl; line = refl }))
-  go (tables.BadColumns line) g m tells = either (tables.BadColumns line) g tells
-  go (tables.BadNumber line) g m tells = either (tables.BadNumber line) g tells
-  go (tables.DuplicateSymbol line) g m tells = either (tables.DuplicateSymbol line) g tells
-  go (tables.DuplicateNumber line) g m tells = either (tables.DuplicateNumber line) g tells
+declines-symbols view name content fault refusal gives made memory =
+    declines-read tables.Memory fault (table_of_text content) (symbols_check name content) (bad_symbols name fault) refusal gives (λ is. (fault, is, refl)) tt made memory
 
 -- a content without pairs
 pub declines-pairs : {X : Type 0} (view : X → List Pair) (name content : List ℕ) (fault : PairsFault) (refusal : Refusal) → pair_texts.Gives view (Err fault) (pairs_of_text content) → IsMade (refused (bad_pairs name fault)) refusal → (fault ≡ pairs.Memory → refusal ≡ refusals.Memory) → Declines (pairs_check name content ∷ []) refusal
-declines-pairs view name content fault refusal gives made memory = go fault gives memory (made_tells (refused (bad_pairs name fault)) refusal made) where
-  either : (f : PairsFault) → pairs_of_text content ≡ Err f → Tells no_memory refusal ⊎ Tells (refused (bad_pairs name f)) refusal → Declines (pairs_check name content ∷ []) refusal
-  either f is (inl tells) = inl tells
-  either f is (inr tells) = inr (bad_pairs name f, inl (f, is, refl), tt, tells)
+declines-pairs view name content fault refusal gives made memory =
+    declines-read pairs.Memory fault (pairs_of_text content) (pairs_check name content) (bad_pairs name fault) refusal gives (λ is. (fault, is, refl)) tt made memory
 
-  go : (f : PairsFault) → pair_texts.Gives view (Err f) (pairs_of_text content) → (f ≡ pairs.Memory → refusal ≡ refusals.Memory) → Tells no_memory refusal ⊎ Tells (refused (bad_pairs name f)) refusal → Declines (pairs_check name content ∷ []) refusal
-  go pairs.Memory g m tells = inl (subst (λ (r : Refusal). Tells no_memory r) (sym (m refl)) (record { status = refl; line = refl }))
-  go (pairs.BadColumns line) g m tells = either (pairs.BadColumns line) g tells
-  go (pairs.BadLabel line) g m tells = either (pairs.BadLabel line) g tells
-  go (pairs.Duplicate line) g m tells = either (pairs.Duplicate line) g tells
+-- a content that is no text of a machine
+pub declines-text : (kind : ArcType) (choices : Choices) (name content : List ℕ) (fault : TextFault) (refusal : Refusal) → reading.Fails texts.Memory fault (machine_of_text kind choices content) → IsMade (refused (bad_text name fault)) refusal → (fault ≡ texts.Memory → refusal ≡ refusals.Memory) → Declines (text_check kind choices name content ∷ []) refusal
+declines-text kind choices name content fault refusal gives made memory =
+    declines-read texts.Memory fault (machine_of_text kind choices content) (text_check kind choices name content) (bad_text name fault) refusal gives (λ is. (fault, is, refl)) tt made memory
 
 -- files are those of one list of machines of one arc type
 pub same_machines : (kind other : ArcType) (file : List ℕ) (files : List (List ℕ)) (ms ns : List (Machine Cost)) → AreMachines kind (file ∷ files) ms → AreMachines other (file ∷ files) ns → (kind ≡ other) × (ms ≡ ns)
@@ -212,6 +208,12 @@ settles-one verb options renaming kind name content bytes m made x reads operate
 pub sorted-by : {V E : Type 0} (value : V → Cost) (side : Side) (word : Option (List ℕ)) (m : Machine V) (made : Result (Machine V) E) → side ≡ side_of word → IfOk made (λ c. IsArcSorted side m c) → IfOk made (λ c. IsArcSorted (side_of word) (valued value m) (valued value c))
 sorted-by value side word m (Ok c) is sorted = subst (λ (s : Side). IsArcSorted s (valued value m) (valued value c)) is (IsArcSorted-valued value side m c sorted)
 sorted-by value side word m (Err e) is sorted = tt
+
+-- the same of the paths that are kept and of what is related
+pub sorted-keeps : {V E : Type 0} (value : V → Cost) (kind : ArcType) (side : Side) (word : Option (List ℕ)) (m : Machine V) (made : Result (Machine V) E) → side ≡ side_of word →
+    IfOk made (λ c. SortsPaths kind side (valued value m) (valued value c)) → IfOk made (λ c. HaveSameTriples kind (valued value m) (valued value c)) → IfOk made (λ c. KeepsSorted kind (side_of word) (valued value m) (valued value c))
+sorted-keeps value kind side word m (Ok c) is paths same = subst (λ (s : Side). KeepsSorted kind s (valued value m) (valued value c)) is (paths, same)
+sorted-keeps value kind side word m (Err e) is paths same = tt
 
 -- a file that is no binary form
 pub declines-file : (name content : List ℕ) (fault : BinaryFault) (refusal : Refusal) (checks : List Check) → machine_of_file content ≡ Err fault → IsMade (refused (bad_binary name fault)) refusal → Declines (binary_check name content ∷ checks) refusal

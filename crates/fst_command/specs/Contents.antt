@@ -9,11 +9,9 @@ use Rattle.fst_symbols.specs.Reading.{table_of_text}
 use Rattle.fst_rational.specs.Labels.{Pair}
 use Rattle.fst_rational.specs.Pairs.{pairs_of_text}
 use Rattle.fst_text.specs.Options as text
-use Rattle.fst_binary.specs.Reading.{arc_type_of_bytes, machine_of_bytes}
-use Rattle.fst_binary.specs.Reading.{BinaryFault}
-use Rattle.fst_codex.specs.Reading.{codex_arc_type_of_bytes, codex_of_bytes}
+use Rattle.fst_binary.specs.Reading.{BinaryFault, arc_type_of_bytes, machine_of_bytes}
+use Rattle.fst_codex.specs.Reading.{CodexFault, codex_arc_type_of_bytes, codex_of_bytes}
 use Rattle.fst_codex.specs.Table.{Table}
-use Rattle.fst_codex.specs.Reading.{CodexFault}
 use Rattle.fst_replace.specs.Rules.{Labelled}
 use Rattle.fst_words.specs.declared.options.Options.{Options}
 

@@ -1,19 +1,18 @@
 -- The machine that a command makes of the machines of its files.
-use Rattle.std.specs.Prelude.{◌≡◌, ◌↔◌, ℕ, Bool, true, false, List, [], ◌∷◌, Option, Some, None, slice_get, Result, Ok, Err, codes, if◌then◌else◌}
+use Rattle.std.specs.Prelude.{◌≡◌, ◌↔◌, ℕ, Bool, true, false, List, [], ◌∷◌, Option, Some, None, Result, Ok, Err, codes, if◌then◌else◌}
 use Rattle.std.specs.Str.{bytes_eq}
 use Rattle.fst_semiring.specs.declared.arc_type.ArcType.{ArcType}
 use Rattle.fst_semiring.specs.Cost.{Cost}
 use Rattle.fst_machine.specs.Machine.{Machine}
 use Rattle.fst_machine.specs.Connected.{IsConnected}
-use Rattle.fst_machine.specs.Graph.{graph_of}
 use Rattle.fst_rational.specs.Labels.{inverted, projected, relabelled}
 use Rattle.fst_rational.specs.Constructions.{union_of, concat_of, closure_of, reverse_of}
 use Rattle.fst_rational.specs.Limits.{IsLimited}
 use Rattle.fst_rational.specs.declared.fault.RationalFault.{RationalFault}
 use Rattle.fst_rational.specs.declared.fault.RationalFault.TheVariants as faults
 use Rattle.fst_rational.specs.Relations.{Closes, Concatenates, Inverts, Projects, Relabels, Reverses, Triple, Unites}
-use Rattle.fst_trim.specs.Beside.{SamePaths}
-use Rattle.fst_trim.specs.Sorting.{IsArcSorted}
+use Rattle.fst_trim.specs.KeptPaths.{KeepsPaths}
+use Rattle.fst_trim.specs.Sorting.{IsArcSorted, SortsPaths}
 use Rattle.fst_trim.specs.declared.side.Side.{Side}
 use Rattle.fst_trim.specs.declared.side.Side.TheVariants.{Input, Output}
 use Rattle.fst_words.specs.declared.options.Options.{Options}
@@ -101,21 +100,21 @@ Operates verb options renaming kind machines made = grown verb options kind mach
 abbrev pub HaveSameTriples : ArcType → Machine Cost → Machine Cost → Type 0
 HaveSameTriples kind m made = (x y : List ℕ) (w : Cost) → Triple kind m x y w ↔ Triple kind made x y w
 
--- the successful paths are those of the machine, each in its states by their new numbers, and so are the triples
+-- the successful paths are those of the machine, one to one, by the new numbers of the states, and so are the triples
 abbrev pub KeepsConnected : ArcType → Machine Cost → Machine Cost → Type 0
 KeepsConnected kind m made =
-    ((h : IsConnected m made) → SamePaths kind (λ p i. slice_get h.kept i ≡ Some p) (graph_of m) (graph_of made)) × HaveSameTriples kind m made
+    ((h : IsConnected m made) → KeepsPaths kind m made h.kept) × HaveSameTriples kind m made
 
--- the successful paths are those of the machine up to the places of arcs, and so are the triples
-abbrev pub KeepsSorted : ArcType → Machine Cost → Machine Cost → Type 0
-KeepsSorted kind m made = SamePaths kind (λ p q. p ≡ q) (graph_of m) (graph_of made) × HaveSameTriples kind m made
+-- the successful paths are those of the machine, one to one, up to the places of arcs, and so are the triples
+abbrev pub KeepsSorted : ArcType → Side → Machine Cost → Machine Cost → Type 0
+KeepsSorted kind side m made = SortsPaths kind side m made × HaveSameTriples kind m made
 
 -- the relation that the machine that a command makes denotes
 abbrev pub Denotes : Verb → Options → Renaming → ArcType → List (Machine Cost) → Machine Cost → Type 0
 Denotes Invert options renaming kind (m ∷ []) made = Inverts kind m made
 Denotes Project options renaming kind (m ∷ []) made = Projects kind options.project_output m made
 Denotes Relabel options renaming kind (m ∷ []) made = Relabels kind renaming.input renaming.output m made
-Denotes Arcsort options renaming kind (m ∷ []) made = KeepsSorted kind m made
+Denotes Arcsort options renaming kind (m ∷ []) made = KeepsSorted kind (side_of options.sort_type) m made
 Denotes Connect options renaming kind (m ∷ []) made = KeepsConnected kind m made
 Denotes Reverse options renaming kind (m ∷ []) made = Reverses kind m made
 Denotes Closure options renaming kind (m ∷ []) made = Closes kind options.closure_plus m made

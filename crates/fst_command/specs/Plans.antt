@@ -97,8 +97,8 @@ option_input form name = inputs_with form (option_to_list name)
 -- the files of the options, in the order in which they are read
 abbrev pub option_inputs : Options → List Input
 option_inputs o =
-    option_input symbols_form o.isymbols ++ (option_input symbols_form o.osymbols ++ (option_input pairs_form o.relabel_ipairs +
-    option_input pairs_form o.relabel_opairs))
+    option_input symbols_form o.isymbols ++ (option_input symbols_form o.osymbols ++
+    (option_input pairs_form o.relabel_ipairs ++ option_input pairs_form o.relabel_opairs))
 
 -- the inputs of a command, in the order in which they are read: the files of the options come first
 abbrev pub inputs_of : Plan → List Input

@@ -359,6 +359,7 @@ mod tests {
         assert!(rt; desk.held("c").is_none());
         assert_eq!(rt; desk.fetch(alloc, "c", 9).err(), Some(FetchFault::Failed));
         assert!(rt; is_shown(&desk, "x\ny\n"));
+        assert_eq!(rt; (desk.fetches(), desk.stores(), desk.shows()), (5, 1, 2));
         Ok(())
     }
 
