@@ -19,6 +19,3 @@ pub use fault::{BinaryFault, BinaryKind, WeightFieldFault};
 pub use header::arc_type;
 pub use laws::{no_spelling_goes_on, spelling_is_read, values_tell_machines};
 pub use weight_field::{push_weight_field, read_weight_field, weight_length};
-
-#[cfg(test)]
-mod tests;

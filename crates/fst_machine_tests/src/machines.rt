@@ -1,4 +1,4 @@
-//! The machines of the tests, for each arc type.
+//! Machines from texts, and the machines of the comparisons, for each arc type.
 
 use fst_machine::{Fst, GrowFault};
 use fst_semiring::{ArcType, Weight};
@@ -33,8 +33,8 @@ fn texts(kind: ArcType) -> (&'static [u8], &'static [u8]) {
     }
 }
 
-/// The machine of a text.
-fn machine<W: Weight>(alloc: Global, text: &[u8]) -> Result<Fst<W>, Fail> {
+/// The machine of a text, with the numbers of its states; the first line begins with the start.
+pub(crate) fn machine<W: Weight>(alloc: Global, text: &[u8]) -> Result<Fst<W>, Fail> {
     let options = TextOptions {
         acceptor: false,
         keep_state_numbering: true,
@@ -65,8 +65,34 @@ fn copy_state<W: Weight>(
     Ok(())
 }
 
+/// Asks that two machines have the same start, states, final weights and arcs, in the same order.
+fn same<W: Weight>(rt: &impl Abort, a: &Fst<W>, b: &Fst<W>) {
+    assert_eq!(rt; a.start(), b.start());
+    assert!(rt; a.states() == b.states());
+    for state in 0..a.states() {
+        let states = b.states();
+        assert!(rt; state < states);
+        assert!(rt;
+            a.final_weight(state) == b.final_weight(state),
+            "state {state}"
+        );
+        assert!(rt; a.arcs(state) == b.arcs(state), "state {state}");
+    }
+}
+
+/// Asks that a machine is that of a text.
+pub(crate) fn is_text<W: Weight>(
+    rt: &impl Abort,
+    alloc: Global,
+    fst: &Fst<W>,
+    text: &[u8],
+) -> Result<(), Fail> {
+    same(rt, fst, &machine(alloc, text)?);
+    Ok(())
+}
+
 /// The same machine without its start.
-fn without_start<W: Weight>(
+pub(crate) fn without_start<W: Weight>(
     rt: &impl Abort,
     alloc: Global,
     fst: &Fst<W>,

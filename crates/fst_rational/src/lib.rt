@@ -21,6 +21,3 @@ pub use labels::{invert, project, relabel};
 pub use pairs::{Pairs, PairsFault, read_pairs};
 pub use reversal::reverse;
 pub use unite::union;
-
-#[cfg(test)]
-mod tests;
