@@ -8,97 +8,26 @@ use std::alloc::Global;
 use std::process::Abort;
 use std::test::Fail;
 
-/// How a text is read and printed.
-#[derive(Clone, Copy)]
-struct Form {
-    acceptor: bool,
-    kept: bool,
-    shown: bool,
-    /// Whether the labels of the input side and of the output side are symbols.
-    input: bool,
-    output: bool,
-}
-
-const PLAIN: Form = Form {
-    acceptor: false,
-    kept: false,
-    shown: false,
-    input: false,
-    output: false,
-};
-
-const ACCEPTOR: Form = Form {
-    acceptor: true,
-    kept: false,
-    shown: false,
-    input: false,
-    output: false,
-};
-
-const KEPT: Form = Form {
-    acceptor: false,
-    kept: true,
-    shown: false,
-    input: false,
-    output: false,
-};
-
-const SHOWN: Form = Form {
-    acceptor: false,
-    kept: false,
-    shown: true,
-    input: false,
-    output: false,
-};
-
-const INPUT: Form = Form {
-    acceptor: false,
-    kept: false,
-    shown: false,
-    input: true,
-    output: false,
-};
-
-const OUTPUT: Form = Form {
-    acceptor: false,
-    kept: false,
-    shown: false,
-    input: false,
-    output: true,
-};
-
-const BOTH: Form = Form {
-    acceptor: false,
-    kept: false,
-    shown: false,
-    input: true,
-    output: true,
-};
-
-const BOTH_ACCEPTOR: Form = Form {
-    acceptor: true,
-    kept: false,
-    shown: false,
-    input: true,
-    output: true,
-};
-
-const OUTPUT_ACCEPTOR: Form = Form {
-    acceptor: true,
-    kept: false,
-    shown: false,
-    input: false,
-    output: true,
-};
+/// How a text is read and printed, as letters: `a` as an acceptor, `k` with the numbers of its states, `w` with weight
+/// One shown, `i` and `o` with symbols for the labels of the input side and of the output side.
+type Form = &'static str;
 
 /// The options of a form, with these tables for the two sides.
 fn options<'t>(form: Form, input: &'t SymbolTable, output: &'t SymbolTable) -> TextOptions<'t> {
     TextOptions {
-        acceptor: form.acceptor,
-        keep_state_numbering: form.kept,
-        show_weight_one: form.shown,
-        isymbols: if form.input { Some(input) } else { None },
-        osymbols: if form.output { Some(output) } else { None },
+        acceptor: form.contains('a'),
+        keep_state_numbering: form.contains('k'),
+        show_weight_one: form.contains('w'),
+        isymbols: if form.contains('i') {
+            Some(input)
+        } else {
+            None
+        },
+        osymbols: if form.contains('o') {
+            Some(output)
+        } else {
+            None
+        },
     }
 }
 
@@ -135,68 +64,60 @@ pub(crate) fn is_printed(
 
 /// A text, how it is read and printed, and what is printed.
 static PRINTED: [(&[u8], Form, &[u8]); 22] = [
-    (b"0 1 1 2 5\n1 3\n", PLAIN, b"0\t1\t1\t2\t5\n1\t3\n"),
-    (b"", PLAIN, b""),
-    (b" \n\t\r\n", PLAIN, b""),
+    (b"0 1 1 2 5\n1 3\n", "", b"0\t1\t1\t2\t5\n1\t3\n"),
+    (b"", "", b""),
+    (b" \n\t\r\n", "", b""),
+    (b"7 3 1 1\n3 7 2 2\n7\n", "", b"0\t1\t1\t1\n0\n1\t0\t2\t2\n"),
     (
         b"7 3 1 1\n3 7 2 2\n7\n",
-        PLAIN,
-        b"0\t1\t1\t1\n0\n1\t0\t2\t2\n",
-    ),
-    (
-        b"7 3 1 1\n3 7 2 2\n7\n",
-        KEPT,
+        "k",
         b"7\t3\t1\t1\n7\n0\tInfinity\n1\tInfinity\n2\tInfinity\n3\t7\t2\t2\n4\tInfinity\n5\tInfinity\n6\tInfinity\n",
     ),
     (
         b"0 1 1 2\n0 1 5\n",
-        ACCEPTOR,
+        "a",
         b"0\t1\t1\t2\n0\t1\t5\n1\tInfinity\n",
     ),
     (
         b"0 1 1 1 1000000000000000000\n1\n",
-        PLAIN,
+        "",
         b"0\t1\t1\t1\t1000000000000000000\n1\n",
     ),
     (
         b"0 1 1 1\n0 2 2 2\n1 4\n",
-        PLAIN,
+        "",
         b"0\t1\t1\t1\n0\t2\t2\t2\n1\t4\n2\tInfinity\n",
     ),
     (
         b"0\t1\t1\t1\n0\t2\t2\t2\n1\t4\n2\tInfinity\n",
-        PLAIN,
+        "",
         b"0\t1\t1\t1\n0\t2\t2\t2\n1\t4\n2\tInfinity\n",
     ),
     (
         b"\n\n  3\t4  1 2 \r\n4 Infinity",
-        PLAIN,
+        "",
         b"0\t1\t1\t2\n1\tInfinity\n",
     ),
-    (b"0 1\n0 7\n0 4\n", PLAIN, b"0\t4\n"),
-    (b"0 7\n0\n", PLAIN, b"0\n"),
-    (b"0 7\n0\n", SHOWN, b"0\t0\n"),
-    (
-        b"01 1 2147483647 0 -3\n",
-        PLAIN,
-        b"0\t0\t2147483647\t0\t-3\n",
-    ),
-    (b"2 0 5 6\n0\n", KEPT, b"2\t0\t5\t6\n0\n1\tInfinity\n"),
+    (b"0 1\n0 7\n0 4\n", "", b"0\t4\n"),
+    (b"0 7\n0\n", "", b"0\n"),
+    (b"0 7\n0\n", "w", b"0\t0\n"),
+    (b"01 1 2147483647 0 -3\n", "", b"0\t0\t2147483647\t0\t-3\n"),
+    (b"2 0 5 6\n0\n", "k", b"2\t0\t5\t6\n0\n1\tInfinity\n"),
     (
         b"999999999999999999 5 1 1\n5 999999999999999999 2 2\n5\n",
-        SHOWN,
+        "w",
         b"0\t1\t1\t1\t0\n1\t0\t2\t2\t0\n1\t0\n",
     ),
-    (b"0 1 b A\n1\n", BOTH, b"0\t1\tb\tA\n1\n"),
-    (b"0 0 <eps> -1\n0\n", BOTH, b"0\t0\t<eps>\t-1\n0\n"),
-    (b"0 1 a 9 5\n1\n", INPUT, b"0\t1\ta\t9\t5\n1\n"),
-    (b"0 1 9 -1 5\n1\n", OUTPUT, b"0\t1\t9\t-1\t5\n1\n"),
+    (b"0 1 b A\n1\n", "io", b"0\t1\tb\tA\n1\n"),
+    (b"0 0 <eps> -1\n0\n", "io", b"0\t0\t<eps>\t-1\n0\n"),
+    (b"0 1 a 9 5\n1\n", "i", b"0\t1\ta\t9\t5\n1\n"),
+    (b"0 1 9 -1 5\n1\n", "o", b"0\t1\t9\t-1\t5\n1\n"),
     (
         b"0 1 b\n1 0 <eps> 2\n1\n",
-        BOTH_ACCEPTOR,
+        "aio",
         b"0\t1\tb\n1\t0\t<eps>\t2\n1\n",
     ),
-    (b"0 1 7\n1\n", OUTPUT_ACCEPTOR, b"0\t1\t7\n1\n"),
+    (b"0 1 7\n1\n", "ao", b"0\t1\t7\n1\n"),
 ];
 
 /// The tables of the two sides.
@@ -227,78 +148,62 @@ fn compiles_and_prints(rt: HostRuntime) -> Result<(), Fail> {
         prints(&rt, alloc, &options(*form, &letters, &capitals), text, want)?;
     }
     // One table for both sides.
-    let both = options(BOTH, &letters, &letters);
+    let both = options("io", &letters, &letters);
     prints(&rt, alloc, &both, b"0 1 a b 5\n1\n", b"0\t1\ta\tb\t5\n1\n")
 }
 
 /// A text, how it is read, and its first fault.
 static FAULTS: [(&[u8], Form, TextFault); 26] = [
-    (b"0 1 1\n", PLAIN, TextFault::BadColumns { line: 1 }),
-    (
-        b"0 1 1 2\n0 1 5\n",
-        PLAIN,
-        TextFault::BadColumns { line: 2 },
-    ),
-    (b"x x x x x x\n", PLAIN, TextFault::BadColumns { line: 1 }),
-    (b"0 1 1 1 1\n", ACCEPTOR, TextFault::BadColumns { line: 1 }),
-    (b"\n \nx\n", PLAIN, TextFault::BadState { line: 3 }),
-    (b"0 -1 x x x\n", PLAIN, TextFault::BadState { line: 1 }),
+    (b"0 1 1\n", "", TextFault::BadColumns { line: 1 }),
+    (b"0 1 1 2\n0 1 5\n", "", TextFault::BadColumns { line: 2 }),
+    (b"x x x x x x\n", "", TextFault::BadColumns { line: 1 }),
+    (b"0 1 1 1 1\n", "a", TextFault::BadColumns { line: 1 }),
+    (b"\n \nx\n", "", TextFault::BadState { line: 3 }),
+    (b"0 -1 x x x\n", "", TextFault::BadState { line: 1 }),
     (
         b"1234567890123456789\n",
-        PLAIN,
+        "",
         TextFault::BadState { line: 1 },
     ),
-    (
-        b"0 1 2147483648 1\n",
-        PLAIN,
-        TextFault::BadLabel { line: 1 },
-    ),
-    (b"0 1 1 1x 0.5\n", PLAIN, TextFault::BadLabel { line: 1 }),
+    (b"0 1 2147483648 1\n", "", TextFault::BadLabel { line: 1 }),
+    (b"0 1 1 1x 0.5\n", "", TextFault::BadLabel { line: 1 }),
     (
         b"0 1 1 1 1000000000000000001\n1\n",
-        PLAIN,
+        "",
         TextFault::BadWeight { line: 1 },
     ),
     (
         b"0 1 1 1 Infinity\n1\n",
-        PLAIN,
+        "",
         TextFault::BadWeight { line: 1 },
     ),
-    (b"0 1 1 1 0.5\n1\n", PLAIN, TextFault::BadWeight { line: 1 }),
-    (
-        b"0 1 1 1\n1 x\ny\n",
-        PLAIN,
-        TextFault::BadWeight { line: 2 },
-    ),
-    (b"4194304\n", KEPT, TextFault::TooManyStates { line: 1 }),
+    (b"0 1 1 1 0.5\n1\n", "", TextFault::BadWeight { line: 1 }),
+    (b"0 1 1 1\n1 x\ny\n", "", TextFault::BadWeight { line: 2 }),
+    (b"4194304\n", "k", TextFault::TooManyStates { line: 1 }),
     (
         b"0\n0 4194304 x x\n",
-        KEPT,
+        "k",
         TextFault::TooManyStates { line: 2 },
     ),
     (
         b"4194304 x 1 1\n",
-        KEPT,
+        "k",
         TextFault::TooManyStates { line: 1 },
     ),
-    (b"0 1 c A\n", BOTH, TextFault::UnknownSymbol { line: 1 }),
+    (b"0 1 c A\n", "io", TextFault::UnknownSymbol { line: 1 }),
     (
         b"0 1 a A\n1 2 a 1\n",
-        BOTH,
+        "io",
         TextFault::UnknownSymbol { line: 2 },
     ),
-    (b"0 1 1 b\n", OUTPUT, TextFault::UnknownSymbol { line: 1 }),
-    (b"0 1 x b\n", OUTPUT, TextFault::BadLabel { line: 1 }),
-    (b"0 1 c x\n", INPUT, TextFault::UnknownSymbol { line: 1 }),
-    (b"0 1 a x\n", INPUT, TextFault::BadLabel { line: 1 }),
-    (
-        b"0 1 A\n",
-        BOTH_ACCEPTOR,
-        TextFault::UnknownSymbol { line: 1 },
-    ),
-    (b"0 x c A\n", BOTH, TextFault::BadState { line: 1 }),
-    (b"0 1 c A x\n", BOTH, TextFault::UnknownSymbol { line: 1 }),
-    (b"0 1 a A x\n", BOTH, TextFault::BadWeight { line: 1 }),
+    (b"0 1 1 b\n", "o", TextFault::UnknownSymbol { line: 1 }),
+    (b"0 1 x b\n", "o", TextFault::BadLabel { line: 1 }),
+    (b"0 1 c x\n", "i", TextFault::UnknownSymbol { line: 1 }),
+    (b"0 1 a x\n", "i", TextFault::BadLabel { line: 1 }),
+    (b"0 1 A\n", "aio", TextFault::UnknownSymbol { line: 1 }),
+    (b"0 x c A\n", "io", TextFault::BadState { line: 1 }),
+    (b"0 1 c A x\n", "io", TextFault::UnknownSymbol { line: 1 }),
+    (b"0 1 a A x\n", "io", TextFault::BadWeight { line: 1 }),
 ];
 
 #[test]
@@ -319,33 +224,33 @@ fn names_the_first_fault(rt: HostRuntime) -> Result<(), Fail> {
 static UNPRINTED: [(&[u8], Form, PrintFault); 7] = [
     (
         b"0 1 1 2 5\n1 3\n",
-        OUTPUT,
+        "o",
         PrintFault::UnknownSymbol { label: 2 },
     ),
     (
         b"1 0 3 1\n0 1 5 1\n",
-        BOTH,
+        "io",
         PrintFault::UnknownSymbol { label: 5 },
     ),
     (
         b"1 0 3 1\n1 0 4 7\n0 1 5 1\n",
-        BOTH,
+        "io",
         PrintFault::UnknownSymbol { label: 7 },
     ),
-    (b"0 1 6 7\n", BOTH, PrintFault::UnknownSymbol { label: 6 }),
+    (b"0 1 6 7\n", "io", PrintFault::UnknownSymbol { label: 6 }),
     (
         b"0 1 3 3\n1 0 5 5\n",
-        BOTH_ACCEPTOR,
+        "aio",
         PrintFault::UnknownSymbol { label: 5 },
     ),
     (
         b"0 1 5 5\n1 0 1 3\n",
-        BOTH_ACCEPTOR,
+        "aio",
         PrintFault::NotAcceptor { state: 1, place: 0 },
     ),
     (
         b"0 1 1 1\n1 0 3 3\n1 0 3 4\n2 0 1 2\n",
-        ACCEPTOR,
+        "a",
         PrintFault::NotAcceptor { state: 1, place: 1 },
     ),
 ];
@@ -382,7 +287,7 @@ fn chain(alloc: Global, gap: u64) -> Result<String, Fail> {
 fn numbers_states_in_order(rt: HostRuntime) -> Result<(), Fail> {
     let alloc = rt.alloc();
     let none = SymbolTable::read(alloc, b"")?;
-    let plain = options(PLAIN, &none, &none);
+    let plain = options("", &none, &none);
     let mut want = chain(alloc, 1)?;
     want.push_str("2000\tInfinity\n")?;
     for gap in [1, 7, 1000, 832_040, 4_294_967_296, 999_999_999_989] {

@@ -1,6 +1,6 @@
 //! Worked examples of weights, their texts and their keys, and of Plus, Times and division, written out by hand.
 
-use fst_semiring::{Boolean, Key, LIMIT, Lexicographic, MinMax, Tropical, Weight};
+use fst_semiring::{ArcType, Boolean, Key, LIMIT, Lexicographic, MinMax, Tropical, Weight};
 use std::alloc::{AllocError, Global};
 use std::cmp::Ordering;
 use std::process::Abort;
@@ -10,14 +10,10 @@ use std::test::Fail;
 struct Rows {
     /// Texts, each with the printed form of the weight that it stands for; nothing where it stands for none.
     texts: &'static [(&'static str, &'static str)],
-    /// Keys by class, first and second, each with the printed form of its weight; nothing where it has none.
-    keys: &'static [(u8, i128, i128, &'static str)],
     /// Products and quotients.
     cases: &'static [Case],
     /// The classes of the keys of One and Zero.
     ends: (u8, u8),
-    /// How many bytes a weight takes.
-    size: usize,
 }
 
 /// Two weights, how they compare, their product, and the worse divided by the better. A text without bytes stands
@@ -46,20 +42,6 @@ static BOOLEAN: Rows = Rows {
         ("true", ""),
         ("Infinity", ""),
     ],
-    keys: &[
-        (0, 0, 0, ""),
-        (1, 0, 0, "1"),
-        (2, 0, 0, "0"),
-        (3, 0, 0, ""),
-        (0, 1, 0, ""),
-        (1, 5, 0, ""),
-        (1, -5, 6, ""),
-        (2, 0, 1, ""),
-        (1, PAST, 0, ""),
-        (1, -PAST, 0, ""),
-        (1, 0, PAST, ""),
-        (1, 0, -PAST, ""),
-    ],
     cases: &[
         ("1", "0", Ordering::Less, "0", "0"),
         ("0", "1", Ordering::Greater, "0", "0"),
@@ -67,7 +49,6 @@ static BOOLEAN: Rows = Rows {
         ("0", "0", Ordering::Equal, "0", ""),
     ],
     ends: (1, 2),
-    size: 1,
 };
 
 static TROPICAL: Rows = Rows {
@@ -90,20 +71,6 @@ static TROPICAL: Rows = Rows {
         ("-", ""),
         ("+1", ""),
         ("1.5", ""),
-    ],
-    keys: &[
-        (0, 0, 0, ""),
-        (1, 0, 0, "0"),
-        (2, 0, 0, "Infinity"),
-        (3, 0, 0, ""),
-        (0, 1, 0, ""),
-        (1, 5, 0, "5"),
-        (1, -5, 6, ""),
-        (2, 0, 1, ""),
-        (1, PAST, 0, ""),
-        (1, -PAST, 0, ""),
-        (1, 0, PAST, ""),
-        (1, 0, -PAST, ""),
     ],
     cases: &[
         ("3", "5", Ordering::Less, "8", "2"),
@@ -134,7 +101,6 @@ static TROPICAL: Rows = Rows {
         ),
     ],
     ends: (1, 2),
-    size: 8,
 };
 
 static MINMAX: Rows = Rows {
@@ -159,20 +125,6 @@ static MINMAX: Rows = Rows {
         ("--1", ""),
         ("1,2", ""),
     ],
-    keys: &[
-        (0, 0, 0, "-Infinity"),
-        (1, 0, 0, "0"),
-        (2, 0, 0, "Infinity"),
-        (3, 0, 0, ""),
-        (0, 1, 0, ""),
-        (1, 5, 0, "5"),
-        (1, -5, 6, ""),
-        (2, 0, 1, ""),
-        (1, PAST, 0, ""),
-        (1, -PAST, 0, ""),
-        (1, 0, PAST, ""),
-        (1, 0, -PAST, ""),
-    ],
     cases: &[
         ("3", "5", Ordering::Less, "5", "5"),
         ("4", "4", Ordering::Equal, "4", "4"),
@@ -187,7 +139,6 @@ static MINMAX: Rows = Rows {
         ("Infinity", "Infinity", Ordering::Equal, "Infinity", ""),
     ],
     ends: (0, 2),
-    size: 8,
 };
 
 static LEXICOGRAPHIC: Rows = Rows {
@@ -222,20 +173,6 @@ static LEXICOGRAPHIC: Rows = Rows {
         ("", ""),
         ("1", ""),
     ],
-    keys: &[
-        (0, 0, 0, ""),
-        (1, 0, 0, "0,0"),
-        (2, 0, 0, "Infinity,Infinity"),
-        (3, 0, 0, ""),
-        (0, 1, 0, ""),
-        (1, 5, 0, "5,0"),
-        (1, -5, 6, "-5,6"),
-        (2, 0, 1, ""),
-        (1, PAST, 0, ""),
-        (1, -PAST, 0, ""),
-        (1, 0, PAST, ""),
-        (1, 0, -PAST, ""),
-    ],
     cases: &[
         ("1,9", "2,0", Ordering::Less, "3,9", "1,-9"),
         ("1,3", "1,2", Ordering::Greater, "2,5", "0,1"),
@@ -255,8 +192,37 @@ static LEXICOGRAPHIC: Rows = Rows {
         ),
     ],
     ends: (1, 2),
-    size: 16,
 };
+
+/// The class, the first and the second of a key, and the printed form of its boolean, tropical, min-max and
+/// lexicographic weight; nothing where it has none.
+type KeyRow = (u8, i128, i128, [&'static str; 4]);
+
+static KEYS: [KeyRow; 12] = [
+    (0, 0, 0, ["", "", "-Infinity", ""]),
+    (1, 0, 0, ["1", "0", "0", "0,0"]),
+    (2, 0, 0, ["0", "Infinity", "Infinity", "Infinity,Infinity"]),
+    (3, 0, 0, ["", "", "", ""]),
+    (0, 1, 0, ["", "", "", ""]),
+    (1, 5, 0, ["", "5", "5", "5,0"]),
+    (1, -5, 6, ["", "", "", "-5,6"]),
+    (2, 0, 1, ["", "", "", ""]),
+    (1, PAST, 0, ["", "", "", ""]),
+    (1, -PAST, 0, ["", "", "", ""]),
+    (1, 0, PAST, ["", "", "", ""]),
+    (1, 0, -PAST, ["", "", "", ""]),
+];
+
+/// What a row of keys says of an arc type.
+fn wanted(kind: ArcType, texts: [&'static str; 4]) -> &'static str {
+    let [boolean, tropical, minmax, lexicographic] = texts;
+    match kind {
+        ArcType::Boolean => boolean,
+        ArcType::Tropical => tropical,
+        ArcType::MinMax => minmax,
+        ArcType::Lexicographic => lexicographic,
+    }
+}
 
 /// The printed form of the weight with a key; nothing where there is none.
 fn printed_key<W: Weight>(alloc: Global, key: Key) -> Result<Vec<u8>, AllocError> {
@@ -320,12 +286,13 @@ fn reads_and_prints<W: Weight>(rt: &impl Abort, alloc: Global, rows: &Rows) -> R
             "at {text}"
         );
     }
-    for (class, first, second, want) in rows.keys {
+    for (class, first, second, texts) in &KEYS {
         let key = Key {
             class: *class,
             first: *first,
             second: *second,
         };
+        let want = wanted(W::KIND, *texts);
         assert!(rt;
             printed_key::<W>(alloc, key)?.as_slice() == want.as_bytes(),
             "at {key:?}"
@@ -343,7 +310,6 @@ fn check<W: Weight>(rt: &impl Abort, alloc: Global, rows: &Rows) -> Result<(), F
     let (one, zero) = (W::key(W::one().widen()), W::key(W::zero().widen()));
     assert_eq!(rt; (one.class, zero.class), rows.ends);
     assert_eq!(rt; (one.first, zero.first), (0, 0));
-    assert_eq!(rt; size_of::<W>(), rows.size);
     Ok(())
 }
 
@@ -355,4 +321,15 @@ fn answers_by_the_rows(rt: HostRuntime) -> Result<(), Fail> {
     check::<Tropical>(&rt, alloc, &TROPICAL)?;
     check::<MinMax>(&rt, alloc, &MINMAX)?;
     check::<Lexicographic>(&rt, alloc, &LEXICOGRAPHIC)
+}
+
+#[test]
+fn packed_sizes(rt: HostRuntime) {
+    let sizes = [
+        size_of::<Boolean>(),
+        size_of::<Tropical>(),
+        size_of::<MinMax>(),
+        size_of::<Lexicographic>(),
+    ];
+    assert_eq!(rt; sizes, [1, 8, 8, 16]);
 }
