@@ -8,14 +8,17 @@ use Rattle.std.proofs.lemmas.List.Elements.{All-from_recursion}
 use Rattle.fst_semiring.specs.declared.arc_type.ArcType.{ArcType}
 use Rattle.fst_semiring.specs.Cost.{Cost}
 use Rattle.fst_machine.specs.Machine.{Arc, State, IsArc, IsMachine, arc_total, most_arcs, most_states, valued_arc, valued_state}
-use Rattle.fst_binary.specs.declared.fault.BinaryFault.{BinaryFault}
+use Rattle.fst_binary.specs.Reading.{BinaryFault, arc_type_of_bytes, header_at, machine_at, machine_of_bytes, states_at, types_at}
 use Rattle.fst_binary.specs.declared.fault.BinaryKind.TheVariants.{BadCount, Extra}
 use Rattle.fst_binary.specs.declared.header.Header.{Header}
 use Rattle.fst_binary.specs.Spelling.{type_fields}
-use Rattle.fst_binary.specs.Reading.{◌>>=◌, arc_type_of_bytes, fault, header_at, known, machine_at, machine_of_bytes, states_at, types_at}
-use Rattle.fst_binary.proofs.Headers.{named_alone, types_again, types_takes}
+use Rattle.fst_fields.specs.Reading.{◌>>=◌}
+use Rattle.fst_bytes.specs.Reading.{fault}
+use Rattle.fst_semiring.specs.Names.{known}
+use Rattle.fst_binary.proofs.Headers.{types_again, types_takes}
+use Rattle.fst_bytes.proofs.Names.{named_alone}
 use Rattle.fst_binary.proofs.States.{GoodArc, GoodState, states_takes}
-use Rattle.fst_binary.proofs.Steps.{IsBytes, done, ok_is}
+use Rattle.fst_bytes.proofs.Steps.{IsBytes, done, ok_is}
 
 -- ---- the end of a machine
 

@@ -10,10 +10,13 @@ use Rattle.fst_semiring.specs.declared.arc_type.ArcType.{ArcType}
 use Rattle.fst_semiring.specs.declared.arc_type.ArcType.TheVariants.{Boolean, Tropical, MinMax, Lexicographic}
 use Rattle.fst_semiring.specs.Cost.{Cost}
 use Rattle.fst_machine.specs.Machine.{Arc, State, Machine, IsArc, IsMachine, valued, valued_arc, valued_state}
-use Rattle.fst_binary.specs.Spelling.{HasField, HasSpelling, count_fields, long, name_of, spelling, state_fields, type_fields, word}
-use Rattle.fst_binary.specs.Reading.{arc_type_of_bytes, known, machine_of_bytes}
-use Rattle.fst_binary.proofs.Headers.{IsNamed, types_again}
-use Rattle.fst_binary.proofs.Lengths.{length-long}
+use Rattle.fst_binary.specs.Spelling.{HasSpelling, count_fields, spelling, state_fields, type_fields}
+use Rattle.fst_bytes.specs.Spelling.{HasField, long, word}
+use Rattle.fst_semiring.specs.Names.{known, name_of}
+use Rattle.fst_binary.specs.Reading.{arc_type_of_bytes, machine_of_bytes}
+use Rattle.fst_binary.proofs.Headers.{types_again}
+use Rattle.fst_bytes.proofs.Names.{IsNamed}
+use Rattle.fst_bytes.proofs.Lengths.{length-long}
 use Rattle.fst_binary.proofs.Lists.{arc_total-valued}
 use Rattle.fst_binary.proofs.Machines.{machine_again}
 

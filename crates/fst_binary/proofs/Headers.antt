@@ -1,22 +1,23 @@
 -- Headers that are read are those that stand there.
-use Rattle.std.proofs.Common.{◌≡◌, ℕ, ◌+◌, ◌^◌, ◌<◌, ◌≤◌, Bool, true, false, cond, ltb, leb, eqb, inl, inr, List, [], ◌∷◌, ◌++◌, length, drop, Option, Some, None, Ok, refl, sym, ap, subst, ◌∙◌, append_assoc, arith}
-use Rattle.std.specs.Prelude.{IfSome, bytes_eq, codes}
-use Rattle.std.specs.List.{find, list_any}
-use Rattle.std.proofs.lemmas.Bool.{eqb-true, le-leb, leb-true, lt-ltb, ltb-true, le-ltb}
-use Rattle.byteorder.specs.Endian.{little_number}
+use Rattle.std.proofs.Common.{◌≡◌, ℕ, ◌^◌, ◌<◌, ◌≤◌, Bool, true, false, cond, ltb, leb, eqb, inl, inr, List, [], ◌∷◌, ◌++◌, length, drop, Option, Some, None, Ok, refl, sym, ap, subst, ◌∙◌, append_assoc, arith}
+use Rattle.std.specs.Prelude.{IfSome, codes}
+use Rattle.std.specs.List.{find}
+use Rattle.std.proofs.lemmas.Bool.{eqb-true, le-leb, leb-true, lt-ltb, ltb-true}
 use Rattle.fst_semiring.specs.declared.arc_type.ArcType.{ArcType}
-use Rattle.fst_semiring.specs.declared.arc_type.ArcType.TheVariants.{Boolean, Tropical, MinMax, Lexicographic}
 use Rattle.fst_machine.specs.Machine.{most_arcs, most_states}
-use Rattle.fst_binary.specs.declared.fault.BinaryFault.{BinaryFault}
-use Rattle.fst_binary.specs.declared.fault.BinaryKind.TheVariants.{BadCount, BadFlags, BadMagic, BadStart, BadVersion, UnknownArcType, UnknownFstType}
+use Rattle.fst_binary.specs.Reading.{BinaryFault, header_at, is_start, start_at, types_at}
+use Rattle.fst_binary.specs.declared.fault.BinaryKind.TheVariants.{BadCount, BadFlags, BadMagic, BadStart, BadVersion, Short, UnknownArcType, UnknownFstType}
 use Rattle.fst_binary.specs.declared.header.Header.{Header}
-use Rattle.fst_binary.specs.Spelling.{long, name_of, signed, start_number, text, type_fields, word}
-use Rattle.fst_binary.specs.Reading.{◌>>=◌, fault, header_at, is_start, named_at, number_at, number_where, start_at, types_at}
-use Rattle.fst_binary.proofs.Lengths.{length-long}
-use Rattle.fst_binary.proofs.Names.{found_alone, named_again, named_takes}
-use Rattle.fst_binary.proofs.Numbers.{longs, number_again, number_takes, where_again, where_takes, words}
-use Rattle.fst_binary.proofs.Steps.{IsBytes, Reads, Takes, Takes-then, bind_ok, done, ends_within, guard_passed, ok_is, past}
-use Rattle.fst_binary.proofs.WeightFields.{chosen, signed_is}
+use Rattle.fst_binary.specs.Spelling.{start_number, type_fields}
+use Rattle.fst_bytes.specs.Spelling.{long, signed, text, word}
+use Rattle.fst_semiring.specs.Names.{name_of}
+use Rattle.fst_fields.specs.Reading.{◌>>=◌}
+use Rattle.fst_bytes.specs.Reading.{fault, named_at, number_at, number_where}
+use Rattle.fst_bytes.proofs.Lengths.{length-long}
+use Rattle.fst_bytes.proofs.Names.{IsNamed, found_alone, name_is_short, named_again, named_takes}
+use Rattle.fst_bytes.proofs.Numbers.{longs, any_number_again, number_again, number_takes, where_again, where_takes, words}
+use Rattle.fst_bytes.proofs.Steps.{IsBytes, Reads, Takes, Takes-then, bind_ok, done, guard_passed, ok_is}
+use Rattle.fst_bytes.proofs.WeightFields.{chosen, signed_is}
 
 -- ---- types
 
@@ -25,49 +26,25 @@ unfolding types_at
 types_takes kinds bytes kind next fits e =
     let magic = λ (n : ℕ). eqb n 2125659606 in
     let vector = codes "vector" in
-    let b = bind_ok (number_where magic BadMagic 4 bytes 0) (λ m. named_at (λ t. t) (vector ∷ []) UnknownFstType bytes m.1 >>= λ f. named_at name_of kinds UnknownArcType bytes f.1) (kind, next) e in
-    let c = bind_ok (named_at (λ t. t) (vector ∷ []) UnknownFstType bytes b.0.1) (λ f. named_at name_of kinds UnknownArcType bytes f.1) (kind, next) b.2 in
-    let t0 = where_takes magic BadMagic 4 (2 ^ 32) word words bytes 0 b.0.0 b.0.1 fits b.1 in
-    let t1 = named_takes (λ t. t) (vector ∷ []) UnknownFstType bytes b.0.1 c.0.0 c.0.1 fits c.1 in
-    let t2 = named_takes name_of kinds UnknownArcType bytes c.0.1 kind next fits c.2 in
+    let b = bind_ok (number_where magic Short BadMagic 4 bytes 0) (λ m. named_at (λ t. t) (vector ∷ []) Short UnknownFstType bytes m.1 >>= λ f. named_at name_of kinds Short UnknownArcType bytes f.1) (kind, next) e in
+    let c = bind_ok (named_at (λ t. t) (vector ∷ []) Short UnknownFstType bytes b.0.1) (λ f. named_at name_of kinds Short UnknownArcType bytes f.1) (kind, next) b.2 in
+    let t0 = where_takes magic Short BadMagic 4 (2 ^ 32) word words bytes 0 b.0.0 b.0.1 fits b.1 in
+    let t1 = named_takes (λ t. t) (vector ∷ []) Short UnknownFstType bytes b.0.1 c.0.0 c.0.1 fits c.1 in
+    let t2 = named_takes name_of kinds Short UnknownArcType bytes c.0.1 kind next fits c.2 in
     let first : Takes bytes 0 (word 2125659606) b.0.1 = subst (λ (n : ℕ). Takes bytes 0 (word n) b.0.1) (eqb-true _ _ t0.1) t0.0 in
     let second : Takes bytes b.0.1 (text vector) c.0.1 = subst (λ (t : List ℕ). Takes bytes b.0.1 (text t) c.0.1) (sym (found_alone t1.1.0 vector c.0.0 t1.1.1)) t1.0 in
     let two = Takes-then bytes 0 (word 2125659606) b.0.1 (text vector) c.0.1 first second in
     (Takes-then bytes 0 (word 2125659606 ++ text vector) c.0.1 (text (name_of kind)) next two t2.0, t2.1)
-
-pub name_is_short : (kind : ArcType) → length (name_of kind) < 2 ^ 32
-name_is_short Boolean = omega arith
-name_is_short Tropical = omega arith
-name_is_short MinMax = omega arith
-name_is_short Lexicographic = omega arith
-
--- among these an arc type is found by its name
-pub record IsNamed (kinds : List ArcType) (kind : ArcType) : Type 0 where
-  pub has : list_any (λ k. eqb (length (name_of k)) (length (name_of kind))) kinds ≡ true
-  pub is : find (λ k. bytes_eq (name_of k) (name_of kind)) kinds ≡ Some kind
 
 pub types_again : (kinds : List ArcType) (kind : ArcType) (bytes rest : List ℕ) → IsNamed kinds kind → bytes ≡ type_fields kind ++ rest → Reads bytes (types_at kinds bytes) kind rest
 unfolding types_at
 types_again kinds kind bytes rest named e =
     let vector = codes "vector" in
     let apart : drop 0 bytes ≡ word 2125659606 ++ (text vector ++ (text (name_of kind) ++ rest)) = e ∙ append_assoc (word 2125659606 ++ text vector) (text (name_of kind)) rest ∙ append_assoc (word 2125659606) (text vector) (text (name_of kind) ++ rest) in
-    let magic = where_again (λ n. eqb n 2125659606) BadMagic 4 (2 ^ 32) word words bytes 0 2125659606 (text vector ++ (text (name_of kind) ++ rest)) (omega arith) (omega arith) refl apart in
-    let fst_type = named_again (λ t. t) (vector ∷ []) UnknownFstType bytes magic.next vector (text (name_of kind) ++ rest) magic.within (omega arith) refl refl magic.left in
-    let arc_type = named_again name_of kinds UnknownArcType bytes fst_type.next kind rest fst_type.within (name_is_short kind) named.has named.is fst_type.left in
+    let magic = where_again (λ n. eqb n 2125659606) Short BadMagic 4 (2 ^ 32) word words bytes 0 2125659606 (text vector ++ (text (name_of kind) ++ rest)) (omega arith) (omega arith) refl apart in
+    let fst_type = named_again (λ t. t) (vector ∷ []) Short UnknownFstType bytes magic.next vector (text (name_of kind) ++ rest) magic.within (omega arith) refl refl magic.left in
+    let arc_type = named_again name_of kinds Short UnknownArcType bytes fst_type.next kind rest fst_type.within (name_is_short kind) named.has named.is fst_type.left in
     record { next = arc_type.next; gives = rw (magic.gives, fst_type.gives, arc_type.gives) refl; left = arc_type.left; within = arc_type.within }
-
--- an arc type by itself, and among all four
-pub named_alone : (kind : ArcType) → IsNamed (kind ∷ []) kind
-named_alone Boolean = record { has = refl; is = refl }
-named_alone Tropical = record { has = refl; is = refl }
-named_alone MinMax = record { has = refl; is = refl }
-named_alone Lexicographic = record { has = refl; is = refl }
-
-pub named_of_all : (kind : ArcType) → IsNamed (Boolean ∷ Tropical ∷ MinMax ∷ Lexicographic ∷ []) kind
-named_of_all Boolean = record { has = refl; is = refl }
-named_of_all Tropical = record { has = refl; is = refl }
-named_of_all MinMax = record { has = refl; is = refl }
-named_of_all Lexicographic = record { has = refl; is = refl }
 
 -- ---- the start
 
@@ -78,9 +55,9 @@ start_takes : (bytes : List ℕ) (at : ℕ) (s : Option ℕ) (next : ℕ) → Is
 unfolding start_at
 start_takes bytes at s next fits e =
     let some = λ (n : ℕ × ℕ). cond (ltb n.0 most_states) (done {A = Option ℕ × ℕ} {E = BinaryFault} (Some n.0, n.1)) (fault BadStart at) in
-    let b = bind_ok (number_at 8 bytes at) (λ n. cond (eqb n.0 18446744073709551615) (Ok (None, n.1)) (some n)) (s, next) e in
+    let b = bind_ok (number_at Short 8 bytes at) (λ n. cond (eqb n.0 18446744073709551615) (Ok (None, n.1)) (some n)) (s, next) e in
     let n = b.0.0 in
-    let t = (number_takes 8 (2 ^ 64) long longs bytes at n b.0.1 fits b.1).0 in
+    let t = (number_takes Short 8 (2 ^ 64) long longs bytes at n b.0.1 fits b.1).0 in
     elim (chosen (eqb n 18446744073709551615) (Ok (None, b.0.1)) (some b.0) (Ok (s, next)) b.2) [
       | inl none ↦
           let own : Takes bytes at (signed (start_number None)) b.0.1 = subst (λ (x : List ℕ). Takes bytes at x b.0.1) (ap long (eqb-true _ _ none.0) ∙ minus_one) t in
@@ -101,10 +78,10 @@ unequal a b lt = not_true (eqb a b) (λ e. omega (arith, eqb-true a b e, lt))
 start_again : (bytes : List ℕ) (at : ℕ) (s : Option ℕ) (rest : List ℕ) → at ≤ length bytes → IfSome s (λ n. n < most_states) → drop at bytes ≡ signed (start_number s) ++ rest → Reads bytes (start_at bytes at) s rest
 unfolding start_at
 start_again bytes at None rest within below e =
-    let r = number_again 8 (2 ^ 64) long longs bytes at 18446744073709551615 rest within (omega arith) (e ∙ ap (λ (x : List ℕ). x ++ rest) (sym minus_one)) in
+    let r = number_again Short 8 (2 ^ 64) long longs bytes at 18446744073709551615 rest within (omega arith) (e ∙ ap (λ (x : List ℕ). x ++ rest) (sym minus_one)) in
     record { next = r.next; gives = rw r.gives refl; left = r.left; within = r.within }
 start_again bytes at (Some n) rest within below e =
-    let r = number_again 8 (2 ^ 64) long longs bytes at n rest within (omega (arith, below)) (e ∙ ap (λ (x : List ℕ). x ++ rest) (signed_is (start_number (Some n)))) in
+    let r = number_again Short 8 (2 ^ 64) long longs bytes at n rest within (omega (arith, below)) (e ∙ ap (λ (x : List ℕ). x ++ rest) (signed_is (start_number (Some n)))) in
     let other : eqb n 18446744073709551615 ≡ false = unequal n 18446744073709551615 (omega (arith, below)) in
     record { next = r.next; gives = rw (r.gives, other, lt-ltb _ _ below) refl; left = r.left; within = r.within }
 
@@ -137,22 +114,22 @@ pub record HeaderTaken (bytes front : List ℕ) (h : Header) : Type 0 where
 pub header_takes : (bytes front : List ℕ) (at : ℕ) (h : Header) → IsBytes bytes → Takes bytes 0 front at → header_at bytes at ≡ Ok h → HeaderTaken bytes front h
 unfolding header_at
 header_takes bytes front at h fits begins e =
-    let arcs_of = λ (start : Option ℕ × ℕ) (offset : ℕ) (states : ℕ × ℕ). cond (is_start start.0 states.0) (number_where (λ n. leb n most_arcs) BadCount 8 bytes states.1) (fault BadStart offset) >>= λ arcs. done {A = Header} {E = BinaryFault} (record { start = start.0; states = states.0; arcs = arcs.0; counted = states.1; behind = arcs.1 }) in
-    let states_of = λ (start : Option ℕ × ℕ) (offset : ℕ). number_where (λ n. leb n most_states) BadCount 8 bytes start.1 >>= arcs_of start offset in
+    let arcs_of = λ (start : Option ℕ × ℕ) (offset : ℕ) (states : ℕ × ℕ). cond (is_start start.0 states.0) (number_where (λ n. leb n most_arcs) Short BadCount 8 bytes states.1) (fault BadStart offset) >>= λ arcs. done {A = Header} {E = BinaryFault} (record { start = start.0; states = states.0; arcs = arcs.0; counted = states.1; behind = arcs.1 }) in
+    let states_of = λ (start : Option ℕ × ℕ) (offset : ℕ). number_where (λ n. leb n most_states) Short BadCount 8 bytes start.1 >>= arcs_of start offset in
     let start_of = λ (p : ℕ × ℕ). start_at bytes p.1 >>= λ start. states_of start p.1 in
-    let b0 = bind_ok (number_where (λ n. eqb n 2) BadVersion 4 bytes at) (λ v. number_where (λ n. eqb n 0) BadFlags 4 bytes v.1 >>= λ f. number_at 8 bytes f.1 >>= start_of) h e in
-    let b1 = bind_ok (number_where (λ n. eqb n 0) BadFlags 4 bytes b0.0.1) (λ f. number_at 8 bytes f.1 >>= start_of) h b0.2 in
-    let b2 = bind_ok (number_at 8 bytes b1.0.1) start_of h b1.2 in
+    let b0 = bind_ok (number_where (λ n. eqb n 2) Short BadVersion 4 bytes at) (λ v. number_where (λ n. eqb n 0) Short BadFlags 4 bytes v.1 >>= λ f. number_at Short 8 bytes f.1 >>= start_of) h e in
+    let b1 = bind_ok (number_where (λ n. eqb n 0) Short BadFlags 4 bytes b0.0.1) (λ f. number_at Short 8 bytes f.1 >>= start_of) h b0.2 in
+    let b2 = bind_ok (number_at Short 8 bytes b1.0.1) start_of h b1.2 in
     let b3 = bind_ok (start_at bytes b2.0.1) (λ start. states_of start b2.0.1) h b2.2 in
-    let b4 = bind_ok (number_where (λ n. leb n most_states) BadCount 8 bytes b3.0.1) (arcs_of b3.0 b2.0.1) h b3.2 in
-    let b5 = bind_ok (cond (is_start b3.0.0 b4.0.0) (number_where (λ n. leb n most_arcs) BadCount 8 bytes b4.0.1) (fault BadStart b2.0.1)) (λ arcs. done {A = Header} {E = BinaryFault} (record { start = b3.0.0; states = b4.0.0; arcs = arcs.0; counted = b4.0.1; behind = arcs.1 })) h b4.2 in
-    let g = guard_passed (is_start b3.0.0 b4.0.0) (number_where (λ n. leb n most_arcs) BadCount 8 bytes b4.0.1) (record { offset = b2.0.1; kind = BadStart }) b5.0 b5.1 in
-    let t0 = where_takes (λ n. eqb n 2) BadVersion 4 (2 ^ 32) word words bytes at b0.0.0 b0.0.1 fits b0.1 in
-    let t1 = where_takes (λ n. eqb n 0) BadFlags 4 (2 ^ 32) word words bytes b0.0.1 b1.0.0 b1.0.1 fits b1.1 in
-    let t2 = (number_takes 8 (2 ^ 64) long longs bytes b1.0.1 b2.0.0 b2.0.1 fits b2.1).0 in
+    let b4 = bind_ok (number_where (λ n. leb n most_states) Short BadCount 8 bytes b3.0.1) (arcs_of b3.0 b2.0.1) h b3.2 in
+    let b5 = bind_ok (cond (is_start b3.0.0 b4.0.0) (number_where (λ n. leb n most_arcs) Short BadCount 8 bytes b4.0.1) (fault BadStart b2.0.1)) (λ arcs. done {A = Header} {E = BinaryFault} (record { start = b3.0.0; states = b4.0.0; arcs = arcs.0; counted = b4.0.1; behind = arcs.1 })) h b4.2 in
+    let g = guard_passed (is_start b3.0.0 b4.0.0) (number_where (λ n. leb n most_arcs) Short BadCount 8 bytes b4.0.1) (record { offset = b2.0.1; kind = BadStart }) b5.0 b5.1 in
+    let t0 = where_takes (λ n. eqb n 2) Short BadVersion 4 (2 ^ 32) word words bytes at b0.0.0 b0.0.1 fits b0.1 in
+    let t1 = where_takes (λ n. eqb n 0) Short BadFlags 4 (2 ^ 32) word words bytes b0.0.1 b1.0.0 b1.0.1 fits b1.1 in
+    let t2 = (number_takes Short 8 (2 ^ 64) long longs bytes b1.0.1 b2.0.0 b2.0.1 fits b2.1).0 in
     let t3 = start_takes bytes b2.0.1 b3.0.0 b3.0.1 fits b3.1 in
-    let t4 = where_takes (λ n. leb n most_states) BadCount 8 (2 ^ 64) long longs bytes b3.0.1 b4.0.0 b4.0.1 fits b4.1 in
-    let t5 = where_takes (λ n. leb n most_arcs) BadCount 8 (2 ^ 64) long longs bytes b4.0.1 b5.0.0 b5.0.1 fits g.1 in
+    let t4 = where_takes (λ n. leb n most_states) Short BadCount 8 (2 ^ 64) long longs bytes b3.0.1 b4.0.0 b4.0.1 fits b4.1 in
+    let t5 = where_takes (λ n. leb n most_arcs) Short BadCount 8 (2 ^ 64) long longs bytes b4.0.1 b5.0.0 b5.0.1 fits g.1 in
     let version : Takes bytes at (word 2) b0.0.1 = subst (λ (n : ℕ). Takes bytes at (word n) b0.0.1) (eqb-true _ _ t0.1) t0.0 in
     let flags : Takes bytes b0.0.1 (word 0) b1.0.1 = subst (λ (n : ℕ). Takes bytes b0.0.1 (word n) b1.0.1) (eqb-true _ _ t1.1) t1.0 in
     let two = Takes-then bytes 0 front at (word 2) b0.0.1 begins version in
@@ -178,21 +155,14 @@ pub record HeaderRead (bytes : List ℕ) (at : ℕ) (start : Option ℕ) (states
   pub left : drop behind bytes ≡ rest
   pub within : behind ≤ length bytes
 
-skipped : (bytes : List ℕ) (at : ℕ) (properties rest : List ℕ) → at ≤ length bytes → length properties ≡ 8 → drop at bytes ≡ properties ++ rest → (n : ℕ) × Reads bytes (number_at 8 bytes at) n rest
-unfolding number_at
-skipped bytes at properties rest within eight e =
-    let ends = ends_within bytes at properties rest within e in
-    let whole : ltb (length bytes) (at + 8) ≡ false = le-ltb _ _ (omega (arith, ends, eight)) in
-    (little_number 8 (drop at bytes), record { next = at + 8; gives = rw whole refl; left = past bytes at properties rest 8 eight e; within = omega (arith, ends, eight) })
-
 pub header_again : (bytes : List ℕ) (at : ℕ) (properties : List ℕ) (start : Option ℕ) (states arcs : ℕ) (rest : List ℕ) → at ≤ length bytes → length properties ≡ 8 → IfSome start (λ s. s < states) → states ≤ most_states → arcs ≤ most_arcs
     → drop at bytes ≡ word 2 ++ (word 0 ++ (properties ++ (signed (start_number start) ++ (long states ++ (long arcs ++ rest))))) → HeaderRead bytes at start states arcs rest
 unfolding header_at
 header_again bytes at properties start states arcs rest within eight below few_states few_arcs e =
-    let two = where_again (λ n. eqb n 2) BadVersion 4 (2 ^ 32) word words bytes at 2 (word 0 ++ (properties ++ (signed (start_number start) ++ (long states ++ (long arcs ++ rest))))) within (omega arith) refl e in
-    let none = where_again (λ n. eqb n 0) BadFlags 4 (2 ^ 32) word words bytes two.next 0 (properties ++ (signed (start_number start) ++ (long states ++ (long arcs ++ rest)))) two.within (omega arith) refl two.left in
-    let any = skipped bytes none.next properties (signed (start_number start) ++ (long states ++ (long arcs ++ rest))) none.within eight none.left in
+    let two = where_again (λ n. eqb n 2) Short BadVersion 4 (2 ^ 32) word words bytes at 2 (word 0 ++ (properties ++ (signed (start_number start) ++ (long states ++ (long arcs ++ rest))))) within (omega arith) refl e in
+    let none = where_again (λ n. eqb n 0) Short BadFlags 4 (2 ^ 32) word words bytes two.next 0 (properties ++ (signed (start_number start) ++ (long states ++ (long arcs ++ rest)))) two.within (omega arith) refl two.left in
+    let any = any_number_again Short 8 bytes none.next properties (signed (start_number start) ++ (long states ++ (long arcs ++ rest))) none.within eight none.left in
     let s = start_again bytes any.1.next start (long states ++ (long arcs ++ rest)) any.1.within (start_is_small start states few_states below) any.1.left in
-    let n = where_again (λ n. leb n most_states) BadCount 8 (2 ^ 64) long longs bytes s.next states (long arcs ++ rest) s.within (omega (arith, few_states)) (le-leb _ _ few_states) s.left in
-    let a = where_again (λ n. leb n most_arcs) BadCount 8 (2 ^ 64) long longs bytes n.next arcs rest n.within (omega (arith, few_arcs)) (le-leb _ _ few_arcs) n.left in
+    let n = where_again (λ n. leb n most_states) Short BadCount 8 (2 ^ 64) long longs bytes s.next states (long arcs ++ rest) s.within (omega (arith, few_states)) (le-leb _ _ few_states) s.left in
+    let a = where_again (λ n. leb n most_arcs) Short BadCount 8 (2 ^ 64) long longs bytes n.next arcs rest n.within (omega (arith, few_arcs)) (le-leb _ _ few_arcs) n.left in
     record { counted = n.next; behind = a.next; gives = rw (two.gives, none.gives, any.1.gives, s.gives, n.gives, start_passes start states below, a.gives) refl; left = a.left; within = a.within }

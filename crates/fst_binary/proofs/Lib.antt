@@ -1,14 +1,9 @@
 pub mod Lists
 pub mod Lengths
 pub mod Loops
-pub mod Steps
-pub mod Numbers
-pub mod Names
-pub mod WeightFields
 pub mod States
 pub mod Headers
 pub mod Decoded
 pub mod Machines
 pub mod Encoded
 pub mod Values
-pub mod Weights

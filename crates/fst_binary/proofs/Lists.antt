@@ -1,9 +1,8 @@
 -- Going over a list and writing each item: what is left, and how long it is.
-use Rattle.std.proofs.Common.{◌≡◌, ℕ, zero, suc, ◌+◌, ◌<◌, ◌≤◌, List, [], ◌∷◌, ◌++◌, map, length, get_or, drop, take, All, Some, refl, sym, ap, subst, ◌∙◌, append_assoc, arith}
+use Rattle.std.proofs.Common.{◌≡◌, ℕ, zero, suc, ◌+◌, ◌<◌, List, [], ◌∷◌, map, length, get_or, drop, take, All, Some, refl, sym, ap, subst, ◌∙◌, arith}
 use Rattle.std.specs.Prelude.{slice_get}
 use Rattle.std.specs.Option.{option_map}
-use Rattle.std.specs.List.{flat_map}
-use Rattle.std.proofs.lemmas.List.{length-append, length-map}
+use Rattle.std.proofs.lemmas.List.{length-map}
 use Rattle.std.proofs.lemmas.List.Elements.{All-more}
 use Rattle.std.proofs.lemmas.List.Sums.{sum_by-cons}
 use Rattle.fst_semiring.specs.Cost.{Cost}
@@ -11,17 +10,6 @@ use Rattle.fst_machine.specs.Machine.{Arc, State, arc_total, valued_arc, valued_
 
 some_is : {X : Type 0} (x y : X) → Some x ≡ Some y → x ≡ y
 some_is x y e = cc
-
--- what is left of a list from a place on is the item there and the rest
-item_and_rest : {X Y : Type 0} (f : X → Y) (xs : List X) (i : ℕ) (x : X) → i < length xs → x ≡ get_or xs i x → drop i (map f xs) ≡ f x ∷ drop (suc i) (map f xs)
-item_and_rest f [] i x within e = absurd (omega arith)
-item_and_rest f (x ∷ xs) zero y within e = ap (λ z. f z ∷ map f xs) (sym e)
-item_and_rest f (x ∷ xs) (suc i) y within e = item_and_rest f xs i y (omega arith) e
-
-pub item_left : {X Y : Type 0} (f : X → Y) (xs : List X) (i : ℕ) (x : X) → i < length xs → x ≡ get_or xs i x → drop i (map f xs) ≡ f x ∷ drop (i + 1) (map f xs)
-item_left f xs i x within e =
-    let next : suc i ≡ i + 1 = omega arith in
-    subst (λ (j : ℕ). drop i (map f xs) ≡ f x ∷ drop j (map f xs)) next (item_and_rest f xs i x within e)
 
 -- the same of a state that is known by its two parts
 state_and_rest : {V : Type 0} (value : V → Cost) (states : List (State V)) (i : ℕ) (last : V) (arcs : List (Arc V ℕ)) → option_map (λ s. s.final) (slice_get states i) ≡ Some last → option_map (λ s. s.arcs) (slice_get states i) ≡ Some arcs
@@ -35,23 +23,6 @@ pub state_left : {V : Type 0} (value : V → Cost) (states : List (State V)) (i 
 state_left value states i last arcs f a =
     let next : suc i ≡ i + 1 = omega arith in
     subst (λ (j : ℕ). drop i (map (valued_state value) states) ≡ record { final = value last; arcs = map (valued_arc value) arcs } ∷ drop j (map (valued_state value) states)) next (state_and_rest value states i last arcs f a)
-
--- an item is written, and what is left of the list stays to be written
-pub item_written : {Y : Type 0} (f : Y → List ℕ) (out : List ℕ) (y : Y) (ys rest : List Y) (whole : List ℕ) → rest ≡ y ∷ ys → out ++ flat_map f rest ≡ whole → (out ++ f y) ++ flat_map f ys ≡ whole
-item_written f out y ys rest whole e h = append_assoc out (f y) (flat_map f ys) ∙ ap (λ zs. out ++ flat_map f zs) (sym e) ∙ h
-
--- there is room for an item where there is room for all
-pub item_fits : {Y : Type 0} (f : Y → List ℕ) (out : List ℕ) (y : Y) (ys rest : List Y) (whole : List ℕ) (room : ℕ) → rest ≡ y ∷ ys → out ++ flat_map f rest ≡ whole → length whole ≤ room → length out + length (f y) ≤ room
-item_fits f out y ys rest whole room e h fits =
-    let n : length whole ≡ length (out ++ f y) + length (flat_map f ys) = ap length (sym (item_written f out y ys rest whole e h)) ∙ length-append (out ++ f y) (flat_map f ys) in
-    let m = length-append out (f y) in
-    omega (arith, n, m, fits)
-
--- an item is counted, and what is left of the list stays to be counted
-pub item_counted : {Y : Type 0} (f : Y → List ℕ) (n : ℕ) (y : Y) (ys rest : List Y) (total : ℕ) → rest ≡ y ∷ ys → n + length (flat_map f rest) ≡ total → (n + length (f y)) + length (flat_map f ys) ≡ total
-item_counted f n y ys rest total e h =
-    let all : length (flat_map f rest) ≡ length (f y) + length (flat_map f ys) = ap (λ zs. length (flat_map f zs)) e ∙ length-append (f y) (flat_map f ys) in
-    omega (arith, all, h)
 
 -- the arcs of a state and of the rest
 pub arcs_left : (s : State Cost) (rest states : List (State Cost)) → states ≡ s ∷ rest → arc_total states ≡ length s.arcs + arc_total rest
@@ -79,7 +50,3 @@ state_more {V} P states i last arcs f a so_far own =
     let s : State V = record { final = last; arcs = arcs } in
     let stands = state_stands states i last arcs f a s in
     All-more P states i s stands.0 so_far (subst P (sym stands.1) own)
-
--- the same of an item
-pub item_more : {X : Type 0} (P : X → Type 0) (xs : List X) (i : ℕ) (x : X) → i < length xs → x ≡ get_or xs i x → All P (take i xs) → P x → All P (take (i + 1) xs)
-item_more P xs i x within e so_far own = All-more P xs i x within so_far (subst P e own)

@@ -1,45 +1,15 @@
--- Reading arcs, or states, one after the other, as a loop does.
-use Rattle.std.proofs.Common.{◌≡◌, ℕ, suc, ◌-◌, ◌+◌, ◌≤◌, ◌<◌, List, [], ◌∷◌, ◌++◌, length, Result, Ok, Err, refl, sym, ap, ◌∙◌, append_assoc, inl, inr, arith}
-use Rattle.std.proofs.lemmas.List.{append-nil}
+-- Reading states one after the other, as a loop does.
+use Rattle.std.proofs.Common.{◌≡◌, ℕ, suc, ◌-◌, ◌+◌, ◌≤◌, ◌<◌, List, [], ◌∷◌, ◌++◌, length, Result, Ok, Err, refl, sym, ◌∙◌, arith}
 use Rattle.fst_semiring.specs.declared.arc_type.ArcType.{ArcType}
 use Rattle.fst_semiring.specs.Cost.{Cost}
-use Rattle.fst_machine.specs.Machine.{Arc, State}
-use Rattle.fst_binary.specs.declared.fault.BinaryFault.{BinaryFault}
-use Rattle.fst_binary.specs.Reading.{◌>>=◌, Fails, arc_at, arcs_at, state_at, states_at}
-
--- what was read before, and what is still read
-abbrev pub with_front : {X : Type 0} → List X → Result (List X × ℕ) BinaryFault → Result (List X × ℕ) BinaryFault
-with_front front read = read >>= λ x. Ok (front ++ x.0, x.1)
-
-regroup : {X : Type 0} (front : List X) (x : X) (read : Result (List X × ℕ) BinaryFault) → with_front front (read >>= λ y. Ok (x ∷ y.0, y.1)) ≡ with_front (front ++ x ∷ []) read
-regroup {X} front x (Ok y) = ap (λ (xs : List X). Ok (xs, y.1)) (simp append_assoc)
-regroup front x (Err f) = refl
-
--- an arc more is read
-pub arcs_go_on : (kind : ArcType) (states : ℕ) (front : List (Arc Cost ℕ)) (count i : ℕ) (bytes : List ℕ) (at : ℕ) (arc : Arc Cost ℕ) (after : ℕ) (total : Result (List (Arc Cost ℕ) × ℕ) BinaryFault) → i < count → arc_at kind states bytes at ≡ Ok (arc, after)
-    → with_front front (arcs_at kind states (count - i) bytes at) ≡ total → with_front (front ++ arc ∷ []) (arcs_at kind states (count - (i + 1)) bytes after) ≡ total
-unfolding arcs_at
-arcs_go_on kind states front count i bytes at arc after total more h so_far =
-    let k : count - i ≡ suc (count - (i + 1)) = omega arith in
-    let one : with_front front (arcs_at kind states (count - i) bytes at) ≡ with_front (front ++ arc ∷ []) (arcs_at kind states (count - (i + 1)) bytes after) = rw (k, h) (regroup front arc (arcs_at kind states (count - (i + 1)) bytes after)) in
-    sym one ∙ so_far
-
--- the fault of an arc is the fault of all
-pub arcs_end : (kind : ArcType) (states : ℕ) (front : List (Arc Cost ℕ)) (count i : ℕ) (bytes : List ℕ) (at : ℕ) (f : BinaryFault) (total : Result (List (Arc Cost ℕ) × ℕ) BinaryFault) → i < count → arc_at kind states bytes at ≡ Err f
-    → with_front front (arcs_at kind states (count - i) bytes at) ≡ total → total ≡ Err f
-unfolding arcs_at
-arcs_end kind states front count i bytes at f total more h so_far =
-    let k : count - i ≡ suc (count - (i + 1)) = omega arith in
-    let one : with_front front (arcs_at kind states (count - i) bytes at) ≡ Err f = rw (k, h) refl in
-    sym so_far ∙ one
-
--- no arc is left
-pub arcs_are_read : (kind : ArcType) (states : ℕ) (front : List (Arc Cost ℕ)) (count i : ℕ) (bytes : List ℕ) (at : ℕ) (total : Result (List (Arc Cost ℕ) × ℕ) BinaryFault) → count ≤ i → with_front front (arcs_at kind states (count - i) bytes at) ≡ total → total ≡ Ok (front, at)
-unfolding arcs_at
-arcs_are_read kind states front count i bytes at total none so_far =
-    let k : count - i ≡ 0 = omega arith in
-    let one : with_front front (arcs_at kind states (count - i) bytes at) ≡ Ok (front, at) = rw k (ap (λ (arcs : List (Arc Cost ℕ)). Ok (arcs, at)) (append-nil front)) in
-    sym so_far ∙ one
+use Rattle.fst_machine.specs.Machine.{State}
+use Rattle.fst_bytes.specs.declared.fault.Stopped.{Stopped}
+use Rattle.fst_bytes.specs.declared.fault.Stopped.TheVariants.{At, Memory}
+use Rattle.fst_bytes.specs.Reading.{with_front}
+use Rattle.fst_bytes.specs.Stopping.{Stops}
+use Rattle.fst_bytes.proofs.Loops.{front_ends, front_grows}
+use Rattle.fst_binary.specs.declared.fault.BinaryKind.{BinaryKind}
+use Rattle.fst_binary.specs.Reading.{BinaryFault, state_at, states_at}
 
 -- a state more is read
 pub states_go_on : (kind : ArcType) (states arcs before : ℕ) (front : List (State Cost)) (count i : ℕ) (bytes : List ℕ) (at : ℕ) (state : State Cost) (after : ℕ) (total : Result (List (State Cost) × ℕ) BinaryFault) → i < count → state_at kind states arcs before bytes at ≡ Ok (state, after)
@@ -47,7 +17,7 @@ pub states_go_on : (kind : ArcType) (states arcs before : ℕ) (front : List (St
 unfolding states_at
 states_go_on kind states arcs before front count i bytes at state after total more h so_far =
     let k : count - i ≡ suc (count - (i + 1)) = omega arith in
-    let one : with_front front (states_at kind states arcs before (count - i) bytes at) ≡ with_front (front ++ state ∷ []) (states_at kind states arcs (before + length state.arcs) (count - (i + 1)) bytes after) = rw (k, h) (regroup front state (states_at kind states arcs (before + length state.arcs) (count - (i + 1)) bytes after)) in
+    let one : with_front front (states_at kind states arcs before (count - i) bytes at) ≡ with_front (front ++ state ∷ []) (states_at kind states arcs (before + length state.arcs) (count - (i + 1)) bytes after) = rw (k, h) (front_grows front state (states_at kind states arcs (before + length state.arcs) (count - (i + 1)) bytes after)) in
     sym one ∙ so_far
 
 -- the fault of a state is the fault of all
@@ -59,18 +29,15 @@ states_end kind states arcs before front count i bytes at f total more h so_far 
     let one : with_front front (states_at kind states arcs before (count - i) bytes at) ≡ Err f = rw (k, h) refl in
     sym so_far ∙ one
 
-pub states_fail : (kind : ArcType) (states arcs before : ℕ) (front : List (State Cost)) (count i : ℕ) (bytes : List ℕ) (at : ℕ) (f : BinaryFault) (total : Result (List (State Cost) × ℕ) BinaryFault) → i < count → Fails f (state_at kind states arcs before bytes at)
-    → with_front front (states_at kind states arcs before (count - i) bytes at) ≡ total → Fails f total
-states_fail kind states arcs before front count i bytes at f total more h so_far =
-    elim h [
-      | inl starved ↦ inl starved
-      | inr wrong ↦ inr (states_end kind states arcs before front count i bytes at f total more wrong so_far)
-    ]
+pub states_stop : (kind : ArcType) (states arcs before : ℕ) (front : List (State Cost)) (count i : ℕ) (bytes : List ℕ) (at : ℕ) (stopped : Stopped BinaryKind) (total : Result (List (State Cost) × ℕ) BinaryFault) → i < count → Stops stopped (state_at kind states arcs before bytes at)
+    → with_front front (states_at kind states arcs before (count - i) bytes at) ≡ total → Stops stopped total
+states_stop kind states arcs before front count i bytes at (At f) total more wrong so_far = states_end kind states arcs before front count i bytes at f total more wrong so_far
+states_stop kind states arcs before front count i bytes at Memory total more starved so_far = tt
 
 -- no state is left
 pub states_are_read : (kind : ArcType) (states arcs before : ℕ) (front : List (State Cost)) (count i : ℕ) (bytes : List ℕ) (at : ℕ) (total : Result (List (State Cost) × ℕ) BinaryFault) → count ≤ i → with_front front (states_at kind states arcs before (count - i) bytes at) ≡ total → total ≡ Ok (front, at)
 unfolding states_at
 states_are_read kind states arcs before front count i bytes at total none so_far =
     let k : count - i ≡ 0 = omega arith in
-    let one : with_front front (states_at kind states arcs before (count - i) bytes at) ≡ Ok (front, at) = rw k (ap (λ (read : List (State Cost)). Ok (read, at)) (append-nil front)) in
+    let one : with_front front (states_at kind states arcs before (count - i) bytes at) ≡ Ok (front, at) = rw k (front_ends front at) in
     sym so_far ∙ one

@@ -9,15 +9,17 @@ use Rattle.fst_semiring.specs.declared.arc_type.ArcType.{ArcType}
 use Rattle.fst_semiring.specs.declared.arc_type.ArcType.TheVariants.{Boolean, Tropical, MinMax, Lexicographic}
 use Rattle.fst_semiring.specs.Cost.{Cost}
 use Rattle.fst_machine.specs.Machine.{Arc, State, Machine, IsArc, IsMachine, arc_total}
-use Rattle.fst_binary.specs.declared.fault.BinaryFault.{BinaryFault}
+use Rattle.fst_binary.specs.Reading.{BinaryFault, Gives, header_at, machine_at, machine_of_bytes, states_at, types_at}
 use Rattle.fst_binary.specs.declared.fault.BinaryKind.TheVariants.{BadCount, Extra}
 use Rattle.fst_binary.specs.declared.header.Header.{Header}
-use Rattle.fst_binary.specs.Spelling.{HasField, HasSpelling, Spells, count_fields, long, signed, spelling_with, start_number, state_fields, type_fields, word}
-use Rattle.fst_binary.specs.Reading.{◌>>=◌, Gives, fault, header_at, machine_at, machine_of_bytes, states_at, types_at}
-use Rattle.fst_binary.proofs.Headers.{counts, header_again, header_takes, named_alone, named_of_all, types_again, types_takes}
-use Rattle.fst_binary.proofs.Names.{found_alone}
+use Rattle.fst_binary.specs.Spelling.{HasSpelling, Spells, count_fields, spelling_with, start_number, state_fields, type_fields}
+use Rattle.fst_bytes.specs.Spelling.{HasField, long, signed, word}
+use Rattle.fst_fields.specs.Reading.{◌>>=◌}
+use Rattle.fst_bytes.specs.Reading.{fault}
+use Rattle.fst_binary.proofs.Headers.{counts, header_again, header_takes, types_again, types_takes}
+use Rattle.fst_bytes.proofs.Names.{found_alone, named_alone, named_of_all}
 use Rattle.fst_binary.proofs.States.{GoodArc, GoodState, states_again, states_takes}
-use Rattle.fst_binary.proofs.Steps.{IsBytes, Takes, Takes-all, Takes-then, bind_ok, done, guard_passed, ok_is}
+use Rattle.fst_bytes.proofs.Steps.{IsBytes, Takes, Takes-all, Takes-then, bind_ok, done, guard_passed, ok_is}
 
 -- ---- good states, and machines that have a spelling
 

@@ -1,62 +1,21 @@
 -- Arcs and states that are read are those that stand there.
-use Rattle.std.proofs.Common.{◌≡◌, ℕ, zero, suc, ◌+◌, ◌^◌, ◌<◌, ◌≤◌, ◌≢◌, false, cond, ltb, leb, List, [], ◌∷◌, ◌++◌, length, drop, Result, Ok, Err, refl, sym, ap, subst, ◌∙◌, append_assoc, arith}
-use Rattle.std.specs.Result.{result_map_both}
+use Rattle.std.proofs.Common.{◌≡◌, ℕ, zero, suc, ◌+◌, ◌^◌, ◌<◌, ◌≤◌, ltb, leb, List, [], ◌∷◌, ◌++◌, length, drop, Ok, refl, sym, ap, subst, ◌∙◌, append_assoc, arith}
 use Rattle.std.specs.List.{AllByRecursion, flat_map}
 use Rattle.std.proofs.lemmas.Bool.{le-leb, leb-true, lt-ltb, ltb-true}
 use Rattle.std.proofs.lemmas.List.Sums.{sum_by-cons}
 use Rattle.fst_semiring.specs.declared.arc_type.ArcType.{ArcType}
-use Rattle.fst_semiring.specs.Cost.{Cost, best, finite, infinite}
+use Rattle.fst_semiring.specs.Cost.{Cost}
 use Rattle.fst_machine.specs.Machine.{Arc, State, IsArc, arc_total, greatest_label}
-use Rattle.fst_binary.specs.declared.fault.BinaryFault.{BinaryFault}
-use Rattle.fst_binary.specs.declared.fault.BinaryKind.TheVariants.{BadCount, BadLabel, BadNext}
-use Rattle.fst_binary.specs.declared.fault.BinaryKind.TheVariants as kinds
-use Rattle.fst_binary.specs.Spelling.{HasField, arc_fields, long, state_fields, weight_field, word}
-use Rattle.fst_binary.specs.Reading.{◌>>=◌, arc_at, arc_weight_at, arcs_at, fault, field_fault, final_at, is_infinite, number_where, state_at, states_at, weight_at}
-use Rattle.fst_binary.proofs.Numbers.{longs, where_again, where_takes, words}
-use Rattle.fst_binary.proofs.Steps.{IsBytes, Reads, Takes, Takes-none, Takes-then, bind_ok, guard_ok, ok_is}
-use Rattle.fst_binary.proofs.WeightFields.{weight_again, weight_takes}
-
--- ---- weights
-
-pub mapped_is : {A D E : Type 0} (f : D → E) (r : Result A D) (y : A) → result_map_both (λ x. x) f r ≡ Ok y → r ≡ Ok y
-mapped_is f (Ok x) y e = cc
-mapped_is f (Err d) y e = absurd cc
-
-final_takes : (kind : ArcType) (bytes : List ℕ) (at : ℕ) (v : Cost) (next : ℕ) → IsBytes bytes → final_at kind bytes at ≡ Ok (v, next) → Takes bytes at (weight_field kind v) next × HasField kind v
-unfolding final_at
-final_takes kind bytes at v next fits e = weight_takes kind bytes at v next fits (mapped_is (field_fault bytes at) (weight_at kind bytes at) (v, next) e)
-
-final_again : (kind : ArcType) (bytes : List ℕ) (at : ℕ) (v : Cost) (rest : List ℕ) → at ≤ length bytes → HasField kind v → drop at bytes ≡ weight_field kind v ++ rest → Reads bytes (final_at kind bytes at) v rest
-unfolding final_at
-final_again kind bytes at v rest within fits e =
-    let r = weight_again kind bytes at v rest within fits e in
-    record { next = r.next; gives = rw r.gives refl; left = r.left; within = r.within }
-
-pub not_infinite : (v : Cost) → is_infinite v ≡ false → v ≢ infinite
-not_infinite infinite e same = absurd cc
-not_infinite best e same = absurd cc
-not_infinite (finite a b) e same = absurd cc
-
-pub is_finite : (v : Cost) → v ≢ infinite → is_infinite v ≡ false
-is_finite infinite h = absurd (h refl)
-is_finite best h = refl
-is_finite (finite a b) h = refl
-
-arc_weight_takes : (kind : ArcType) (bytes : List ℕ) (at : ℕ) (v : Cost) (next : ℕ) → IsBytes bytes → arc_weight_at kind bytes at ≡ Ok (v, next) → Takes bytes at (weight_field kind v) next × HasField kind v × (v ≢ infinite)
-unfolding arc_weight_at
-arc_weight_takes kind bytes at v next fits e =
-    let b = bind_ok (final_at kind bytes at) (λ w. cond (is_infinite w.0) (fault kinds.BadWeight at) (Ok w)) (v, next) e in
-    let g = guard_ok (is_infinite b.0.0) (Ok b.0) (record { offset = at; kind = kinds.BadWeight }) (v, next) b.2 in
-    let same : b.0 ≡ (v, next) = ok_is {A = Cost × ℕ} {E = BinaryFault} _ _ g.1 in
-    let read : final_at kind bytes at ≡ Ok (v, next) = b.1 ∙ ap (λ (p : Cost × ℕ). Ok p) same in
-    let t = final_takes kind bytes at v next fits read in
-    (t.0, t.1, not_infinite v (ap (λ (p : Cost × ℕ). is_infinite p.0) (sym same) ∙ g.0))
-
-arc_weight_again : (kind : ArcType) (bytes : List ℕ) (at : ℕ) (v : Cost) (rest : List ℕ) → at ≤ length bytes → HasField kind v → v ≢ infinite → drop at bytes ≡ weight_field kind v ++ rest → Reads bytes (arc_weight_at kind bytes at) v rest
-unfolding arc_weight_at
-arc_weight_again kind bytes at v rest within fits not e =
-    let r = final_again kind bytes at v rest within fits e in
-    record { next = r.next; gives = rw (r.gives, is_finite v not) refl; left = r.left; within = r.within }
+use Rattle.fst_binary.specs.Reading.{BinaryFault, arc_at, arcs_at, state_at, states_at}
+use Rattle.fst_binary.specs.declared.fault.BinaryKind.TheVariants.{BadCount, BadLabel, BadNext, BadWeight, Short}
+use Rattle.fst_binary.specs.Spelling.{arc_fields, state_fields}
+use Rattle.fst_bytes.specs.Spelling.{HasField, long, weight_field, word}
+use Rattle.fst_fields.specs.Reading.{◌>>=◌}
+use Rattle.fst_bytes.specs.Reading.{non_zero_weight_at, file_weight_at, number_where}
+use Rattle.fst_bytes.proofs.Loops.{many_again, many_takes}
+use Rattle.fst_bytes.proofs.Numbers.{longs, where_again, where_takes, words}
+use Rattle.fst_bytes.proofs.Steps.{IsBytes, Reads, Takes, Takes-none, Takes-then, bind_ok, ok_is}
+use Rattle.fst_bytes.proofs.WeightFields.{file_weight_again, file_weight_takes, non_zero_weight_again, non_zero_weight_takes}
 
 -- ---- arcs
 
@@ -69,14 +28,14 @@ unfolding arc_at
 arc_takes kind states bytes at a next fits e =
     let label = λ (n : ℕ). leb n greatest_label in
     let below = λ (n : ℕ). ltb n states in
-    let b = bind_ok (number_where label BadLabel 4 bytes at) (λ i. number_where label BadLabel 4 bytes i.1 >>= λ o. arc_weight_at kind bytes o.1 >>= λ w. number_where below BadNext 4 bytes w.1 >>= λ n. Ok (record { ilabel = i.0; olabel = o.0; weight = w.0; next = n.0 }, n.1)) (a, next) e in
-    let c = bind_ok (number_where label BadLabel 4 bytes b.0.1) (λ o. arc_weight_at kind bytes o.1 >>= λ w. number_where below BadNext 4 bytes w.1 >>= λ n. Ok (record { ilabel = b.0.0; olabel = o.0; weight = w.0; next = n.0 }, n.1)) (a, next) b.2 in
-    let d = bind_ok (arc_weight_at kind bytes c.0.1) (λ w. number_where below BadNext 4 bytes w.1 >>= λ n. Ok (record { ilabel = b.0.0; olabel = c.0.0; weight = w.0; next = n.0 }, n.1)) (a, next) c.2 in
-    let f = bind_ok (number_where below BadNext 4 bytes d.0.1) (λ n. Ok (record { ilabel = b.0.0; olabel = c.0.0; weight = d.0.0; next = n.0 }, n.1)) (a, next) d.2 in
-    let t0 = where_takes label BadLabel 4 (2 ^ 32) word words bytes at b.0.0 b.0.1 fits b.1 in
-    let t1 = where_takes label BadLabel 4 (2 ^ 32) word words bytes b.0.1 c.0.0 c.0.1 fits c.1 in
-    let t2 = arc_weight_takes kind bytes c.0.1 d.0.0 d.0.1 fits d.1 in
-    let t3 = where_takes below BadNext 4 (2 ^ 32) word words bytes d.0.1 f.0.0 f.0.1 fits f.1 in
+    let b = bind_ok (number_where label Short BadLabel 4 bytes at) (λ i. number_where label Short BadLabel 4 bytes i.1 >>= λ o. non_zero_weight_at kind Short BadWeight bytes o.1 >>= λ w. number_where below Short BadNext 4 bytes w.1 >>= λ n. Ok (record { ilabel = i.0; olabel = o.0; weight = w.0; next = n.0 }, n.1)) (a, next) e in
+    let c = bind_ok (number_where label Short BadLabel 4 bytes b.0.1) (λ o. non_zero_weight_at kind Short BadWeight bytes o.1 >>= λ w. number_where below Short BadNext 4 bytes w.1 >>= λ n. Ok (record { ilabel = b.0.0; olabel = o.0; weight = w.0; next = n.0 }, n.1)) (a, next) b.2 in
+    let d = bind_ok (non_zero_weight_at kind Short BadWeight bytes c.0.1) (λ w. number_where below Short BadNext 4 bytes w.1 >>= λ n. Ok (record { ilabel = b.0.0; olabel = c.0.0; weight = w.0; next = n.0 }, n.1)) (a, next) c.2 in
+    let f = bind_ok (number_where below Short BadNext 4 bytes d.0.1) (λ n. Ok (record { ilabel = b.0.0; olabel = c.0.0; weight = d.0.0; next = n.0 }, n.1)) (a, next) d.2 in
+    let t0 = where_takes label Short BadLabel 4 (2 ^ 32) word words bytes at b.0.0 b.0.1 fits b.1 in
+    let t1 = where_takes label Short BadLabel 4 (2 ^ 32) word words bytes b.0.1 c.0.0 c.0.1 fits c.1 in
+    let t2 = non_zero_weight_takes kind Short BadWeight bytes c.0.1 d.0.0 d.0.1 fits d.1 in
+    let t3 = where_takes below Short BadNext 4 (2 ^ 32) word words bytes d.0.1 f.0.0 f.0.1 fits f.1 in
     let two = Takes-then bytes at (word b.0.0) b.0.1 (word c.0.0) c.0.1 t0.0 t1.0 in
     let three = Takes-then bytes at (word b.0.0 ++ word c.0.0) c.0.1 (weight_field kind d.0.0) d.0.1 two t2.0 in
     let four = Takes-then bytes at (word b.0.0 ++ word c.0.0 ++ weight_field kind d.0.0) d.0.1 (word f.0.0) f.0.1 three t3.0 in
@@ -90,32 +49,17 @@ arc_again kind states bytes at a rest few within good e =
     let label = λ (n : ℕ). leb n greatest_label in
     let below = λ (n : ℕ). ltb n states in
     let apart : drop at bytes ≡ word a.ilabel ++ (word a.olabel ++ (weight_field kind a.weight ++ (word a.next ++ rest))) = e ∙ simp append_assoc in
-    let i = where_again label BadLabel 4 (2 ^ 32) word words bytes at a.ilabel (word a.olabel ++ (weight_field kind a.weight ++ (word a.next ++ rest))) within (omega (arith, good.0.ilabel)) (le-leb _ _ good.0.ilabel) apart in
-    let o = where_again label BadLabel 4 (2 ^ 32) word words bytes i.next a.olabel (weight_field kind a.weight ++ (word a.next ++ rest)) i.within (omega (arith, good.0.olabel)) (le-leb _ _ good.0.olabel) i.left in
-    let w = arc_weight_again kind bytes o.next a.weight (word a.next ++ rest) o.within good.1 good.0.weight o.left in
-    let n = where_again below BadNext 4 (2 ^ 32) word words bytes w.next a.next rest w.within (omega (arith, good.0.next, few)) (lt-ltb _ _ good.0.next) w.left in
+    let i = where_again label Short BadLabel 4 (2 ^ 32) word words bytes at a.ilabel (word a.olabel ++ (weight_field kind a.weight ++ (word a.next ++ rest))) within (omega (arith, good.0.ilabel)) (le-leb _ _ good.0.ilabel) apart in
+    let o = where_again label Short BadLabel 4 (2 ^ 32) word words bytes i.next a.olabel (weight_field kind a.weight ++ (word a.next ++ rest)) i.within (omega (arith, good.0.olabel)) (le-leb _ _ good.0.olabel) i.left in
+    let w = non_zero_weight_again kind Short BadWeight bytes o.next a.weight (word a.next ++ rest) o.within good.1 good.0.weight o.left in
+    let n = where_again below Short BadNext 4 (2 ^ 32) word words bytes w.next a.next rest w.within (omega (arith, good.0.next, few)) (lt-ltb _ _ good.0.next) w.left in
     record { next = n.next; gives = rw (i.gives, o.gives, w.gives, n.gives) refl; left = n.left; within = n.within }
 
 arcs_takes : (kind : ArcType) (states count : ℕ) (bytes : List ℕ) (at : ℕ) (arcs : List (Arc Cost ℕ)) (next : ℕ) → at ≤ length bytes → IsBytes bytes → arcs_at kind states count bytes at ≡ Ok (arcs, next) → Takes bytes at (flat_map (arc_fields kind) arcs) next × AllByRecursion (GoodArc kind states) arcs × (length arcs ≡ count)
-unfolding arcs_at
-arcs_takes kind states zero bytes at arcs next within fits e =
-    subst (λ (p : List (Arc Cost ℕ) × ℕ). Takes bytes at (flat_map (arc_fields kind) p.0) p.1 × AllByRecursion (GoodArc kind states) p.0 × (length p.0 ≡ 0)) (ok_is {A = List (Arc Cost ℕ) × ℕ} {E = BinaryFault} ([], at) (arcs, next) e) (Takes-none bytes at within, tt, refl)
-arcs_takes kind states (suc count) bytes at arcs next within fits e =
-    let b = bind_ok (arc_at kind states bytes at) (λ first. arcs_at kind states count bytes first.1 >>= λ others. Ok (first.0 ∷ others.0, others.1)) (arcs, next) e in
-    let c = bind_ok (arcs_at kind states count bytes b.0.1) (λ others. Ok (b.0.0 ∷ others.0, others.1)) (arcs, next) b.2 in
-    let t0 = arc_takes kind states bytes at b.0.0 b.0.1 fits b.1 in
-    let t1 = arcs_takes kind states count bytes b.0.1 c.0.0 c.0.1 t0.0.within fits c.1 in
-    let both = Takes-then bytes at (arc_fields kind b.0.0) b.0.1 (flat_map (arc_fields kind) c.0.0) c.0.1 t0.0 t1.0 in
-    subst (λ (p : List (Arc Cost ℕ) × ℕ). Takes bytes at (flat_map (arc_fields kind) p.0) p.1 × AllByRecursion (GoodArc kind states) p.0 × (length p.0 ≡ suc count)) (ok_is {A = List (Arc Cost ℕ) × ℕ} {E = BinaryFault} (b.0.0 ∷ c.0.0, c.0.1) (arcs, next) c.2) (both, (t0.1, t1.1), ap suc t1.2)
+arcs_takes kind states count bytes at arcs next within fits e = many_takes (arc_at kind states bytes) (arc_fields kind) (GoodArc kind states) bytes (λ i a end _ read. arc_takes kind states bytes i a end fits read) count at arcs next within e
 
 arcs_again : (kind : ArcType) (states : ℕ) (bytes : List ℕ) (at : ℕ) (arcs : List (Arc Cost ℕ)) (rest : List ℕ) → states < 2 ^ 32 → at ≤ length bytes → AllByRecursion (GoodArc kind states) arcs → drop at bytes ≡ flat_map (arc_fields kind) arcs ++ rest → Reads bytes (arcs_at kind states (length arcs) bytes at) arcs rest
-unfolding arcs_at
-arcs_again kind states bytes at [] rest few within good e = record { next = at; gives = refl; left = e; within = within }
-arcs_again kind states bytes at (a ∷ arcs) rest few within good e =
-    let apart : drop at bytes ≡ arc_fields kind a ++ (flat_map (arc_fields kind) arcs ++ rest) = e ∙ append_assoc (arc_fields kind a) (flat_map (arc_fields kind) arcs) rest in
-    let first = arc_again kind states bytes at a (flat_map (arc_fields kind) arcs ++ rest) few within good.0 apart in
-    let others = arcs_again kind states bytes first.next arcs rest few first.within good.1 first.left in
-    record { next = others.next; gives = rw (first.gives, others.gives) refl; left = others.left; within = others.within }
+arcs_again kind states bytes at arcs rest few within good e = many_again (arc_at kind states bytes) (arc_fields kind) (GoodArc kind states) bytes (λ i a left. arc_again kind states bytes i a left few) at arcs rest within good e
 
 -- ---- states
 
@@ -127,11 +71,11 @@ state_takes : (kind : ArcType) (states most before : ℕ) (bytes : List ℕ) (at
 unfolding state_at
 state_takes kind states most before bytes at s next fits e =
     let few = λ (n : ℕ). leb (before + n) most in
-    let b = bind_ok (final_at kind bytes at) (λ f. number_where few BadCount 8 bytes f.1 >>= λ n. arcs_at kind states n.0 bytes n.1 >>= λ own. Ok (record { final = f.0; arcs = own.0 }, own.1)) (s, next) e in
-    let c = bind_ok (number_where few BadCount 8 bytes b.0.1) (λ n. arcs_at kind states n.0 bytes n.1 >>= λ own. Ok (record { final = b.0.0; arcs = own.0 }, own.1)) (s, next) b.2 in
+    let b = bind_ok (file_weight_at kind Short BadWeight bytes at) (λ f. number_where few Short BadCount 8 bytes f.1 >>= λ n. arcs_at kind states n.0 bytes n.1 >>= λ own. Ok (record { final = f.0; arcs = own.0 }, own.1)) (s, next) e in
+    let c = bind_ok (number_where few Short BadCount 8 bytes b.0.1) (λ n. arcs_at kind states n.0 bytes n.1 >>= λ own. Ok (record { final = b.0.0; arcs = own.0 }, own.1)) (s, next) b.2 in
     let d = bind_ok (arcs_at kind states c.0.0 bytes c.0.1) (λ own. Ok (record { final = b.0.0; arcs = own.0 }, own.1)) (s, next) c.2 in
-    let t0 = final_takes kind bytes at b.0.0 b.0.1 fits b.1 in
-    let t1 = where_takes few BadCount 8 (2 ^ 64) long longs bytes b.0.1 c.0.0 c.0.1 fits c.1 in
+    let t0 = file_weight_takes kind Short BadWeight bytes at b.0.0 b.0.1 fits b.1 in
+    let t1 = where_takes few Short BadCount 8 (2 ^ 64) long longs bytes b.0.1 c.0.0 c.0.1 fits c.1 in
     let t2 = arcs_takes kind states c.0.0 bytes c.0.1 d.0.0 d.0.1 t1.0.within fits d.1 in
     let two = Takes-then bytes at (weight_field kind b.0.0) b.0.1 (long c.0.0) c.0.1 t0.0 t1.0 in
     let three = Takes-then bytes at (weight_field kind b.0.0 ++ long c.0.0) c.0.1 (flat_map (arc_fields kind) d.0.0) d.0.1 two t2.0 in
@@ -145,8 +89,8 @@ unfolding state_at
 state_again kind states most before bytes at s rest few low within good fewer e =
     let test = λ (n : ℕ). leb (before + n) most in
     let apart : drop at bytes ≡ weight_field kind s.final ++ (long (length s.arcs) ++ (flat_map (arc_fields kind) s.arcs ++ rest)) = e ∙ append_assoc (weight_field kind s.final ++ long (length s.arcs)) (flat_map (arc_fields kind) s.arcs) rest ∙ append_assoc (weight_field kind s.final) (long (length s.arcs)) (flat_map (arc_fields kind) s.arcs ++ rest) in
-    let f = final_again kind bytes at s.final (long (length s.arcs) ++ (flat_map (arc_fields kind) s.arcs ++ rest)) within good.0 apart in
-    let n = where_again test BadCount 8 (2 ^ 64) long longs bytes f.next (length s.arcs) (flat_map (arc_fields kind) s.arcs ++ rest) f.within (omega (arith, fewer, low)) (le-leb _ _ fewer) f.left in
+    let f = file_weight_again kind Short BadWeight bytes at s.final (long (length s.arcs) ++ (flat_map (arc_fields kind) s.arcs ++ rest)) within good.0 apart in
+    let n = where_again test Short BadCount 8 (2 ^ 64) long longs bytes f.next (length s.arcs) (flat_map (arc_fields kind) s.arcs ++ rest) f.within (omega (arith, fewer, low)) (le-leb _ _ fewer) f.left in
     let own = arcs_again kind states bytes n.next s.arcs rest few n.within good.1 n.left in
     record { next = own.next; gives = rw (f.gives, n.gives, own.gives) refl; left = own.left; within = own.within }
 

@@ -1,87 +1,46 @@
 //! Reading the binary form.
 
-ghost use Rattle.std.specs.Prelude.{◌≡◌, ◌≤◌, ◌<◌, ◌+◌, length, map, IfOk, OnOk, IfSome, Ok, nat_le, nat_lt};
+ghost use Rattle.std.specs.Prelude.{◌≡◌, ◌≢◌, ◌≤◌, ◌<◌, ◌+◌, ◌*◌, [], length, map, IfErr, IfOk, OnOk, IfSome, Ok, nat_le, nat_lt};
 ghost use Rattle.std.specs.Result.{result_map_both};
 ghost use Rattle.fst_semiring.specs.Cost.{Cost};
-ghost use Rattle.fst_machine.specs.Machine.{Machine, arc_total, greatest_label, most_arcs, most_states, valued, valued_arc, valued_state};
+ghost use Rattle.fst_machine.specs.Machine.{Machine, arc_total, most_arcs, most_states, valued, valued_arc, valued_state};
 ghost use Rattle.fst_binary.specs.Spelling.{HasSpelling, Spells};
-ghost use Rattle.fst_binary.specs.Reading.{Gives, arc_at, arc_type_of_bytes, arc_weight_at, arcs_at, final_at, is_infinite, machine_at, machine_of_bytes, number_where, state_at, states_at};
+ghost use Rattle.fst_binary.specs.Reading.{Gives, arc_at, arc_type_of_bytes, arcs_at, machine_at, machine_of_bytes, state_at, states_at};
+ghost use Rattle.fst_bytes.specs.Reading.{number_where};
+ghost use Rattle.fst_bytes.specs.Stopping.{Answers};
 
-use crate::fault::{BinaryFault, BinaryKind, WeightFieldFault, fault_at, short};
+use crate::fault::BinaryFault;
+use crate::fault::BinaryKind::{
+    self, BadCount, BadLabel, BadNext, BadWeight, Extra, Memory, Short,
+};
 use crate::header::{Header, read_header, read_types};
-use crate::number::{read_count, read_word};
-use crate::weight_field::read_field;
-use fst_machine::{Fst, FstArc, MOST_LABEL, StateList};
+use fst_bytes::{
+    Stopped, expect_end, fault_at, most_that_fit, read_count, read_label, read_non_zero_weight,
+    read_weight, read_word,
+};
+use fst_machine::{Fst, FstArc, StateList};
 use fst_semiring::Weight;
-use std::alloc::Global;
-use std::cmp::min;
+use std::alloc::{AllocError, Global};
 
-/// A label, and the offset behind it.
-#[tactic(auto, unfolding(crate::specs::Reading::number_where))]
-fn read_label(bytes: &[u8], at: usize) -> Result<(u32, usize), BinaryFault>
-    requires { at ≤ length bytes.now }
-    ensures value { result ≡ number_where (λ n. nat_le n greatest_label) BinaryKind.BadLabel 4 bytes.now at }
-    ensures behind { IfOk result (λ x. x.1 ≤ length bytes.now) }
-{
-    let (label, behind) = read_word(bytes, at)?;
-    if label <= MOST_LABEL {
-        Ok((label, behind))
-    } else {
-        Err(fault_at(at, BinaryKind::BadLabel))
-    }
-}
+/// Why reading a machine stopped.
+type BinaryStop = Stopped<BinaryKind>;
 
-/// One of so many states, and the offset behind its number.
-#[tactic(auto, unfolding(crate::specs::Reading::number_where))]
+/// The number of one of the states, and the offset after it.
+#[tactic(auto, unfolding(fst_bytes::specs::Reading::number_where))]
 fn read_next(bytes: &[u8], at: usize, states: u32) -> Result<(u32, usize), BinaryFault>
     requires { at ≤ length bytes.now }
-    ensures value { result ≡ number_where (λ n. nat_lt n states) BinaryKind.BadNext 4 bytes.now at }
+    ensures value { result ≡ number_where (λ n. nat_lt n states) BinaryKind.Short BinaryKind.BadNext 4 bytes.now at }
     ensures behind { IfOk result (λ x. x.1 ≤ length bytes.now) }
 {
-    let (next, behind) = read_word(bytes, at)?;
+    let (next, behind) = read_word(bytes, at, Short)?;
     if next < states {
         Ok((next, behind))
     } else {
-        Err(fault_at(at, BinaryKind::BadNext))
+        Err(fault_at(at, BadNext))
     }
 }
 
-/// A final weight, and the offset behind it.
-#[tactic(auto, unfolding(crate::specs::Reading::final_at))]
-fn read_final<W: Weight>(bytes: &[u8], at: usize) -> Result<(W, usize), BinaryFault>
-    requires { at ≤ length bytes.now }
-    ensures value { result_map_both (λ x. (W.value x.0, x.1)) (λ e. e) result ≡ final_at W.KIND bytes.now at }
-    ensures behind { IfOk result (λ x. x.1 ≤ length bytes.now) }
-{
-    match read_field(bytes, at) {
-        Ok(read) => Ok(read),
-        Err(WeightFieldFault::Short) => Err(short(bytes)),
-        Err(WeightFieldFault::BadWeight) => Err(fault_at(at, BinaryKind::BadWeight)),
-    }
-}
-
-/// Whether a weight is Zero.
-fn is_zero<W: Weight>(weight: W) -> bool
-    ensures { result ≡ is_infinite (W.value weight) }
-{
-    W::key(weight.widen()).class == 2
-}
-
-/// The weight of an arc, and the offset behind it.
-#[tactic(auto, unfolding(crate::specs::Reading::arc_weight_at))]
-fn read_arc_weight<W: Weight>(bytes: &[u8], at: usize) -> Result<(W, usize), BinaryFault>
-    requires { at ≤ length bytes.now }
-    ensures value { result_map_both (λ x. (W.value x.0, x.1)) (λ e. e) result ≡ arc_weight_at W.KIND bytes.now at }
-    ensures behind { IfOk result (λ x. x.1 ≤ length bytes.now) }
-{
-    let (weight, behind) = read_final(bytes, at)?;
-    if is_zero(weight) {
-        return Err(fault_at(at, BinaryKind::BadWeight));
-    }
-    Ok((weight, behind))
-}
-
-/// An arc of a machine with so many states, and the offset behind it.
+/// An arc of a machine with this number of states, and the offset after it.
 #[tactic(auto, unfolding(crate::specs::Reading::arc_at))]
 fn read_arc<W: Weight>(
     bytes: &[u8],
@@ -92,9 +51,9 @@ fn read_arc<W: Weight>(
     ensures value { result_map_both (λ x. (valued_arc W.value x.0, x.1)) (λ e. e) result ≡ arc_at W.KIND states bytes.now at }
     ensures behind { IfOk result (λ x. x.1 ≤ length bytes.now) }
 {
-    let (ilabel, behind) = read_label(bytes, at)?;
-    let (olabel, behind) = read_label(bytes, behind)?;
-    let (weight, behind) = read_arc_weight(bytes, behind)?;
+    let (ilabel, behind) = read_label(bytes, at, Short, BadLabel)?;
+    let (olabel, behind) = read_label(bytes, behind, Short, BadLabel)?;
+    let (weight, behind) = read_non_zero_weight(bytes, behind, Short, BadWeight)?;
     let (next, behind) = read_next(bytes, behind, states)?;
     let arc = FstArc {
         ilabel,
@@ -105,17 +64,17 @@ fn read_arc<W: Weight>(
     Ok((arc, behind))
 }
 
-/// Puts so many arcs of a machine with so many states in place of those of a list, and gives the offset behind
-/// them. A refusal may leave some of them there.
+/// Puts the arcs of a state in place of those of a list, and gives the offset after them. A refusal may leave some of
+/// them there.
 fn read_arcs<W: Weight>(
     bytes: &[u8],
     at: usize,
     states: u32,
     count: usize,
     arcs: &mut Vec<FstArc<W>>,
-) -> Result<usize, BinaryFault>
+) -> Result<usize, BinaryStop>
     requires { at ≤ length bytes.now }
-    ensures value { Gives (λ behind. (map (valued_arc W.value) arcs.new.items, behind)) result (arcs_at W.KIND states count bytes.now at) }
+    ensures value { Answers (λ behind. (map (valued_arc W.value) arcs.new.items, behind)) result (arcs_at W.KIND states count bytes.now at) }
     ensures count { OnOk result (length arcs.new.items ≡ count) }
     ensures behind { IfOk result (λ behind. behind ≤ length bytes.now) }
 {
@@ -129,9 +88,9 @@ fn read_arcs<W: Weight>(
     Ok(behind)
 }
 
-/// The number of arcs of a state, which with those of the states before are at most so many, and the offset
-/// behind it.
-#[tactic(auto, unfolding(crate::specs::Reading::number_where))]
+/// The number of arcs of a state, which with those of the states before are at most the header's, and the offset after
+/// it.
+#[tactic(auto, unfolding(fst_bytes::specs::Reading::number_where))]
 fn read_arc_count(
     bytes: &[u8],
     at: usize,
@@ -140,14 +99,14 @@ fn read_arc_count(
 ) -> Result<(u64, usize), BinaryFault>
     requires behind { at ≤ length bytes.now }
     requires before { before ≤ arcs }
-    ensures value { result ≡ number_where (λ n. nat_le (before + n) arcs) BinaryKind.BadCount 8 bytes.now at }
+    ensures value { result ≡ number_where (λ n. nat_le (before + n) arcs) BinaryKind.Short BinaryKind.BadCount 8 bytes.now at }
     ensures most { IfOk result (λ x. before + x.0 ≤ arcs) }
     ensures behind { IfOk result (λ x. x.1 ≤ length bytes.now) }
 {
-    read_count(bytes, at, u64::from(arcs - before))
+    read_count(bytes, at, u64::from(arcs - before), Short, BadCount)
 }
 
-/// The final weight of a state, and the offset behind its arcs, which are put in place of those of a list. The
+/// The final weight of a state, and the offset after its arcs, which are put in place of those of a list. The
 /// states before have some of the header's arcs.
 #[tactic(auto, unfolding(crate::specs::Reading::state_at))]
 fn read_state<W: Weight>(
@@ -156,36 +115,51 @@ fn read_state<W: Weight>(
     header: Header,
     before: u32,
     arcs: &mut Vec<FstArc<W>>,
-) -> Result<(W, usize), BinaryFault>
+) -> Result<(W, usize), BinaryStop>
     requires behind { at ≤ length bytes.now }
     requires before { before ≤ header.arcs }
-    ensures value { Gives (λ x. (record { final = W.value x.0; arcs = map (valued_arc W.value) arcs.new.items }, x.1)) result (state_at W.KIND header.states header.arcs before bytes.now at) }
+    ensures value { Answers (λ x. (record { final = W.value x.0; arcs = map (valued_arc W.value) arcs.new.items }, x.1)) result (state_at W.KIND header.states header.arcs before bytes.now at) }
     ensures most { OnOk result (before + length arcs.new.items ≤ header.arcs) }
     ensures behind { IfOk result (λ x. x.1 ≤ length bytes.now) }
 {
-    let (last, behind) = read_final(bytes, at)?;
+    let (last, behind) = read_weight(bytes, at, Short, BadWeight)?;
     let (count, behind) = read_arc_count(bytes, behind, header.arcs, before)?;
     let behind = read_arcs(bytes, behind, header.states, count as usize, arcs)?;
     Ok((last, behind))
 }
 
-/// The states of a header, and the offset behind them. Space is reserved for no more than the bytes can hold:
-/// a state has at least nine bytes, and an arc thirteen.
+/// No states, with room for these numbers of states and arcs. That is no more than the bytes that are left can hold: a
+/// state has at least nine bytes, and an arc thirteen.
+fn reserve<W: Weight>(
+    alloc: Global,
+    left: usize,
+    states: usize,
+    arcs: usize,
+) -> Result<StateList<W>, AllocError>
+    requires few_states { 9 * states ≤ left }
+    requires few_arcs { 13 * arcs ≤ left }
+    ensures { IfOk result (λ list. list ≡ []) }
+{
+    prove!(9 * states <= left && 13 * arcs <= left);
+    StateList::with_capacity(alloc, states, arcs)
+}
+
+/// The states of a header, and the offset after them. Space is reserved for no more than the bytes can hold.
 fn read_states<W: Weight>(
     alloc: Global,
     bytes: &[u8],
     header: Header,
-) -> Result<(StateList<W>, usize), BinaryFault>
+) -> Result<(StateList<W>, usize), BinaryStop>
     requires behind { header.behind ≤ length bytes.now }
     requires few_arcs { header.arcs ≤ most_arcs }
-    ensures value { Gives (λ x. (map (valued_state W.value) x.0, x.1)) result (states_at W.KIND header.states header.arcs 0 header.states bytes.now header.behind) }
+    ensures value { Answers (λ x. (map (valued_state W.value) x.0, x.1)) result (states_at W.KIND header.states header.arcs 0 header.states bytes.now header.behind) }
     ensures few_arcs { IfOk result (λ x. arc_total x.0 ≤ header.arcs) }
     ensures behind { IfOk result (λ x. x.1 ≤ length bytes.now) }
 {
     let left = bytes.len() - header.behind;
-    let room = min(header.states as usize, left / 9);
-    let arc_room = min(header.arcs as usize, left / 13);
-    let mut states = StateList::with_capacity(alloc, room, arc_room)?;
+    let room = most_that_fit(header.states as usize, left, 9);
+    let arc_room = most_that_fit(header.arcs as usize, left, 13);
+    let mut states = reserve(alloc, left, room, arc_room)?;
     let mut arcs = Vec::new(alloc);
     let mut before = 0;
     let mut behind = header.behind;
@@ -198,27 +172,45 @@ fn read_states<W: Weight>(
     Ok((states, behind))
 }
 
-/// The machine of a header and of what stands behind it, to the end of the bytes.
+/// There have to be as many arcs as the header says.
+fn expect_arcs(arcs: usize, header: Header) -> Result<(), BinaryFault>
+    ensures ok { OnOk result (arcs ≡ header.arcs) }
+    ensures err { IfErr result (λ fault. (fault ≡ record { offset = header.counted; kind = BinaryKind.BadCount }) × (arcs ≢ header.arcs)) }
+{
+    if arcs == header.arcs as usize {
+        Ok(())
+    } else {
+        Err(fault_at(header.counted, BadCount))
+    }
+}
+
+/// The machine of a header and of what stands after it, to the end of the bytes.
 #[tactic(auto, unfolding(crate::specs::Reading::machine_at))]
 fn read_machine<W: Weight>(
     alloc: Global,
     bytes: &[u8],
     header: Header,
-) -> Result<Fst<W>, BinaryFault>
+) -> Result<Fst<W>, BinaryStop>
     requires behind { header.behind ≤ length bytes.now }
     requires start { IfSome header.start (λ s. s < header.states) }
     requires few_states { header.states ≤ most_states }
     requires few_arcs { header.arcs ≤ most_arcs }
-    ensures { Gives (λ m. valued W.value m) result (machine_at W.KIND header bytes.now) }
+    ensures { Answers (λ m. valued W.value m) result (machine_at W.KIND header bytes.now) }
 {
     let (states, behind) = read_states(alloc, bytes, header)?;
-    if states.arc_count() != header.arcs as usize {
-        return Err(fault_at(header.counted, BinaryKind::BadCount));
-    }
-    if behind != bytes.len() {
-        return Err(fault_at(behind, BinaryKind::Extra));
-    }
+    expect_arcs(states.arc_count(), header)?;
+    expect_end(bytes, behind, Extra)?;
     Ok(states.into_machine(header.start))
+}
+
+/// The machine of bytes whose arc type is that of the weight, or why reading it stopped.
+fn read_file<W: Weight>(alloc: Global, bytes: &[u8]) -> Result<Fst<W>, BinaryStop>
+    requires { arc_type_of_bytes bytes.now ≡ Ok W.KIND }
+    ensures { Answers (λ m. valued W.value m) result (machine_of_bytes W.KIND bytes.now) }
+{
+    let (_, behind) = read_types(bytes)?;
+    let header = read_header(bytes, behind)?;
+    read_machine(alloc, bytes, header)
 }
 
 /// The machine of bytes whose arc type is that of the weight.
@@ -226,9 +218,10 @@ fn read_whole<W: Weight>(alloc: Global, bytes: &[u8]) -> Result<Fst<W>, BinaryFa
     requires { arc_type_of_bytes bytes.now ≡ Ok W.KIND }
     ensures { Gives (λ m. valued W.value m) result (machine_of_bytes W.KIND bytes.now) }
 {
-    let (_, behind) = read_types(bytes)?;
-    let header = read_header(bytes, behind)?;
-    read_machine(alloc, bytes, header)
+    match read_file(alloc, bytes) {
+        Ok(fst) => Ok(fst),
+        Err(stopped) => Err(stopped.into_fault(Memory)),
+    }
 }
 
 /// The machine whose bytes these are, or their first fault. `arc_type` of the bytes has to be the arc type of

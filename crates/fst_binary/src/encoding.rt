@@ -3,11 +3,15 @@
 ghost use Rattle.std.specs.Prelude.{◌≡◌, ◌≤◌, ◌++◌, ◌∷◌, ◌+◌, ◌*◌, ◌<◌, length, map, take, vec_capacity, All, Contains, IfOk, Ok};
 ghost use Rattle.std.specs.List.{flat_map};
 ghost use Rattle.fst_machine.specs.Machine.{valued, valued_arc, valued_state};
-ghost use Rattle.fst_binary.specs.Reading.{arc_type_of_bytes, known, machine_of_bytes};
-ghost use Rattle.fst_binary.specs.Spelling.{HasField, HasSpelling, arc_fields, count_fields, name_of, signed, spelling, start_number, state_fields, text, type_fields, word};
+ghost use Rattle.fst_semiring.specs.Names.{known, name_of};
+ghost use Rattle.fst_bytes.specs.Spelling.{HasField, signed, word};
+ghost use Rattle.fst_binary.specs.Reading.{arc_type_of_bytes, machine_of_bytes};
+ghost use Rattle.fst_binary.specs.Spelling.{HasSpelling, arc_fields, count_fields, spelling, start_number, state_fields, type_fields};
 
-use crate::append::{append, append_long, append_signed, append_word};
-use crate::weight_field::{append_weight, count_of_numbers, weight_length};
+use fst_bytes::{
+    append, append_arc_type, append_long, append_signed, append_text, append_weight, append_word,
+    count_of_numbers, weight_length,
+};
 use fst_machine::{Fst, FstArc};
 use fst_semiring::{ArcType, Weight};
 use std::alloc::{AllocError, Global};
@@ -40,7 +44,7 @@ fn states_length<W: Weight>(fst: &Fst<W>) -> usize
 }
 
 /// Appends an arc whose weight field is the tag 1 and one number where there is room, all its bytes at once.
-#[tactic(auto, unfolding(crate::specs::Spelling::word, crate::specs::Spelling::signed))]
+#[tactic(auto, unfolding(fst_bytes::specs::Spelling::word, fst_bytes::specs::Spelling::signed))]
 fn append_arc_of_number(out: &mut Vec<u8>, ilabel: u32, olabel: u32, number: i64, next: u32)
     requires { length out.old.items + 21 ≤ vec_capacity out.old }
     ensures items { out.new.items ≡ out.old.items ++ (word ilabel ++ word olabel ++ (1 ∷ signed number) ++ word next) }
@@ -115,35 +119,11 @@ fn append_states<W: Weight>(out: &mut Vec<u8>, fst: &Fst<W>)
     }
 }
 
-/// The name of an arc type.
-fn name_of_type(kind: ArcType) -> &'static [u8]
-    ensures { result.now ≡ name_of kind }
-{
-    match kind {
-        ArcType::Boolean => b"boolean",
-        ArcType::Tropical => b"tropical",
-        ArcType::MinMax => b"minmax",
-        ArcType::Lexicographic => b"lexicographic",
-    }
-}
-
-/// How many bytes stand in front of the states.
+/// How many bytes stand before the states.
 fn header_length(kind: ArcType) -> usize
     ensures { result ≡ 58 + length (name_of kind) }
 {
-    58 + name_of_type(kind).len()
-}
-
-/// Appends a text behind its length where there is room.
-fn append_text(out: &mut Vec<u8>, bytes: &[u8])
-    requires room { length out.old.items + 4 + length bytes.now ≤ vec_capacity out.old }
-    requires short { length bytes.now < 4294967296 }
-    ensures items { out.new.items ≡ out.old.items ++ text bytes.now }
-    ensures len { length out.new.items ≡ length out.old.items + 4 + length bytes.now }
-    ensures room { vec_capacity out.old ≤ vec_capacity out.new }
-{
-    append_word(out, bytes.len() as u32);
-    append(out, bytes);
+    58 + kind.name().len()
 }
 
 /// Appends the fields up to the flags where there is room.
@@ -155,7 +135,7 @@ fn append_types(out: &mut Vec<u8>, kind: ArcType)
 {
     append_word(out, 2_125_659_606);
     append_text(out, b"vector");
-    append_text(out, name_of_type(kind));
+    append_arc_type(out, kind);
     append_word(out, 2);
     append_word(out, 0);
 }

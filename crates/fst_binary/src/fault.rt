@@ -1,9 +1,6 @@
 //! Why bytes are no machine.
 
-ghost use Rattle.std.specs.Prelude.{◌≡◌, length};
-ghost use Rattle.fst_binary.specs.declared.fault.BinaryKind.TheVariants as kinds;
-
-use std::alloc::{AllocError, AllocFailed};
+use fst_bytes::FileFault;
 
 /// What is wrong.
 #[derive(Clone, Copy, Debug, PartialEq, Eq)]
@@ -38,62 +35,4 @@ pub enum BinaryKind {
 }
 
 /// The first fault of bytes that are no machine, and where it is.
-#[derive(Clone, Copy, Debug, PartialEq, Eq)]
-pub struct BinaryFault {
-    /// The number of bytes before the field that is wrong. For `Short` the number of all bytes, for `Memory`
-    /// 0.
-    pub offset: u64,
-    /// What is wrong with the field.
-    pub kind: BinaryKind,
-}
-
-/// Why bytes at an offset are no weight field.
-#[derive(Clone, Copy, Debug, PartialEq, Eq)]
-pub enum WeightFieldFault {
-    /// The tag or a number behind it is not whole.
-    Short,
-    /// The arc type has no such tag, or a number has an absolute value past 10 to the 18.
-    BadWeight,
-}
-
-impl From<AllocError> for BinaryFault {
-    ghost from_gives = { λ _ f. f ≡ record { offset = 0; kind = kinds.Memory } };
-
-    fn from(_e: AllocError) -> BinaryFault {
-        BinaryFault {
-            offset: 0,
-            kind: BinaryKind::Memory,
-        }
-    }
-}
-
-impl<T: Drop> From<AllocFailed<T>> for BinaryFault {
-    ghost from_gives = { λ _ f. f ≡ record { offset = 0; kind = kinds.Memory } };
-
-    fn from(_e: AllocFailed<T>) -> BinaryFault {
-        BinaryFault {
-            offset: 0,
-            kind: BinaryKind::Memory,
-        }
-    }
-}
-
-/// A field of these bytes is not whole.
-pub(crate) fn short(bytes: &[u8]) -> BinaryFault
-    ensures { result ≡ record { offset = length bytes.now; kind = kinds.Short } }
-{
-    BinaryFault {
-        offset: bytes.len() as u64,
-        kind: BinaryKind::Short,
-    }
-}
-
-/// The field at an offset is wrong.
-pub(crate) fn fault_at(offset: usize, kind: BinaryKind) -> BinaryFault
-    ensures { result ≡ record { offset = offset; kind = kind } }
-{
-    BinaryFault {
-        offset: offset as u64,
-        kind,
-    }
-}
+pub type BinaryFault = FileFault<BinaryKind>;

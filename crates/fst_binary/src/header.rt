@@ -1,14 +1,19 @@
-//! The fields in front of the states.
+//! The fields before the states.
 
-ghost use Rattle.std.specs.Prelude.{◌≡◌, ◌∷◌, [], ◌≤◌, ◌<◌, length, IfOk, IfSome, true, codes, ◌==◌, bytes_eq};
-ghost use Rattle.std.specs.List.{find, list_any};
+ghost use Rattle.std.specs.Prelude.{◌≡◌, ◌∷◌, [], ◌≤◌, ◌<◌, length, IfOk, IfSome, true, codes};
 ghost use Rattle.std.specs.Result.{result_map_both};
 ghost use Rattle.fst_machine.specs.Machine.{most_arcs, most_states};
-ghost use Rattle.fst_binary.specs.Spelling.{name_of};
-ghost use Rattle.fst_binary.specs.Reading.{arc_type_of_bytes, header_at, is_start, known, named_at, start_at, types_at};
+ghost use Rattle.fst_semiring.specs.Names.{known};
+ghost use Rattle.fst_bytes.specs.Reading.{named_at};
+ghost use Rattle.fst_binary.specs.Reading.{arc_type_of_bytes, header_at, is_start, start_at, types_at};
 
-use crate::fault::{BinaryFault, BinaryKind, fault_at};
-use crate::number::{expect_word, read_bytes, read_count, read_long, read_word};
+use crate::fault::BinaryFault;
+use crate::fault::BinaryKind::{
+    self, BadCount, BadFlags, BadMagic, BadStart, BadVersion, Short, UnknownArcType, UnknownFstType,
+};
+use fst_bytes::{
+    expect_word, fault_at, read_arc_type, read_bytes, read_count, read_long, read_word,
+};
 use fst_machine::{MOST_ARCS, MOST_STATES};
 use fst_semiring::ArcType;
 
@@ -23,81 +28,38 @@ pub(crate) struct Header {
     pub(crate) arcs: u32,
     /// The offset of the number of arcs.
     pub(crate) counted: usize,
-    /// The offset behind the header.
+    /// The offset after the header.
     pub(crate) behind: usize,
 }
 
-/// The arc type with a name.
-fn arc_type_of_name(name: &[u8]) -> Option<ArcType>
-    ensures { result ≡ find (λ kind. bytes_eq (name_of kind) name.now) known }
-{
-    if b"boolean".as_slice() == name {
-        Some(ArcType::Boolean)
-    } else if b"tropical".as_slice() == name {
-        Some(ArcType::Tropical)
-    } else if b"minmax".as_slice() == name {
-        Some(ArcType::MinMax)
-    } else if b"lexicographic".as_slice() == name {
-        Some(ArcType::Lexicographic)
-    } else {
-        None
-    }
-}
-
-/// Whether the name of an arc type has so many bytes.
-fn is_length_of_name(count: u32) -> bool
-    ensures { result ≡ list_any (λ kind. length (name_of kind) == count) known }
-{
-    count == 7 || count == 8 || count == 6 || count == 13
-}
-
-/// The offset behind the fst type, which has to be `vector`.
-#[tactic(auto, unfolding(crate::specs::Reading::named_at, crate::specs::Reading::number_where))]
+/// The offset after the fst type, which has to be `vector`.
+#[tactic(auto, unfolding(fst_bytes::specs::Reading::named_at, fst_bytes::specs::Reading::number_where))]
 fn read_fst_type(bytes: &[u8], at: usize) -> Result<usize, BinaryFault>
     requires { at ≤ length bytes.now }
-    ensures value { result_map_both (λ behind. (codes "vector", behind)) (λ e. e) result ≡ named_at (λ text. text) (codes "vector" ∷ []) BinaryKind.UnknownFstType bytes.now at }
+    ensures value { result_map_both (λ behind. (codes "vector", behind)) (λ e. e) result ≡ named_at (λ text. text) (codes "vector" ∷ []) BinaryKind.Short BinaryKind.UnknownFstType bytes.now at }
     ensures behind { IfOk result (λ behind. behind ≤ length bytes.now) }
 {
-    let (count, behind) = read_word(bytes, at)?;
+    let (count, behind) = read_word(bytes, at, Short)?;
     if count != 6 {
-        return Err(fault_at(at, BinaryKind::UnknownFstType));
+        return Err(fault_at(at, UnknownFstType));
     }
-    let (name, behind) = read_bytes(bytes, behind, count as usize)?;
+    let (name, behind) = read_bytes(bytes, behind, count as usize, Short)?;
     if name == b"vector".as_slice() {
         Ok(behind)
     } else {
-        Err(fault_at(at, BinaryKind::UnknownFstType))
+        Err(fault_at(at, UnknownFstType))
     }
 }
 
-/// The arc type, and the offset behind it. A length that no arc type's name has is refused before the name
-/// is read.
-#[tactic(auto, unfolding(crate::specs::Reading::named_at, crate::specs::Reading::number_where))]
-fn read_arc_type(bytes: &[u8], at: usize) -> Result<(ArcType, usize), BinaryFault>
-    requires { at ≤ length bytes.now }
-    ensures value { result ≡ named_at name_of known BinaryKind.UnknownArcType bytes.now at }
-    ensures behind { IfOk result (λ x. x.1 ≤ length bytes.now) }
-{
-    let (count, behind) = read_word(bytes, at)?;
-    if !is_length_of_name(count) {
-        return Err(fault_at(at, BinaryKind::UnknownArcType));
-    }
-    let (name, behind) = read_bytes(bytes, behind, count as usize)?;
-    match arc_type_of_name(name) {
-        Some(kind) => Ok((kind, behind)),
-        None => Err(fault_at(at, BinaryKind::UnknownArcType)),
-    }
-}
-
-/// The arc type of a machine's bytes, and the offset behind its name.
+/// The arc type of a machine's bytes, and the offset after its name.
 #[tactic(auto, unfolding(crate::specs::Reading::types_at))]
 pub(crate) fn read_types(bytes: &[u8]) -> Result<(ArcType, usize), BinaryFault>
     ensures value { result ≡ types_at known bytes.now }
     ensures behind { IfOk result (λ x. x.1 ≤ length bytes.now) }
 {
-    let behind = expect_word(bytes, 0, 2_125_659_606, BinaryKind::BadMagic)?;
+    let behind = expect_word(bytes, 0, 2_125_659_606, Short, BadMagic)?;
     let behind = read_fst_type(bytes, behind)?;
-    read_arc_type(bytes, behind)
+    read_arc_type(bytes, behind, Short, UnknownArcType)
 }
 
 /// The arc type of a machine's bytes, or the first fault of the fields up to it. Takes no memory.
@@ -109,24 +71,24 @@ pub fn arc_type(bytes: &[u8]) -> Result<ArcType, BinaryFault>
     Ok(kind)
 }
 
-/// The start, and the offset behind it.
+/// The start, and the offset after it.
 #[tactic(auto, unfolding(crate::specs::Reading::start_at))]
 fn read_start(bytes: &[u8], at: usize) -> Result<(Option<u32>, usize), BinaryFault>
     requires { at ≤ length bytes.now }
     ensures value { result ≡ start_at bytes.now at }
     ensures behind { IfOk result (λ x. x.1 ≤ length bytes.now) }
 {
-    let (number, behind) = read_long(bytes, at)?;
+    let (number, behind) = read_long(bytes, at, Short)?;
     if number == u64::MAX {
         Ok((None, behind))
     } else if number < MOST_STATES as u64 {
         Ok((Some(number as u32), behind))
     } else {
-        Err(fault_at(at, BinaryKind::BadStart))
+        Err(fault_at(at, BadStart))
     }
 }
 
-/// Whether a start is none, or one of so many states.
+/// Whether a start is none, or the number of one of the states.
 fn is_start_of(start: Option<u32>, states: u32) -> bool
     ensures value { result ≡ is_start start states }
     ensures below { result ≡ true → IfSome start (λ s. s < states) }
@@ -147,16 +109,16 @@ pub(crate) fn read_header(bytes: &[u8], at: usize) -> Result<Header, BinaryFault
     ensures few_arcs { IfOk result (λ header. header.arcs ≤ most_arcs) }
     ensures behind { IfOk result (λ header. header.behind ≤ length bytes.now) }
 {
-    let behind = expect_word(bytes, at, 2, BinaryKind::BadVersion)?;
-    let behind = expect_word(bytes, behind, 0, BinaryKind::BadFlags)?;
-    let (_, start_offset) = read_long(bytes, behind)?;
+    let behind = expect_word(bytes, at, 2, Short, BadVersion)?;
+    let behind = expect_word(bytes, behind, 0, Short, BadFlags)?;
+    let (_, start_offset) = read_long(bytes, behind, Short)?;
     let (start, behind) = read_start(bytes, start_offset)?;
-    let (states, counted) = read_count(bytes, behind, MOST_STATES as u64)?;
+    let (states, counted) = read_count(bytes, behind, MOST_STATES as u64, Short, BadCount)?;
     let states = states as u32;
     if !is_start_of(start, states) {
-        return Err(fault_at(start_offset, BinaryKind::BadStart));
+        return Err(fault_at(start_offset, BadStart));
     }
-    let (arcs, behind) = read_count(bytes, counted, MOST_ARCS as u64)?;
+    let (arcs, behind) = read_count(bytes, counted, MOST_ARCS as u64, Short, BadCount)?;
     Ok(Header {
         start,
         states,

@@ -4,18 +4,15 @@
 //! their first fault. `encode` and `decode` do what these two say, and the one undoes the other.
 #![tactic(auto)]
 
-mod append;
 mod decoding;
 mod encoding;
 mod fault;
 mod header;
 mod laws;
-mod number;
-mod weight_field;
 
 pub use decoding::decode;
 pub use encoding::encode;
-pub use fault::{BinaryFault, BinaryKind, WeightFieldFault};
+pub use fault::{BinaryFault, BinaryKind};
+pub use fst_bytes::{WeightFieldFault, push_weight_field, read_weight_field, weight_length};
 pub use header::arc_type;
 pub use laws::{no_spelling_goes_on, spelling_is_read, values_tell_machines};
-pub use weight_field::{push_weight_field, read_weight_field, weight_length};

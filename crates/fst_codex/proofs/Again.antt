@@ -7,25 +7,20 @@ use Rattle.std.proofs.lemmas.List.{append-nil, length-drop, length-map}
 use Rattle.std.proofs.lemmas.List.Elements.{All-from_recursion, recursion_from_All}
 use Rattle.fst_semiring.specs.declared.arc_type.ArcType.{ArcType}
 use Rattle.fst_semiring.specs.Cost.{Cost}
-use Rattle.fst_binary.specs.Spelling.{HasField, long}
-use Rattle.fst_binary.specs.Reading.{known}
-use Rattle.fst_binary.proofs.Headers.{named_alone, named_of_all}
-use Rattle.fst_binary.proofs.Numbers.{longs}
-use Rattle.fst_binary.proofs.Steps.{Reads}
-use Rattle.fst_codex.specs.declared.fault.CodexKind.TheVariants.{BadCount}
+use Rattle.fst_bytes.specs.Spelling.{HasField, long}
+use Rattle.fst_semiring.specs.Names.{known}
+use Rattle.fst_bytes.proofs.Names.{named_alone, named_of_all}
+use Rattle.fst_bytes.proofs.Loops.{many_again}
+use Rattle.fst_bytes.proofs.Numbers.{longs, where_again}
+use Rattle.fst_bytes.proofs.Steps.{Reads}
+use Rattle.fst_codex.specs.declared.fault.CodexKind.TheVariants.{BadCount, Short}
 use Rattle.fst_codex.specs.Spelling.{HasCodexSpelling, codex_spelling, codex_types, entry_fields, flag}
-use Rattle.fst_codex.specs.Reading.{codex_arc_type_of_bytes, codex_of_bytes, entries_at, table_at}
+use Rattle.fst_codex.specs.Reading.{codex_arc_type_of_bytes, codex_of_bytes, entries_at, entry_at, table_at}
 use Rattle.fst_codex.specs.Table.{Entry, Table, IsEntry, IsTable, most_entries, valued_entry, valued_table}
-use Rattle.fst_codex.proofs.Fields.{GoodEntry, entry_again, flag_again, types_again, where_again}
+use Rattle.fst_codex.proofs.Fields.{GoodEntry, entry_again, flag_again, types_again}
 
 entries_again : (kind : ArcType) (weights : Bool) (bytes : List ℕ) (at : ℕ) (es : List (Entry Cost)) (rest : List ℕ) → at ≤ length bytes → AllByRecursion (GoodEntry kind weights) es → drop at bytes ≡ flat_map (entry_fields kind weights) es ++ rest → Reads bytes (entries_at kind weights (length es) bytes at) es rest
-unfolding entries_at
-entries_again kind weights bytes at [] rest within good stands = record { next = at; gives = refl; left = stands; within = within }
-entries_again kind weights bytes at (e ∷ es) rest within good stands =
-    let apart : drop at bytes ≡ entry_fields kind weights e ++ (flat_map (entry_fields kind weights) es ++ rest) = stands ∙ append_assoc (entry_fields kind weights e) (flat_map (entry_fields kind weights) es) rest in
-    let first = entry_again kind weights bytes at e (flat_map (entry_fields kind weights) es ++ rest) within good.0 apart in
-    let others = entries_again kind weights bytes first.next es rest first.within good.1 first.left in
-    record { next = others.next; gives = rw (first.gives, others.gives) refl; left = others.left; within = others.within }
+entries_again kind weights bytes at es rest within good stands = many_again (entry_at kind weights bytes) (entry_fields kind weights) (GoodEntry kind weights) bytes (λ i e left. entry_again kind weights bytes i e left) at es rest within good stands
 
 paired : {X : Type 0} (P Q : X → Type 0) (xs : List X) → AllByRecursion P xs → AllByRecursion Q xs → AllByRecursion (λ x. P x × Q x) xs
 paired P Q [] f h = tt
@@ -45,7 +40,7 @@ unfolding table_at
 table_again kind bytes at t within has stands =
     let entries = flat_map (entry_fields kind t.weights) t.entries in
     let w = flag_again bytes at t.weights (long (length t.entries) ++ entries) within stands in
-    let n = where_again (λ n. leb n most_entries) BadCount 8 (2 ^ 64) long longs bytes w.next (length t.entries) entries w.within (omega (arith, has.table.few)) (le-leb _ _ has.table.few) w.left in
+    let n = where_again (λ n. leb n most_entries) Short BadCount 8 (2 ^ 64) long longs bytes w.next (length t.entries) entries w.within (omega (arith, has.table.few)) (le-leb _ _ has.table.few) w.left in
     let es = entries_again kind t.weights bytes n.next t.entries [] n.within (good_entries kind t has) (n.left ∙ sym (append-nil entries)) in
     let end = at_end bytes es.next es.within es.left in
     rw (w.gives, n.gives, es.gives, eq-eqb _ _ end) refl

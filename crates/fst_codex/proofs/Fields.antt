@@ -1,62 +1,21 @@
 -- Fields that stand in a file are read.
-use Rattle.std.proofs.Common.{◌≡◌, ◌≢◌, ℕ, ◌+◌, ◌^◌, ◌<◌, ◌≤◌, Bool, true, false, ltb, leb, eqb, List, [], ◌∷◌, ◌++◌, length, take, drop, Ok, refl, sym, ap, ◌∙◌, append_assoc, arith}
-use Rattle.std.specs.List.{list_any}
-use Rattle.std.proofs.lemmas.Bool.{le-leb, le-ltb}
-use Rattle.std.proofs.lemmas.List.{take_at}
+use Rattle.std.proofs.Common.{◌≡◌, ℕ, ◌+◌, ◌^◌, ◌≤◌, Bool, true, false, leb, List, [], ◌∷◌, ◌++◌, length, drop, Ok, refl, sym, ap, ◌∙◌, append_assoc, arith}
+use Rattle.std.proofs.lemmas.Bool.{le-leb}
 use Rattle.fst_semiring.specs.declared.arc_type.ArcType.{ArcType}
-use Rattle.fst_semiring.specs.Cost.{Cost, infinite}
+use Rattle.fst_semiring.specs.Cost.{Cost}
 use Rattle.fst_machine.specs.Machine.{greatest_label}
-use Rattle.fst_binary.specs.Spelling.{HasField, name_of, text, weight_field, word}
-use Rattle.fst_binary.proofs.Headers.{IsNamed, name_is_short}
-use Rattle.fst_binary.proofs.Numbers.{IsWide, words}
-use Rattle.fst_binary.proofs.States.{is_finite}
-use Rattle.fst_binary.proofs.Steps.{Reads, ends_within, past}
-use Rattle.fst_binary.proofs.WeightFields.{tag_stands, weight_again}
-use Rattle.fst_codex.specs.declared.fault.CodexKind.{CodexKind}
-use Rattle.fst_codex.specs.declared.fault.CodexKind.TheVariants.{BadLabel, UnknownArcType}
+use Rattle.fst_bytes.specs.Spelling.{HasField, text, word}
+use Rattle.fst_semiring.specs.Names.{name_of}
+use Rattle.fst_bytes.proofs.Names.{IsNamed, name_is_short, named_again, part_again}
+use Rattle.fst_bytes.proofs.Numbers.{where_again, words}
+use Rattle.fst_bytes.proofs.Steps.{Reads, ends_within, past}
+use Rattle.fst_bytes.proofs.WeightFields.{non_zero_weight_again, tag_stands}
+use Rattle.fst_codex.specs.declared.fault.CodexKind.TheVariants.{BadLabel, BadWeight, Short, UnknownArcType}
 use Rattle.fst_codex.specs.Spelling.{codex_types, entry_fields, flag, magic, weight_part}
-use Rattle.fst_codex.specs.Reading.{arc_type_at, entry_at, entry_weight_at, flag_at, magic_at, number_at, number_where, part_at, types_at, weight_part_at}
+use Rattle.fst_codex.specs.Reading.{entry_at, flag_at, magic_at, types_at, weight_part_at}
 use Rattle.fst_codex.specs.Table.{Entry, IsEntry}
 
--- ---- numbers and texts
-
-number_again : (width limit : ℕ) (make : ℕ → List ℕ) (wide : IsWide width limit make) (bytes : List ℕ) (at n : ℕ) (rest : List ℕ) → at ≤ length bytes → n < limit → drop at bytes ≡ make n ++ rest → Reads bytes (number_at width bytes at) n rest
-unfolding number_at
-number_again width limit make wide bytes at n rest within lt e =
-    let len = wide.len n in
-    let ends = ends_within bytes at (make n) rest within e in
-    let whole : ltb (length bytes) (at + width) ≡ false = le-ltb _ _ (omega (arith, len, ends)) in
-    record {
-      next = at + width;
-      gives = rw (whole, e, wide.again n rest lt) refl;
-      left = past bytes at (make n) rest width len e;
-      within = omega (arith, len, ends);
-    }
-
-pub where_again : (test : ℕ → Bool) (kind : CodexKind) (width limit : ℕ) (make : ℕ → List ℕ) (wide : IsWide width limit make) (bytes : List ℕ) (at n : ℕ) (rest : List ℕ) → at ≤ length bytes → n < limit → test n ≡ true → drop at bytes ≡ make n ++ rest → Reads bytes (number_where test kind width bytes at) n rest
-unfolding number_where
-where_again test kind width limit make wide bytes at n rest within lt passes e =
-    let r = number_again width limit make wide bytes at n rest within lt e in
-    record { next = r.next; gives = rw (r.gives, passes) refl; left = r.left; within = r.within }
-
-part_again : (bytes : List ℕ) (at : ℕ) (part rest : List ℕ) → at ≤ length bytes → drop at bytes ≡ part ++ rest → Reads bytes (part_at (length part) bytes at) part rest
-unfolding part_at
-part_again bytes at part rest within e =
-    let ends = ends_within bytes at part rest within e in
-    let whole : ltb (length bytes) (at + length part) ≡ false = le-ltb _ _ ends in
-    let value : take (length part) (drop at bytes) ≡ part = ap (take (length part)) e ∙ take_at part rest (length part) refl in
-    record { next = at + length part; gives = rw (whole, value) refl; left = past bytes at part rest (length part) refl e; within = ends }
-
--- ---- the arc type
-
-pub arc_type_again : (kinds : List ArcType) (kind : ArcType) (bytes : List ℕ) (at : ℕ) (rest : List ℕ) → IsNamed kinds kind → at ≤ length bytes → drop at bytes ≡ text (name_of kind) ++ rest → Reads bytes (arc_type_at kinds bytes at) kind rest
-unfolding arc_type_at
-arc_type_again kinds kind bytes at rest named within e =
-    let name = name_of kind in
-    let apart : drop at bytes ≡ word (length name) ++ (name ++ rest) = e ∙ append_assoc (word (length name)) name rest in
-    let number = where_again (λ n. list_any (λ k. eqb (length (name_of k)) n) kinds) UnknownArcType 4 (2 ^ 32) word words bytes at (length name) (name ++ rest) within (name_is_short kind) named.has apart in
-    let part = part_again bytes number.next name rest number.within number.left in
-    record { next = part.next; gives = rw (number.gives, part.gives, named.is) refl; left = part.left; within = part.within }
+-- ---- the heading
 
 -- the magic bytes
 record MagicRead (bytes rest : List ℕ) : Type 0 where
@@ -68,14 +27,14 @@ record MagicRead (bytes rest : List ℕ) : Type 0 where
 magic_again : (bytes rest : List ℕ) → bytes ≡ magic ++ rest → MagicRead bytes rest
 unfolding magic_at
 magic_again bytes rest e =
-    let part = part_again bytes 0 magic rest (omega arith) e in
+    let part = part_again Short bytes 0 magic rest (omega arith) e in
     record { next = part.next; gives = rw part.gives refl; left = part.left; within = part.within }
 
 pub types_again : (kinds : List ArcType) (kind : ArcType) (bytes rest : List ℕ) → IsNamed kinds kind → bytes ≡ codex_types kind ++ rest → Reads bytes (types_at kinds bytes) kind rest
 unfolding types_at
 types_again kinds kind bytes rest named e =
     let front = magic_again bytes (text (name_of kind) ++ rest) (e ∙ append_assoc magic (text (name_of kind)) rest) in
-    let own = arc_type_again kinds kind bytes front.next rest named front.within front.left in
+    let own = named_again name_of kinds Short UnknownArcType bytes front.next kind rest front.within (name_is_short kind) named.has named.is front.left in
     record { next = own.next; gives = rw (front.gives, own.gives) refl; left = own.left; within = own.within }
 
 -- ---- the flag
@@ -91,19 +50,13 @@ flag_again bytes at true rest within e =
 
 -- ---- entries
 
-entry_weight_again : (kind : ArcType) (bytes : List ℕ) (at : ℕ) (v : Cost) (rest : List ℕ) → at ≤ length bytes → HasField kind v → v ≢ infinite → drop at bytes ≡ weight_field kind v ++ rest → Reads bytes (entry_weight_at kind bytes at) v rest
-unfolding entry_weight_at
-entry_weight_again kind bytes at v rest within fits not e =
-    let r = weight_again kind bytes at v rest within fits e in
-    record { next = r.next; gives = rw (r.gives, is_finite v not) refl; left = r.left; within = r.within }
-
 -- an entry that has fields
 abbrev pub GoodEntry : ArcType → Bool → Entry Cost → Type 0
 GoodEntry kind weights e = IsEntry kind (λ v. v) weights e × HasField kind e.weight
 
 weight_part_again : (kind : ArcType) (weights : Bool) (bytes : List ℕ) (at : ℕ) (e : Entry Cost) (rest : List ℕ) → at ≤ length bytes → GoodEntry kind weights e → drop at bytes ≡ weight_part kind weights e.weight ++ rest → Reads bytes (weight_part_at kind weights bytes at) e.weight rest
 weight_part_again kind false bytes at e rest within good stands = record { next = at; gives = ap (λ (v : Cost). Ok (v, at)) (sym (good.0.bare refl)); left = stands; within = within }
-weight_part_again kind true bytes at e rest within good stands = entry_weight_again kind bytes at e.weight rest within good.1 good.0.weight stands
+weight_part_again kind true bytes at e rest within good stands = non_zero_weight_again kind Short BadWeight bytes at e.weight rest within good.1 good.0.weight stands
 
 pub entry_again : (kind : ArcType) (weights : Bool) (bytes : List ℕ) (at : ℕ) (e : Entry Cost) (rest : List ℕ) → at ≤ length bytes → GoodEntry kind weights e → drop at bytes ≡ entry_fields kind weights e ++ rest → Reads bytes (entry_at kind weights bytes at) e rest
 unfolding entry_at
@@ -111,7 +64,7 @@ entry_again kind weights bytes at e rest within good stands =
     let label = λ (n : ℕ). leb n greatest_label in
     let part = weight_part kind weights e.weight in
     let apart : drop at bytes ≡ word e.ilabel ++ (word e.olabel ++ (part ++ rest)) = stands ∙ append_assoc (word e.ilabel ++ word e.olabel) part rest ∙ append_assoc (word e.ilabel) (word e.olabel) (part ++ rest) in
-    let i = where_again label BadLabel 4 (2 ^ 32) word words bytes at e.ilabel (word e.olabel ++ (part ++ rest)) within (omega (arith, good.0.ilabel)) (le-leb _ _ good.0.ilabel) apart in
-    let o = where_again label BadLabel 4 (2 ^ 32) word words bytes i.next e.olabel (part ++ rest) i.within (omega (arith, good.0.olabel)) (le-leb _ _ good.0.olabel) i.left in
+    let i = where_again label Short BadLabel 4 (2 ^ 32) word words bytes at e.ilabel (word e.olabel ++ (part ++ rest)) within (omega (arith, good.0.ilabel)) (le-leb _ _ good.0.ilabel) apart in
+    let o = where_again label Short BadLabel 4 (2 ^ 32) word words bytes i.next e.olabel (part ++ rest) i.within (omega (arith, good.0.olabel)) (le-leb _ _ good.0.olabel) i.left in
     let w = weight_part_again kind weights bytes o.next e rest o.within good o.left in
     record { next = w.next; gives = rw (i.gives, o.gives, w.gives) refl; left = w.left; within = w.within }

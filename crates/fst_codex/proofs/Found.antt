@@ -6,19 +6,19 @@ use Rattle.std.proofs.lemmas.Bool.{eqb-true, leb-true}
 use Rattle.std.proofs.lemmas.List.Elements.{All-from_recursion}
 use Rattle.fst_semiring.specs.declared.arc_type.ArcType.{ArcType}
 use Rattle.fst_semiring.specs.Cost.{Cost}
-use Rattle.fst_binary.specs.Spelling.{HasField, long}
-use Rattle.fst_binary.specs.Reading.{◌>>=◌}
-use Rattle.fst_binary.proofs.Names.{found_alone}
-use Rattle.fst_binary.proofs.Numbers.{longs}
-use Rattle.fst_binary.proofs.Steps.{IsBytes, Takes, Takes-all, Takes-then, bind_ok, done, guard_passed, ok_is}
-use Rattle.fst_codex.specs.declared.fault.CodexFault.{CodexFault}
-use Rattle.fst_codex.specs.declared.fault.CodexKind.TheVariants.{BadCount, Extra}
+use Rattle.fst_bytes.specs.Spelling.{HasField, long}
+use Rattle.fst_fields.specs.Reading.{◌>>=◌}
+use Rattle.fst_bytes.proofs.Names.{found_alone}
+use Rattle.fst_bytes.proofs.Numbers.{longs, where_takes}
+use Rattle.fst_bytes.proofs.Steps.{IsBytes, Takes, Takes-all, Takes-then, bind_ok, done, guard_passed, ok_is}
+use Rattle.fst_codex.specs.Reading.{CodexFault, Gives, codex_of_bytes, entries_at, flag_at, table_at, types_at}
+use Rattle.fst_codex.specs.declared.fault.CodexKind.TheVariants.{BadCount, Extra, Short}
 use Rattle.fst_codex.specs.Spelling.{HasCodexSpelling, codex_spelling, codex_types, entry_fields, flag}
-use Rattle.fst_codex.specs.Reading.{Gives, codex_of_bytes, entries_at, fault, flag_at, number_where, table_at, types_at}
+use Rattle.fst_bytes.specs.Reading.{fault, number_where}
 use Rattle.fst_codex.specs.Table.{Entry, Table, IsEntry, most_entries}
 use Rattle.fst_codex.proofs.Again.{codex_again}
 use Rattle.fst_codex.proofs.Fields.{GoodEntry}
-use Rattle.fst_codex.proofs.Taken.{entries_takes, flag_takes, types_takes, where_takes}
+use Rattle.fst_codex.proofs.Taken.{entries_takes, flag_takes, types_takes}
 
 first_of : {X : Type 0} (P Q : X → Type 0) (xs : List X) → AllByRecursion (λ x. P x × Q x) xs → AllByRecursion P xs
 first_of P Q [] h = tt
@@ -47,12 +47,12 @@ unfolding table_at
 table_takes kind bytes front at t fits begins e =
     let few = λ (n : ℕ). leb n most_entries in
     let ended = λ (w : Bool) (es : List (Entry Cost) × ℕ). cond (eqb es.1 (length bytes)) (done {A = Table Cost} {E = CodexFault} (record { weights = w; entries = es.0 })) (fault Extra es.1) in
-    let b = bind_ok (flag_at bytes at) (λ w. number_where few BadCount 8 bytes w.1 >>= λ n. entries_at kind w.0 n.0 bytes n.1 >>= ended w.0) t e in
-    let c = bind_ok (number_where few BadCount 8 bytes b.0.1) (λ n. entries_at kind b.0.0 n.0 bytes n.1 >>= ended b.0.0) t b.2 in
+    let b = bind_ok (flag_at bytes at) (λ w. number_where few Short BadCount 8 bytes w.1 >>= λ n. entries_at kind w.0 n.0 bytes n.1 >>= ended w.0) t e in
+    let c = bind_ok (number_where few Short BadCount 8 bytes b.0.1) (λ n. entries_at kind b.0.0 n.0 bytes n.1 >>= ended b.0.0) t b.2 in
     let d = bind_ok (entries_at kind b.0.0 c.0.0 bytes c.0.1) (ended b.0.0) t c.2 in
     let g = guard_passed (eqb d.0.1 (length bytes)) (Ok (record { weights = b.0.0; entries = d.0.0 })) (record { offset = d.0.1; kind = Extra }) t d.2 in
     let t0 = flag_takes bytes at b.0.0 b.0.1 b.1 in
-    let t1 = where_takes few BadCount 8 (2 ^ 64) long longs bytes b.0.1 c.0.0 c.0.1 fits c.1 in
+    let t1 = where_takes few Short BadCount 8 (2 ^ 64) long longs bytes b.0.1 c.0.0 c.0.1 fits c.1 in
     let t2 = entries_takes kind b.0.0 c.0.0 bytes c.0.1 d.0.0 d.0.1 t1.0.within fits d.1 in
     let two = Takes-then bytes 0 front at (flag b.0.0) b.0.1 begins t0 in
     let three = Takes-then bytes 0 (front ++ flag b.0.0) b.0.1 (long c.0.0) c.0.1 two t1.0 in

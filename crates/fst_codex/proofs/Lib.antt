@@ -2,7 +2,7 @@ pub mod Keys
 pub mod Putting
 pub mod TurnedBack
 pub mod Undone
-pub mod EntryLoops
+pub mod Lengths
 pub mod Fields
 pub mod Taken
 pub mod Again

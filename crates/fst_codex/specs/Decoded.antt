@@ -59,10 +59,16 @@ pub record PassesRange {V : Type 0} (kind : ArcType) (value : V → Cost) (t : T
 -- runs out.
 abbrev pub Decodes : {V : Type 0} → ArcType → (V → Cost) → Machine V → Table Cost → Result (Machine Cost) DecodeFault → Type 0
 Decodes kind value m t (Err (NotAcceptor state place)) = IsFirstArc HasTwoLabels m (Some (record { state = state; place = place }))
-Decodes kind value m t (Err (NotInCodex label)) = IsFirstArc HasTwoLabels m None × (step : Step) × IsFirstArc (IsOutside (length t.entries)) m (Some step) × Meets (HasLabel label) m step.state step.place
-Decodes kind value m t (Err (Overflow state)) = IsFirstArc HasTwoLabels m None × IsFirstArc (IsOutside (length t.entries)) m None × (place : ℕ) × IsFirstArc (PassesRange kind value t) m (Some (record { state = state; place = place }))
+Decodes kind value m t (Err (NotInCodex label)) =
+    IsFirstArc HasTwoLabels m None × (step : Step) × IsFirstArc (IsOutside (length t.entries)) m (Some step)
+    × Meets (HasLabel label) m step.state step.place
+Decodes kind value m t (Err (Overflow state)) =
+    IsFirstArc HasTwoLabels m None × IsFirstArc (IsOutside (length t.entries)) m None × (place : ℕ)
+    × IsFirstArc (PassesRange kind value t) m (Some (record { state = state; place = place }))
 Decodes kind value m t (Err Memory) = Unit {0}
-Decodes kind value m t (Ok d) = IsFirstArc HasTwoLabels m None × IsFirstArc (IsOutside (length t.entries)) m None × IsFirstArc (PassesRange kind value t) m None × (d ≡ decoded kind t (valued value m))
+Decodes kind value m t (Ok d) =
+    IsFirstArc HasTwoLabels m None × IsFirstArc (IsOutside (length t.entries)) m None × IsFirstArc (PassesRange kind value t) m None
+    × (d ≡ decoded kind t (valued value m))
 
 -- decoding has given this machine, unless memory ran out
 abbrev pub GivesBack : Machine Cost → Result (Machine Cost) DecodeFault → Type 0

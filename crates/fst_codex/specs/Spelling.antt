@@ -4,7 +4,8 @@ use Rattle.std.specs.Prelude.{ℕ, Bool, true, false, List, [], ◌∷◌, ◌++
 use Rattle.std.specs.List.{flat_map}
 use Rattle.fst_semiring.specs.declared.arc_type.ArcType.{ArcType}
 use Rattle.fst_semiring.specs.Cost.{Cost}
-use Rattle.fst_binary.specs.Spelling.{HasField, long, name_of, text, weight_field, word}
+use Rattle.fst_semiring.specs.Names.{name_of}
+use Rattle.fst_bytes.specs.Spelling.{HasField, long, text, weight_field, word}
 use Rattle.fst_codex.specs.Table.{Entry, Table, IsTable}
 
 -- the bytes at the front of every codex
@@ -25,7 +26,7 @@ weight_part kind true v = weight_field kind v
 abbrev pub entry_fields : ArcType → Bool → Entry Cost → List ℕ
 entry_fields kind weights e = word e.ilabel ++ word e.olabel ++ weight_part kind weights e.weight
 
--- the fields up to the arc type, and those in front of the entries
+-- the fields up to the arc type, and those before the entries
 abbrev pub codex_types : ArcType → List ℕ
 codex_types kind = magic ++ text (name_of kind)
 

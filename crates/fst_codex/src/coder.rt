@@ -39,7 +39,7 @@ fn key_of<W: Weight>(entry: CodexEntry<W>) -> EntryKey
     }
 }
 
-/// Puts a key behind the others, where it is new, and gives its place and whether it was new.
+/// Puts a key after the others, where it is new, and gives its place and whether it was new.
 fn put_key(keys: &mut IndexSet<EntryKey>, key: EntryKey) -> Result<(usize, bool), AllocError>
     ensures there { IfOk result (λ r. slice_get keys.new.keys r.0 ≡ Some key) }
     ensures within { IfOk result (λ r. r.0 < length keys.new.keys) }
@@ -86,7 +86,7 @@ impl<W: Weight> Coder<W> {
         }
     }
 
-    /// The number of an entry, counted from 1. One that is new stands behind the others.
+    /// The number of an entry, counted from 1. One that is new stands after the others.
     fn number(&mut self, entry: CodexEntry<W>) -> Result<u32, AllocError>
         requires good { IsEntry W.KIND W.value self.old.weights entry }
         requires room { length self.old.entries < most_entries }

@@ -62,7 +62,7 @@ impl<T: Drop> From<AllocFailed<T>> for DecodeFault {
     }
 }
 
-/// The first of the arcs of a state with a label past so many numbers.
+/// The first of the arcs of a state with a label past the numbers that there are.
 fn outside_in<W>(arcs: &[FstArc<W>], numbers: u32) -> Option<u32>
     requires few { length arcs.now ≤ most_arcs }
     ensures { IsFirstPlace (IsOutside numbers) arcs.now result }
@@ -75,7 +75,7 @@ fn outside_in<W>(arcs: &[FstArc<W>], numbers: u32) -> Option<u32>
     None
 }
 
-/// The first arc with a label past so many numbers.
+/// The first arc with a label past the numbers that there are.
 fn outside_at<W: Weight>(fst: &Fst<W>, numbers: u32) -> Option<Step>
     ensures { IsFirstArc (IsOutside numbers) fst.now result }
 {

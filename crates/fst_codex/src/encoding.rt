@@ -33,7 +33,7 @@ fn put_arcs<W: Weight>(
     Ok(())
 }
 
-/// Puts the states of a machine with the numbers of their entries behind the others.
+/// Puts the states of a machine with the numbers of their entries after the others.
 fn put_states<W: Weight>(
     alloc: Global,
     states: &mut StateList<W>,

@@ -1,9 +1,6 @@
 //! Why bytes are no codex.
 
-ghost use Rattle.std.specs.Prelude.{◌≡◌, length};
-ghost use Rattle.fst_codex.specs.declared.fault.CodexKind.TheVariants as kinds;
-
-use std::alloc::{AllocError, AllocFailed};
+use fst_bytes::FileFault;
 
 /// What is wrong.
 #[derive(Clone, Copy, Debug, PartialEq, Eq)]
@@ -29,53 +26,4 @@ pub enum CodexKind {
 }
 
 /// The first fault of bytes that are no codex, and where it is.
-#[derive(Clone, Copy, Debug, PartialEq, Eq)]
-pub struct CodexFault {
-    /// The number of bytes before the field that is wrong. For `Short` the number of all bytes, for `Memory`
-    /// 0.
-    pub offset: u64,
-    /// What is wrong with the field.
-    pub kind: CodexKind,
-}
-
-impl From<AllocError> for CodexFault {
-    ghost from_gives = { λ _ f. f ≡ record { offset = 0; kind = kinds.Memory } };
-
-    fn from(_e: AllocError) -> CodexFault {
-        CodexFault {
-            offset: 0,
-            kind: CodexKind::Memory,
-        }
-    }
-}
-
-impl<T: Drop> From<AllocFailed<T>> for CodexFault {
-    ghost from_gives = { λ _ f. f ≡ record { offset = 0; kind = kinds.Memory } };
-
-    fn from(_e: AllocFailed<T>) -> CodexFault {
-        CodexFault {
-            offset: 0,
-            kind: CodexKind::Memory,
-        }
-    }
-}
-
-/// A field of these bytes is not whole.
-pub(crate) fn short(bytes: &[u8]) -> CodexFault
-    ensures { result ≡ record { offset = length bytes.now; kind = kinds.Short } }
-{
-    CodexFault {
-        offset: bytes.len() as u64,
-        kind: CodexKind::Short,
-    }
-}
-
-/// The field at an offset is wrong.
-pub(crate) fn fault_at(offset: usize, kind: CodexKind) -> CodexFault
-    ensures { result ≡ record { offset = offset; kind = kind } }
-{
-    CodexFault {
-        offset: offset as u64,
-        kind,
-    }
-}
+pub type CodexFault = FileFault<CodexKind>;

@@ -2,63 +2,22 @@
 
 ghost use Rattle.std.specs.Prelude.{◌≡◌, ◌≤◌, ◌<◌, ◌++◌, ◌+◌, ◌*◌, length, map, All, IfOk, OnOk, Ok};
 ghost use Rattle.std.specs.List.{flat_map};
-ghost use Rattle.fst_binary.specs.Spelling.{HasField, long, name_of, text, word};
+ghost use Rattle.fst_semiring.specs.Names.{name_of};
+ghost use Rattle.fst_bytes.specs.Spelling.{HasField};
 ghost use Rattle.fst_codex.specs.Spelling.{HasCodexSpelling, codex_heading, codex_spelling, codex_types, entry_fields, flag, weight_part};
 ghost use Rattle.fst_codex.specs.Reading.{codex_arc_type_of_bytes, codex_of_bytes};
 ghost use Rattle.fst_codex.specs.Table.{most_entries, valued_entry, valued_table};
 
 use crate::codex::{Codex, CodexEntry};
-use byteorder::{ByteOrder, LittleEndian};
-use fst_binary::{push_weight_field, weight_length};
+use fst_bytes::{push_arc_type, push_long, push_weight_field, push_word, weight_length};
 use fst_semiring::{ArcType, Weight};
 use std::alloc::{AllocError, Global};
 
-/// Appends a number in four bytes.
-#[tactic(auto, unfolding(fst_binary::specs::Spelling::word))]
-fn push_word(out: &mut Vec<u8>, number: u32) -> Result<(), AllocError>
-    ensures { OnOk result (out.new.items ≡ out.old.items ++ word number) }
-{
-    let mut bytes = [0; 4];
-    LittleEndian::write_u32(&mut bytes, number);
-    out.extend_from_slice(&bytes)
-}
-
-/// Appends a number in eight bytes.
-#[tactic(auto, unfolding(fst_binary::specs::Spelling::long))]
-fn push_long(out: &mut Vec<u8>, number: u64) -> Result<(), AllocError>
-    ensures { OnOk result (out.new.items ≡ out.old.items ++ long number) }
-{
-    let mut bytes = [0; 8];
-    LittleEndian::write_u64(&mut bytes, number);
-    out.extend_from_slice(&bytes)
-}
-
-/// The name of an arc type.
-fn name_of_type(kind: ArcType) -> &'static [u8]
-    ensures { result.now ≡ name_of kind }
-{
-    match kind {
-        ArcType::Boolean => b"boolean",
-        ArcType::Tropical => b"tropical",
-        ArcType::MinMax => b"minmax",
-        ArcType::Lexicographic => b"lexicographic",
-    }
-}
-
-/// How many bytes stand in front of the entries.
+/// How many bytes stand before the entries.
 fn heading_length(kind: ArcType) -> usize
     ensures { result ≡ 21 + length (name_of kind) }
 {
-    21 + name_of_type(kind).len()
-}
-
-/// Appends the name of an arc type behind its length.
-fn push_name(out: &mut Vec<u8>, kind: ArcType) -> Result<(), AllocError>
-    ensures { OnOk result (out.new.items ≡ out.old.items ++ text (name_of kind)) }
-{
-    let name = name_of_type(kind);
-    push_word(out, name.len() as u32)?;
-    out.extend_from_slice(name)
+    21 + kind.name().len()
 }
 
 /// Appends whether weights stand in the entries.
@@ -72,12 +31,12 @@ fn push_flag(out: &mut Vec<u8>, weights: bool) -> Result<(), AllocError>
     }
 }
 
-/// Appends the fields in front of the entries.
+/// Appends the fields before the entries.
 fn push_heading<W: Weight>(out: &mut Vec<u8>, codex: &Codex<W>) -> Result<(), AllocError>
     ensures { OnOk result (out.new.items ≡ out.old.items ++ codex_heading W.KIND (valued_table W.value codex.now)) }
 {
     out.extend_from_slice(b"FSTCODEX")?;
-    push_name(out, W::KIND)?;
+    push_arc_type(out, W::KIND)?;
     push_flag(out, codex.weights())?;
     push_long(out, codex.entries().len() as u64)
 }

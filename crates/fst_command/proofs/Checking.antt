@@ -1,4 +1,4 @@
--- Questions and contents, one list behind the other.
+-- Questions and contents, one list after the other.
 use Rattle.std.proofs.Common.{◌≡◌, ℕ, List, [], ◌∷◌, ◌++◌, Option, Some, None, refl, sym, ap, ◌∙◌, subst, inl, inr, append_assoc}
 use Rattle.std.proofs.lemmas.List.{append-nil}
 use Rattle.fst_desk.specs.Seen.{Files}
@@ -18,7 +18,7 @@ pub IsFirst-behind : (xs ys : List Check) (cause : Cause) → AllPass xs → IsF
 IsFirst-behind [] ys cause h k = k
 IsFirst-behind (x ∷ xs) ys cause h k = inr (h.0, IsFirst-behind xs ys cause h.1 k)
 
--- nor do questions behind it
+-- nor do questions after it
 pub IsFirst-front : (xs ys : List Check) (cause : Cause) → IsFirst xs cause → IsFirst (xs ++ ys) cause
 IsFirst-front [] ys cause h = absurd h
 IsFirst-front (x ∷ xs) ys cause (inl h) = inl h

@@ -10,7 +10,7 @@ use Rattle.fst_codex.specs.Reading.{Fails, codex_arc_type_of_bytes, codex_of_byt
 use Rattle.fst_codex.specs.Table.{Table}
 use Rattle.fst_codex.specs.declared.decoding.DecodeFault.{DecodeFault}
 use Rattle.fst_codex.specs.declared.decoding.DecodeFault.TheVariants as decoding
-use Rattle.fst_codex.specs.declared.fault.CodexFault.{CodexFault}
+use Rattle.fst_codex.specs.Reading.{CodexFault}
 use Rattle.fst_codex.specs.declared.fault.CodexKind.TheVariants as kinds
 use Rattle.fst_words.specs.declared.plan.Plan.{Plan}
 use Rattle.fst_command.specs.declared.refusal.Refusal.{Refusal}

@@ -6,11 +6,13 @@ use Rattle.fst_machine.specs.Machine.{Machine}
 use Rattle.fst_binary.specs.Spelling.{spelling}
 use Rattle.fst_machine.specs.Connected.{IsConnected}
 use Rattle.fst_machine.specs.Graph.{graph_of}
-use Rattle.fst_compose.specs.Answers.{IsExactly, IsNamed, Refuses}
+use Rattle.fst_trim.proofs.KeptPaths.{connected_keeps}
+use Rattle.fst_walk.specs.Answers.{IsNamed}
+use Rattle.fst_compose.specs.Answers.{IsExactly, Refuses}
 use Rattle.fst_compose.specs.Composition.{composed}
 use Rattle.fst_compose.specs.Names.{Name}
 use Rattle.fst_compose.specs.Theorem.{IsComposition}
-use Rattle.fst_compose.proofs.Trimmed.{connected_composition, connected_keeps}
+use Rattle.fst_compose.proofs.Through.{connected_composition}
 use Rattle.fst_compose.specs.declared.fault.ComposeFault.{ComposeFault}
 use Rattle.fst_compose.specs.declared.fault.ComposeFault.TheVariants as faults
 use Rattle.fst_words.specs.declared.options.Options.{Options}
@@ -110,7 +112,7 @@ composed-whole options kind a b whole names plain named composes = record {
 -- and connected
 pub composed-connected : (options : Options) (kind : ArcType) (a b whole made : Machine Cost) (names : List (Name ℕ ℕ)) → connects options ≡ true → IsNamed (composed kind (graph_of a) (graph_of b)) names whole → IsComposition kind (graph_of a) (graph_of b) names whole → IsConnected whole made → IsComposed options kind a b made
 composed-connected options kind a b whole made names connected named composes trimmed =
-    let keeps = connected_keeps kind whole made trimmed in
+    let keeps = connected_keeps whole made trimmed kind in
     let all = connected_composition kind (graph_of a) (graph_of b) names whole made trimmed.kept composes keeps in
     record {
       names = names;

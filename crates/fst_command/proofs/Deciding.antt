@@ -20,7 +20,7 @@ use Rattle.fst_text.specs.Printed.{Prints, text_of_machine}
 use Rattle.fst_text.specs.declared.fault.PrintFault.{PrintFault}
 use Rattle.fst_text.specs.declared.fault.PrintFault.TheVariants as printing
 use Rattle.fst_binary.specs.Reading.{Fails, arc_type_of_bytes, machine_of_bytes}
-use Rattle.fst_binary.specs.declared.fault.BinaryFault.{BinaryFault}
+use Rattle.fst_binary.specs.Reading.{BinaryFault}
 use Rattle.fst_binary.specs.declared.fault.BinaryKind.TheVariants as kinds
 use Rattle.fst_binary.specs.Spelling.{spelling}
 use Rattle.fst_trim.specs.Sorting.{IsArcSorted}
@@ -68,7 +68,7 @@ Passes-print choices file text t reads prints cause found =
     let again : text_of_machine found.machine.kind choices found.machine.machine ≡ Ok text = subst (λ (u : Typed). text_of_machine u.kind choices u.machine ≡ Ok text) (sym same) prints in
     not_both _ _ _ again found.prints
 
--- a refusal that was made tells its answer, or want of memory
+-- a refusal that was made tells its answer, or out of memory
 pub made_tells : (answer : Answer) (refusal : Refusal) → IsMade answer refusal → Tells no_memory refusal ⊎ Tells answer refusal
 made_tells answer refusals.Memory made = inl (record { status = refl; line = refl })
 made_tells answer refusals.Usage made = inr made

@@ -3,7 +3,7 @@ use Rattle.std.proofs.Common.{◌≡◌, ℕ, List, [], ◌∷◌, ◌++◌, sym
 use Rattle.std.proofs.lemmas.List.{append-nil}
 use Rattle.std.specs.List.{concat}
 
--- the text behind which one line after the other was written
+-- the text to which one line after another was added
 abbrev pub followed : List ℕ → List (List ℕ) → List ℕ
 followed text [] = text
 followed text (line ∷ lines) = followed (text ++ line) lines

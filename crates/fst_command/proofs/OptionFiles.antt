@@ -68,7 +68,7 @@ Works-option form check read none plan front after contents old mid new (Some na
     Works-declined plan front after contents old mid new i content refusal one p reads
     (subst (λ (c : Check). Declines (c ∷ []) refusal) (f.asked plan contents name content) declines)
 
--- lists behind one another, seen from each of them
+-- lists after one another, seen from each of them
 pub from_first : {X : Type 0} (a b c d own : List X) → (a ++ (b ++ (c ++ d))) ++ own ≡ a ++ ((b ++ (c ++ d)) ++ own)
 from_first a b c d own = append_assoc a (b ++ (c ++ d)) own
 

@@ -61,7 +61,7 @@ decides-several plan contents own files result is c combines =
     rw (c.own own, c.renaming own)
     (several_settles plan.command (rule_labels plan) plan.options (choices_of plan.options (contents ++ own)) (renaming_in files) own result is combines)
 
--- what `encode --decode` decides of the codex behind the machine
+-- what `encode --decode` decides of the codex after the machine
 coding_settles : (verb : Verb) (labels : List ℕ) (options : Options) (choices : Choices) (renaming : Renaming) (file name codex : List ℕ) (result : Result (List ℕ) Refusal) → is_coding verb ≡ true → options.decode ≡ true → DecodesTo file name codex result → Settles (codex_check name codex ∷ machine_checks verb labels options choices (file ∷ codex ∷ [])) (MakesBy verb labels options choices renaming (file ∷ codex ∷ [])) result
 coding_settles Encode labels options choices renaming file name codex result coding decode makes =
     subst (λ (d : Bool). Settles (codex_check name codex ∷ coding_checks d (file ∷ codex ∷ [])) (CodedBy d options.encode_weights (file ∷ codex ∷ [])) result) (sym decode) makes

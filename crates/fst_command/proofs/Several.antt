@@ -75,14 +75,14 @@ inputs_at plan place i at =
     ap (λ own. option_inputs plan.options ++ own) (split_at (own_inputs plan) place i at)
     ∙ sym (append_assoc (option_inputs plan.options) (take place (own_inputs plan)) (i ∷ drop (place + 1) (own_inputs plan)))
 
--- machines and files, one list behind the other
+-- machines and files, one list after the other
 AreMachines-more : (kind : ArcType) (files : List (List ℕ)) (machines : List (Machine Cost)) (file : List ℕ) (m : Machine Cost) → AreMachines kind files machines → machine_of_file file ≡ Ok (record { kind = kind; machine = m }) → AreMachines kind (files ++ file ∷ []) (machines ++ m ∷ [])
 AreMachines-more kind [] [] file m are reads = (reads, tt)
 AreMachines-more kind [] (n ∷ ns) file m are reads = absurd are
 AreMachines-more kind (f ∷ files) [] file m are reads = absurd are
 AreMachines-more kind (f ∷ files) (n ∷ ns) file m are reads = (are.0, AreMachines-more kind files ns file m are.1 reads)
 
--- a file of another arc type stands behind files of one
+-- a file of another arc type stands after files of one
 other_behind : (first : Typed) (files : List (List ℕ)) (machines : List (Machine Cost)) (file : List ℕ) (found : Typed) → AreMachines first.kind files machines → machine_of_file file ≡ Ok found → (first.kind ≡ found.kind → ⊥) → HasOther first (files ++ file ∷ []) (kinds_differ first.kind found.kind)
 other_behind first [] [] file found are reads differs = inl (record { other = found; reads = reads; differs = differs; is = refl })
 other_behind first [] (n ∷ ns) file found are reads differs = absurd are

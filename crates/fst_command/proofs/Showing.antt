@@ -1,5 +1,5 @@
 -- A command that ended with a refusal, and the line that was then shown, are a run.
-use Rattle.std.proofs.Common.{◌≡◌, ℕ, List, [], Option, Some, None, Result, Ok, Err, refl, sym, ap, ◌∙◌, subst, inl, inr}
+use Rattle.std.proofs.Common.{◌≡◌, ◌⊎◌, ℕ, List, [], Option, Some, None, Result, Ok, Err, refl, sym, ap, ◌∙◌, subst, inl, inr}
 use Rattle.std.proofs.lemmas.List.{append-nil}
 use Rattle.fst_desk.specs.Seen.{Filed, Showing, Seen}
 use Rattle.fst_desk.specs.Desk.{ToldAppends, ShowAnswer, DeskShows}
@@ -7,7 +7,7 @@ use Rattle.fst_desk.specs.declared.edge.StoreFault.{StoreFault}
 use Rattle.fst_desk.specs.declared.edge.StoreFault.TheVariants as storing
 use Rattle.fst_command.specs.declared.refusal.Refusal.{Refusal}
 use Rattle.fst_command.specs.Plans.{plan_of}
-use Rattle.fst_command.specs.Outcome.{Answers, ShowsLine, Runs}
+use Rattle.fst_command.specs.Outcome.{Answers, ShowsFront, ShowsLine, Runs}
 use Rattle.fst_command.specs.Told.{told_line, told_status}
 use Rattle.fst_command.specs.Steps.{Works}
 
@@ -17,10 +17,16 @@ appends_nothing None new e = subst (λ (t : Option (List ℕ)). ToldAppends [] N
 appends_nothing (Some shown) new e = subst (λ (t : Option (List ℕ)). ToldAppends [] (Some shown) t) (sym e) (sym (append-nil shown))
 
 -- what was shown of a line
-pub shows : (line : List ℕ) (old new : Showing) (result : Result (Unit {0}) StoreFault) → ShowAnswer line old new result → ShowsLine (Some line) old new
+pub shows : (line : List ℕ) (old new : Showing) (result : Result (Unit {0}) StoreFault) → ShowAnswer line old new result → ToldAppends line old.shown new.shown ⊎ ShowsFront line old new
 shows line old new (Ok u) h = inl h.shown
-shows line old new (Err storing.Failed) h = inr (inl h.show_faults, h.front, h.rest, h.splits, h.shown)
-shows line old new (Err storing.Memory) h = inr (inr h.show_starved, [], line, refl, appends_nothing old.shown new.shown h.shown)
+shows line old new (Err storing.Failed) h = inr (record { rises = inl h.show_faults; front = h.front; rest = h.rest; splits = h.splits; shown = h.shown })
+shows line old new (Err storing.Memory) h = inr (record {
+  rises = inr h.show_starved;
+  front = [];
+  rest = line;
+  splits = refl;
+  shown = appends_nothing old.shown new.shown h.shown;
+})
 
 pub runs-refused : (words : List (List ℕ)) (old mid new : Seen) (refusal : Refusal) (line : List ℕ) (shown : Result (Unit {0}) StoreFault) (status : ℕ) → Works (plan_of words) old mid (Err refusal) → line ≡ told_line refusal → DeskShows line mid new shown → status ≡ told_status refusal → Runs words old new status
 runs-refused words old mid new refusal line shown status w e s t = record {
@@ -28,5 +34,5 @@ runs-refused words old mid new refusal line shown status w e s t = record {
   status_is = t ∙ w.ends.status;
   answers = subst (λ (f : Filed). Answers (plan_of words) old.filed f w.answer) (sym s.filed) w.answers;
   shows = subst (λ (l : Option (List ℕ)). ShowsLine l old.showing new.showing) (ap Some e ∙ w.ends.line)
-      (subst (λ (h : Showing). ShowsLine (Some line) h new.showing) w.showing (shows line mid.showing new.showing shown s.answer));
+      (subst (λ (h : Showing). ShowsLine (Some line) h new.showing) w.showing (s.shows, shows line mid.showing new.showing shown s.answer));
 }

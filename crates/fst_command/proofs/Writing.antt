@@ -1,6 +1,6 @@
 -- From what the desk did with the outputs to the answer of a command.
-use Rattle.std.proofs.Common.{◌≡◌, ℕ, List, [], ◌∷◌, ◌++◌, Option, Some, Result, Ok, Err, refl, sym, ◌∙◌, subst, inl, inr}
-use Rattle.fst_desk.specs.Seen.{Files, Filed, Seen, Rises}
+use Rattle.std.proofs.Common.{◌≡◌, ◌⊎◌, ℕ, suc, List, [], ◌∷◌, ◌++◌, length, Option, Some, Result, Ok, Err, refl, sym, ap, ◌∙◌, subst, inl, inr}
+use Rattle.fst_desk.specs.Seen.{Files, Filed, Seen, Rises, raised}
 use Rattle.fst_desk.specs.Desk.{ToldHolds}
 use Rattle.fst_words.specs.declared.plan.Plan.{Plan}
 use Rattle.fst_words.specs.Plans.{outputs_of}
@@ -9,10 +9,11 @@ use Rattle.fst_command.specs.Plans.{inputs_of}
 use Rattle.fst_command.specs.Causes.{done, no_memory, unwritten}
 use Rattle.fst_command.specs.Checks.{input_checks, later_checks}
 use Rattle.fst_command.specs.Outputs.{AreNamed, Output}
-use Rattle.fst_command.specs.Outcome.{Leaves, Prescribes}
+use Rattle.fst_command.specs.Outcome.{Calls, Leaves, OnlyFetches, Prescribes}
 use Rattle.fst_command.specs.Progress.{IsReady}
-use Rattle.fst_command.specs.Steps.{BothAnswer, NotWritten, Starves, StopsBehind, StoreAnswer, Works, WriteAnswer, WritesBoth, WritesOutput}
+use Rattle.fst_command.specs.Steps.{BothAnswer, NoRoom, NotWritten, Starves, StopsBehind, StoresOnce, Works, WriteAnswer, WritesBoth, WritesOutput, WrittenWhole}
 use Rattle.fst_command.proofs.Checking.{AllPass-append}
+use Rattle.fst_command.proofs.Working.{all_fetched}
 
 -- outputs that are ready are prescribed, under the names of the command
 prescribes-ready : (plan : Plan) (made : List (List ℕ)) (outputs : List Output) (old now : Seen) → IsReady plan made old now → AreNamed (outputs_of plan) made outputs → Prescribes plan old.filed.told outputs
@@ -23,11 +24,27 @@ prescribes-ready plan made outputs old now is named = record {
   writes = record { made = made; makes = is.makes; named = named };
 }
 
+-- one store more
+stored : (fetches stores : ℕ) (old mid new : Filed) → Calls fetches stores old mid → StoresOnce mid new → Calls fetches (suc stores) old new
+stored fetches stores old mid new calls once = record { fetches = once.fetches ∙ calls.fetches; stores = once.stores ∙ ap (λ k. raised k) calls.stores }
+
+-- the outputs were ready, and there was no memory for the line of a write fault
+no_room : (plan : Plan) (made : List (List ℕ)) (old read new : Seen) (refusal : Refusal) → IsReady plan made old read → new.showing ≡ read.showing → NoRoom read.filed new.filed refusal → Works (Some plan) old new (Err refusal)
+no_room plan made old read new refusal is showing n = record {
+  answer = no_memory;
+  ends = n.tells;
+  answers = inl (subst (λ (f : Filed). (f.told ≡ old.filed.told) × OnlyFetches plan old.filed f) (sym n.same) (is.progress.told, all_fetched plan is.contents old read is.progress));
+  showing = showing ∙ is.progress.showing;
+}
+
 -- the bytes of the output are there, and were handed to the desk
 pub Works-written : (plan : Plan) (out bytes : List ℕ) (old read new : Seen) (result : Result (Unit {0}) Refusal) → outputs_of plan ≡ out ∷ [] → IsReady plan (bytes ∷ []) old read → WritesOutput out bytes read new result → Works (Some plan) old new result
 Works-written plan out bytes old read new result single is w = go result w.answer where
   showing : new.showing ≡ old.showing
   showing = w.showing ∙ is.progress.showing
+
+  calls : StoresOnce read.filed new.filed → Calls (length (inputs_of plan)) 1 old.filed new.filed
+  calls once = stored (length (inputs_of plan)) 0 old.filed read.filed new.filed is.progress.calls once
 
   prescribes : (bs : List ℕ) → bytes ≡ bs → Prescribes plan old.filed.told ((out, bs) ∷ [])
   prescribes bs e = prescribes-ready plan (bs ∷ []) ((out, bs) ∷ []) old read (subst (λ (b : List ℕ). IsReady plan (b ∷ []) old read) e is)
@@ -40,20 +57,52 @@ Works-written plan out bytes old read new result single is w = go result w.answe
   failed refusal n = record {
     answer = unwritten out;
     ends = n.tells;
-    answers = record { rises = subst (λ (k : ℕ). Rises k new.filed.write_faults) is.progress.write_faults n.rises; before = []; front = n.front; rest = n.rest; after = []; prescribes = prescribes (n.front ++ n.rest) n.splits; leaves = holds n.front n.told };
+    answers = record {
+      rises = subst (λ (k : ℕ). Rises k new.filed.write_faults) is.progress.write_faults n.rises;
+      before = [];
+      front = n.front;
+      rest = n.rest;
+      after = [];
+      prescribes = prescribes (n.front ++ n.rest) n.splits;
+      leaves = holds n.front n.told;
+      calls = calls n.once;
+    };
+    showing = showing;
+  }
+
+  starved : (refusal : Refusal) → Starves read.filed new.filed refusal → Works (Some plan) old new (Err refusal)
+  starved refusal s = record {
+    answer = no_memory;
+    ends = s.tells;
+    answers = inr (record {
+      rises = subst (λ (k : ℕ). Rises k new.filed.starved) is.progress.starved s.rises;
+      before = [];
+      output = (out, bytes);
+      after = [];
+      prescribes = prescribes bytes refl;
+      leaves = s.told ∙ is.progress.told;
+      calls = calls s.once;
+    });
     showing = showing;
   }
 
   go : (result : Result (Unit {0}) Refusal) → WriteAnswer out bytes read.filed new.filed result → Works (Some plan) old new result
-  go (Ok u) h = record { answer = done; ends = refl; answers = ((out, bytes) ∷ [], prescribes bytes refl, holds bytes h); showing = showing }
-  go (Err refusal) (inl n) = record { answer = no_memory; ends = n.tells; answers = inl (n.told ∙ is.progress.told); showing = showing }
-  go (Err refusal) (inr n) = failed refusal n
+  go (Ok u) h = record { answer = done; ends = refl; answers = ((out, bytes) ∷ [], prescribes bytes refl, holds bytes h.told, calls h.once); showing = showing }
+  go (Err refusal) (inl n) = no_room plan (bytes ∷ []) old read new refusal is w.showing n
+  go (Err refusal) (inr (inl s)) = starved refusal s
+  go (Err refusal) (inr (inr n)) = failed refusal n
 
 -- the bytes of two outputs are there, and were handed to the desk
 pub Works-both : (plan : Plan) (name bytes other more : List ℕ) (old read new : Seen) (result : Result (Unit {0}) Refusal) → outputs_of plan ≡ name ∷ other ∷ [] → IsReady plan (bytes ∷ more ∷ []) old read → WritesBoth name bytes other more read new result → Works (Some plan) old new result
 Works-both plan name bytes other more old read new result both is w = go result w.answer where
   showing : new.showing ≡ old.showing
   showing = w.showing ∙ is.progress.showing
+
+  calls : (now : Filed) → StoresOnce read.filed now → Calls (length (inputs_of plan)) 1 old.filed now
+  calls now once = stored (length (inputs_of plan)) 0 old.filed read.filed now is.progress.calls once
+
+  calls-both : (mid : Filed) → StoresOnce read.filed mid → StoresOnce mid new.filed → Calls (length (inputs_of plan)) 2 old.filed new.filed
+  calls-both mid once again = stored (length (inputs_of plan)) 1 old.filed mid new.filed (calls mid once) again
 
   prescribes : (bs ms : List ℕ) → bytes ≡ bs → more ≡ ms → Prescribes plan old.filed.told ((name, bs) ∷ (other, ms) ∷ [])
   prescribes bs ms e f = prescribes-ready plan (bs ∷ ms ∷ []) ((name, bs) ∷ (other, ms) ∷ []) old read
@@ -75,44 +124,63 @@ Works-both plan name bytes other more old read new result both is w = go result 
       after = (other, more) ∷ [];
       prescribes = prescribes (n.front ++ n.rest) more n.splits refl;
       leaves = (new.filed.told, first n.front new.filed.told n.told, refl);
+      calls = calls new.filed n.once;
     };
     showing = showing;
   }
 
-  starved : (refusal : Refusal) (mid : Filed) → StoreAnswer name bytes read.filed mid (Ok tt) → Starves mid new.filed refusal → Works (Some plan) old new (Err refusal)
-  starved refusal mid stands s = record {
+  starved-first : (refusal : Refusal) → Starves read.filed new.filed refusal → Works (Some plan) old new (Err refusal)
+  starved-first refusal s = record {
     answer = no_memory;
     ends = s.tells;
     answers = inr (record {
-      rises = subst (λ (k : ℕ). Rises k new.filed.starved) (stands.2 ∙ is.progress.starved) s.rises;
-      before = (name, bytes) ∷ [];
-      output = (other, more);
-      after = [];
+      rises = subst (λ (k : ℕ). Rises k new.filed.starved) is.progress.starved s.rises;
+      before = [];
+      output = (name, bytes);
+      after = (other, more) ∷ [];
       prescribes = prescribes bytes more refl refl;
-      leaves = (mid.told, first bytes mid.told stands.0, s.told);
+      leaves = s.told ∙ is.progress.told;
+      calls = calls new.filed s.once;
     });
     showing = showing;
   }
 
-  stopped : (refusal : Refusal) (mid : Filed) → StoreAnswer name bytes read.filed mid (Ok tt) → NotWritten other more mid new.filed refusal → Works (Some plan) old new (Err refusal)
+  starved : (refusal : Refusal) (mid : Filed) → WrittenWhole name bytes read.filed mid → Starves mid new.filed refusal → Works (Some plan) old new (Err refusal)
+  starved refusal mid stands s = record {
+    answer = no_memory;
+    ends = s.tells;
+    answers = inr (record {
+      rises = subst (λ (k : ℕ). Rises k new.filed.starved) (stands.starved ∙ is.progress.starved) s.rises;
+      before = (name, bytes) ∷ [];
+      output = (other, more);
+      after = [];
+      prescribes = prescribes bytes more refl refl;
+      leaves = (mid.told, first bytes mid.told stands.told, s.told);
+      calls = calls-both mid stands.once s.once;
+    });
+    showing = showing;
+  }
+
+  stopped : (refusal : Refusal) (mid : Filed) → WrittenWhole name bytes read.filed mid → NotWritten other more mid new.filed refusal → Works (Some plan) old new (Err refusal)
   stopped refusal mid stands n = record {
     answer = unwritten other;
     ends = n.tells;
     answers = record {
-      rises = subst (λ (k : ℕ). Rises k new.filed.write_faults) (stands.1 ∙ is.progress.write_faults) n.rises;
+      rises = subst (λ (k : ℕ). Rises k new.filed.write_faults) (stands.write_faults ∙ is.progress.write_faults) n.rises;
       before = (name, bytes) ∷ [];
       front = n.front;
       rest = n.rest;
       after = [];
       prescribes = prescribes bytes (n.front ++ n.rest) refl n.splits;
-      leaves = (mid.told, first bytes mid.told stands.0, (new.filed.told, n.told, refl));
+      leaves = (mid.told, first bytes mid.told stands.told, (new.filed.told, n.told, refl));
+      calls = calls-both mid stands.once n.once;
     };
     showing = showing;
   }
 
   behind : (refusal : Refusal) → StopsBehind name bytes other more read.filed new.filed refusal → Works (Some plan) old new (Err refusal)
   behind refusal s = choose s.stops where
-    choose : StoreAnswer other more s.mid new.filed (Err refusal) → Works (Some plan) old new (Err refusal)
+    choose : Starves s.mid new.filed refusal ⊎ NotWritten other more s.mid new.filed refusal → Works (Some plan) old new (Err refusal)
     choose (inl n) = starved refusal s.mid s.stands n
     choose (inr n) = stopped refusal s.mid s.stands n
 
@@ -120,9 +188,15 @@ Works-both plan name bytes other more old read new result both is w = go result 
   go (Ok u) (mid, stands, also) = record {
     answer = done;
     ends = refl;
-    answers = ((name, bytes) ∷ (other, more) ∷ [], prescribes bytes more refl refl, (mid.told, first bytes mid.told stands.0, (new.filed.told, also.0, refl)));
+    answers = (
+      (name, bytes) ∷ (other, more) ∷ [],
+      prescribes bytes more refl refl,
+      (mid.told, first bytes mid.told stands.told, (new.filed.told, also.told, refl)),
+      calls-both mid stands.once also.once,
+    );
     showing = showing;
   }
-  go (Err refusal) (inl n) = record { answer = no_memory; ends = n.tells; answers = inl (n.told ∙ is.progress.told); showing = showing }
-  go (Err refusal) (inr (inl n)) = failed refusal n
+  go (Err refusal) (inl n) = no_room plan (bytes ∷ more ∷ []) old read new refusal is w.showing n
+  go (Err refusal) (inr (inl (inl s))) = starved-first refusal s
+  go (Err refusal) (inr (inl (inr n))) = failed refusal n
   go (Err refusal) (inr (inr s)) = behind refusal s

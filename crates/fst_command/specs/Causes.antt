@@ -2,6 +2,7 @@
 use Rattle.std.specs.Prelude.{ℕ, List, [], ◌∷◌, ◌++◌, Option, Some, None, codes}
 use Rattle.std.specs.Fmt.{decimal}
 use Rattle.std.specs.List.{concat}
+use Rattle.fst_semiring.specs.Names.{name_of}
 use Rattle.fst_semiring.specs.declared.arc_type.ArcType.{ArcType}
 use Rattle.fst_symbols.specs.declared.fault.SymbolsFault.{SymbolsFault}
 use Rattle.fst_symbols.specs.declared.fault.SymbolsFault.TheVariants as symbols
@@ -13,13 +14,12 @@ use Rattle.fst_text.specs.declared.fault.TextFault.{TextFault}
 use Rattle.fst_text.specs.declared.fault.TextFault.TheVariants as text
 use Rattle.fst_text.specs.declared.fault.PrintFault.{PrintFault}
 use Rattle.fst_text.specs.declared.fault.PrintFault.TheVariants as printing
-use Rattle.fst_binary.specs.declared.fault.BinaryFault.{BinaryFault}
+use Rattle.fst_binary.specs.Reading.{BinaryFault}
 use Rattle.fst_binary.specs.declared.fault.BinaryKind.{BinaryKind}
 use Rattle.fst_binary.specs.declared.fault.BinaryKind.TheVariants as binary
-use Rattle.fst_binary.specs.Spelling.{name_of}
 use Rattle.fst_compose.specs.declared.fault.ComposeFault.{ComposeFault}
 use Rattle.fst_compose.specs.declared.fault.ComposeFault.TheVariants as composing
-use Rattle.fst_codex.specs.declared.fault.CodexFault.{CodexFault}
+use Rattle.fst_codex.specs.Reading.{CodexFault}
 use Rattle.fst_codex.specs.declared.fault.CodexKind.{CodexKind}
 use Rattle.fst_codex.specs.declared.fault.CodexKind.TheVariants as codexes
 use Rattle.fst_codex.specs.declared.decoding.DecodeFault.{DecodeFault}

@@ -243,7 +243,7 @@ machine_checks Replace labels options choices files = replace_checks labels file
 machine_checks Compose labels options choices files = compose_checks options files
 machine_checks _ labels options choices files = []
 
--- what is asked behind the inputs
+-- what is asked after the inputs
 abbrev pub later_checks : Plan → List (List ℕ) → List Check
 later_checks plan contents = machine_checks plan.command (rule_labels plan) plan.options (choices_of plan.options contents) (own_contents plan.options contents)
 

@@ -14,8 +14,11 @@ use Rattle.fst_command.specs.Steps.{Declines, Reads}
 
 -- A codex of another arc type than the machine is refused: by the first fault of its form, or else by its arc type.
 abbrev pub DeclinesCodex : ArcType → List ℕ → List ℕ → Refusal → Type 0
-DeclinesCodex kind name codex refusal = (file : List ℕ) (m : Machine Cost) → machine_of_file file ≡ Ok (record { kind = kind; machine = m }) → Declines (codex_check name codex ∷ codex_kind_check file codex ∷ decode_check file codex ∷ []) refusal
+DeclinesCodex kind name codex refusal =
+    (file : List ℕ) (m : Machine Cost) → machine_of_file file ≡ Ok (record { kind = kind; machine = m }) →
+    Declines (codex_check name codex ∷ codex_kind_check file codex ∷ decode_check file codex ∷ []) refusal
 
 -- preparing the output where the files of the options and then the machine were read
 abbrev pub PreparesDecoding : Plan → List ℕ → List ℕ → Seen → Seen → Result (List ℕ) Refusal → Type 0
-PreparesDecoding plan name content now new result = (old mid : Seen) (files : OptionFiles) → OptionsRead plan files old mid → Reads name mid now (Ok content) → Prepares plan old new result
+PreparesDecoding plan name content now new result =
+    (old mid : Seen) (files : OptionFiles) → OptionsRead plan files old mid → Reads name mid now (Ok content) → Prepares plan old new result

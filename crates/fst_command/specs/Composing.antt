@@ -6,11 +6,10 @@ use Rattle.fst_machine.specs.Connected.{IsConnected}
 use Rattle.fst_machine.specs.Graph.{graph_of}
 use Rattle.fst_machine.specs.Machine.{Machine}
 use Rattle.fst_rational.specs.Relations.{Triple}
-use Rattle.fst_compose.specs.Answers.{IsNamed}
 use Rattle.fst_compose.specs.Composition.{composed}
 use Rattle.fst_compose.specs.Names.{Name}
-use Rattle.fst_compose.specs.Theorem.{IsComposition, Relates}
-use Rattle.fst_compose.specs.Trimmed.{IsConnectedComposition}
+use Rattle.fst_compose.specs.Theorem.{IsComposition, IsConnectedComposition, Relates}
+use Rattle.fst_walk.specs.Answers.{IsNamed}
 use Rattle.fst_words.specs.declared.options.Options.{Options}
 use Rattle.fst_command.specs.Plans.{connects}
 

@@ -10,10 +10,10 @@ use Rattle.fst_rational.specs.Labels.{Pair}
 use Rattle.fst_rational.specs.Pairs.{pairs_of_text}
 use Rattle.fst_text.specs.Options as text
 use Rattle.fst_binary.specs.Reading.{arc_type_of_bytes, machine_of_bytes}
-use Rattle.fst_binary.specs.declared.fault.BinaryFault.{BinaryFault}
+use Rattle.fst_binary.specs.Reading.{BinaryFault}
 use Rattle.fst_codex.specs.Reading.{codex_arc_type_of_bytes, codex_of_bytes}
 use Rattle.fst_codex.specs.Table.{Table}
-use Rattle.fst_codex.specs.declared.fault.CodexFault.{CodexFault}
+use Rattle.fst_codex.specs.Reading.{CodexFault}
 use Rattle.fst_replace.specs.Rules.{Labelled}
 use Rattle.fst_words.specs.declared.options.Options.{Options}
 
@@ -40,13 +40,13 @@ table_of content = option_map Some (ok_of (table_of_text content))
 abbrev pub pairs_of : List ℕ → Option (List Pair)
 pairs_of content = ok_of (pairs_of_text content)
 
--- the contents behind that of an option
+-- the contents after that of an option
 abbrev pub behind : Option (List ℕ) → List (List ℕ) → List (List ℕ)
 behind None contents = contents
 behind (Some name) [] = []
 behind (Some name) (content ∷ contents) = contents
 
--- the contents behind those of the symbol tables, and behind those of all options
+-- the contents after those of the symbol tables, and after those of all options
 abbrev pub behind_tables : Options → List (List ℕ) → List (List ℕ)
 behind_tables o contents = behind o.osymbols (behind o.isymbols contents)
 

@@ -3,7 +3,7 @@
 use Rattle.std.specs.Prelude.{ℕ, List, [], ◌∷◌, Option, Some, None, Bool, if◌then◌else◌, codes}
 use Rattle.std.specs.Fmt.{decimal}
 use Rattle.std.specs.List.{concat}
-use Rattle.fst_binary.specs.Spelling.{name_of}
+use Rattle.fst_semiring.specs.Names.{name_of}
 use Rattle.fst_trim.specs.declared.summary.Info.{Info}
 
 -- a line: what it is of, a tab, and the value

@@ -103,7 +103,8 @@ HaveSameTriples kind m made = (x y : List ℕ) (w : Cost) → Triple kind m x y 
 
 -- the successful paths are those of the machine, each in its states by their new numbers, and so are the triples
 abbrev pub KeepsConnected : ArcType → Machine Cost → Machine Cost → Type 0
-KeepsConnected kind m made = ((h : IsConnected m made) → SamePaths kind (λ p i. slice_get h.kept i ≡ Some p) (graph_of m) (graph_of made)) × HaveSameTriples kind m made
+KeepsConnected kind m made =
+    ((h : IsConnected m made) → SamePaths kind (λ p i. slice_get h.kept i ≡ Some p) (graph_of m) (graph_of made)) × HaveSameTriples kind m made
 
 -- the successful paths are those of the machine up to the places of arcs, and so are the triples
 abbrev pub KeepsSorted : ArcType → Machine Cost → Machine Cost → Type 0
@@ -122,7 +123,7 @@ Denotes Union options renaming kind (a ∷ b ∷ []) made = Unites kind a b made
 Denotes Concat options renaming kind (a ∷ b ∷ []) made = Concatenates kind a b made
 Denotes _ options renaming kind machines made = ⊥
 
--- what was made is refused for its size by the limits of this machine, or for want of memory alone
+-- what was made is refused for its size by the limits of this machine, or only because memory ran out
 abbrev pub IsLimitedBy : {X : Type 0} → Option (Machine Cost) → Result X RationalFault → Type 0
 IsLimitedBy None (Ok x) = Unit {0}
 IsLimitedBy None (Err fault) = fault ≡ faults.Memory

@@ -1,6 +1,6 @@
 -- The outcome of a run: what it answers, what then stands, and what it shows. No command is named here.
-use Rattle.std.specs.Prelude.{◌≡◌, ◌⊎◌, ℕ, ◌<◌, List, [], ◌∷◌, ◌++◌, Option, Some, None, IfSome}
-use Rattle.fst_desk.specs.Seen.{Files, Filed, Showing, Seen, Rises}
+use Rattle.std.specs.Prelude.{◌≡◌, ◌⊎◌, ℕ, zero, suc, ◌<◌, ◌≤◌, List, [], ◌∷◌, ◌++◌, length, Option, Some, None, IfSome}
+use Rattle.fst_desk.specs.Seen.{Files, Filed, Showing, Seen, Rises, raised}
 use Rattle.fst_desk.specs.Desk.{content_of, ToldHolds, ToldAppends}
 use Rattle.fst_words.specs.declared.plan.Plan.{Plan}
 use Rattle.fst_command.specs.Plans.{Input, inputs_of, plan_of}
@@ -48,7 +48,24 @@ TakesMore (undecodable fault) taken = Unit {0}
 TakesMore (uncomposed fault) taken = Unit {0}
 TakesMore (unprintable fault) taken = Unit {0}
 
--- a read fault: the name is that of an input, it alone was missed, and no input before it has a cause
+-- a count of 64 bits after that many calls more
+abbrev pub raised_by : ℕ → ℕ → ℕ
+raised_by zero count = count
+raised_by (suc n) count = raised (raised_by n count)
+
+-- this many fetches and this many stores were made
+pub record Calls (fetched stored : ℕ) (old new : Filed) : Type 0 where
+  pub fetches : new.fetches ≡ raised_by fetched old.fetches
+  pub stores : new.stores ≡ raised_by stored old.stores
+
+-- at most one fetch for each input was made, and no store
+pub record OnlyFetches (plan : Plan) (old new : Filed) : Type 0 where
+  pub fetched : ℕ
+  pub few : fetched ≤ length (inputs_of plan)
+  pub calls : Calls fetched 0 old new
+
+-- a read fault: the name is that of an input, it alone was missed, and no input before it has a cause; there
+-- was one fetch for each input as far as this one
 pub record IsUnread (plan : Plan) (old new : Filed) (name : List ℕ) : Type 0 where
   pub missed : new.missed ≡ old.missed ++ name ∷ []
   pub before : List Input
@@ -59,9 +76,10 @@ pub record IsUnread (plan : Plan) (old new : Filed) (name : List ℕ) : Type 0 w
   pub contents : List (List ℕ)
   pub agrees : Agrees old.told before contents
   pub passes : AllPass (input_checks plan [] before contents)
+  pub calls : Calls (suc (length before)) 0 old new
 
 -- a write fault: the outcome is Ok, the name is that of an output, the outputs before it stand whole, and
--- of it a prefix; the count of write faults rose
+-- of it a prefix; the count of write faults rose, and there was one store for each output as far as this one
 pub record IsUnwritten (plan : Plan) (old new : Filed) (name : List ℕ) : Type 0 where
   pub rises : Rises old.write_faults new.write_faults
   pub before : List Output
@@ -70,9 +88,10 @@ pub record IsUnwritten (plan : Plan) (old new : Filed) (name : List ℕ) : Type 
   pub after : List Output
   pub prescribes : Prescribes plan old.told (before ++ (name, front ++ rest) ∷ after)
   pub leaves : Leaves (before ++ (name, front) ∷ []) old.told new.told
+  pub calls : Calls (length (inputs_of plan)) (suc (length before)) old new
 
--- want of memory in the store of a later output: the outcome is Ok, the outputs before it stand whole; the
--- count of stores without memory rose
+-- out of memory in the store of an output: the outcome is Ok, the outputs before it stand whole; the count of
+-- stores without memory rose, and there was one store for each output as far as this one
 pub record IsStarved (plan : Plan) (old new : Filed) : Type 0 where
   pub rises : Rises old.starved new.starved
   pub before : List Output
@@ -80,6 +99,7 @@ pub record IsStarved (plan : Plan) (old new : Filed) : Type 0 where
   pub after : List Output
   pub prescribes : Prescribes plan old.told (before ++ output ∷ after)
   pub leaves : Leaves before old.told new.told
+  pub calls : Calls (length (inputs_of plan)) (suc (length before)) old new
 
 -- what each answer says of the words, the contents and the files, by the plan of the words
 abbrev pub Answers : Option Plan → Filed → Filed → Answer → Type 0
@@ -89,19 +109,28 @@ Answers None old new (refused cause) = ⊥
 Answers None old new no_memory = new ≡ old
 Answers None old new (unread name) = ⊥
 Answers None old new (unwritten name) = ⊥
-Answers (Some plan) old new done = (outputs : List Output) × Prescribes plan old.told outputs × Leaves outputs old.told new.told
+Answers (Some plan) old new done =
+    (outputs : List Output) × Prescribes plan old.told outputs × Leaves outputs old.told new.told × Calls (length (inputs_of plan)) (length outputs) old new
 Answers (Some plan) old new usage = ⊥
-Answers (Some plan) old new (refused cause) = Refuses plan old.told cause × TakesMore cause new.taken × (new.told ≡ old.told)
-Answers (Some plan) old new no_memory = (new.told ≡ old.told) ⊎ IsStarved plan old new
+Answers (Some plan) old new (refused cause) = Refuses plan old.told cause × TakesMore cause new.taken × (new.told ≡ old.told) × OnlyFetches plan old new
+Answers (Some plan) old new no_memory = ((new.told ≡ old.told) × OnlyFetches plan old new) ⊎ IsStarved plan old new
 Answers (Some plan) old new (unread name) = IsUnread plan old new name × (new.told ≡ old.told)
 Answers (Some plan) old new (unwritten name) = IsUnwritten plan old new name
 
--- the line was shown, or a prefix of it, where a count of the shows rose
+-- a prefix of the line was shown, and a count of the shows rose
+pub record ShowsFront (line : List ℕ) (old new : Showing) : Type 0 where
+  pub rises : Rises old.show_faults new.show_faults ⊎ Rises old.show_starved new.show_starved
+  pub front : List ℕ
+  pub rest : List ℕ
+  pub splits : line ≡ front ++ rest
+  pub shown : ToldAppends front old.shown new.shown
+
+-- one show, in which the line was shown, or a prefix of it; without a line there was no show
 abbrev pub ShowsLine : Option (List ℕ) → Showing → Showing → Type 0
 ShowsLine None old new = new ≡ old
-ShowsLine (Some line) old new = ToldAppends line old.shown new.shown ⊎ ((Rises old.show_faults new.show_faults ⊎ Rises old.show_starved new.show_starved) × (front : List ℕ) × (rest : List ℕ) × (line ≡ front ++ rest) × ToldAppends front old.shown new.shown)
+ShowsLine (Some line) old new = (new.shows ≡ raised old.shows) × (ToldAppends line old.shown new.shown ⊎ ShowsFront line old new)
 
--- A run of the words: its answer, with the status and the line of that answer.
+-- A run of the words: its answer, with the status and the line of that answer, and the calls of the desk.
 pub record Runs (words : List (List ℕ)) (old new : Seen) (status : ℕ) : Type 0 where
   pub answer : Answer
   pub status_is : status ≡ status_of answer
@@ -109,7 +138,7 @@ pub record Runs (words : List (List ℕ)) (old new : Seen) (status : ℕ) : Type
   pub shows : ShowsLine (line_of answer) old.showing new.showing
 
 -- Words of the stated form, contents that are told and of which no question finds a cause, and a run in
--- which no name was missed and no write failed: the status is that of Ok, or of want of memory.
+-- which no name was missed and no write failed: the status is that of Ok, or of out of memory.
 abbrev pub Completes : List (List ℕ) → Seen → Seen → ℕ → Type 0
 Completes words old new status =
     (plan : Plan) (files : Files) (contents : List (List ℕ)) → plan_of words ≡ Some plan → old.filed.told ≡ Some files →

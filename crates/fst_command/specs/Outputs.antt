@@ -140,7 +140,8 @@ MakesBy Compose labels options choices renaming contents made = Composed options
 MakesBy _ labels options choices renaming contents made = ⊥
 
 abbrev pub Makes : Plan → List (List ℕ) → List (List ℕ) → Type 0
-Makes plan contents = MakesBy plan.command (rule_labels plan) plan.options (choices_of plan.options contents) (renaming_of plan.options contents) (own_contents plan.options contents)
+Makes plan contents =
+    MakesBy plan.command (rule_labels plan) plan.options (choices_of plan.options contents) (renaming_of plan.options contents) (own_contents plan.options contents)
 
 -- the outputs of these names have these bytes, in order
 abbrev pub AreNamed : List (List ℕ) → List (List ℕ) → List Output → Type 0

@@ -76,7 +76,7 @@ pub record Input : Type 0 where
 abbrev pub inputs_with : Form → List (List ℕ) → List Input
 inputs_with form names = map (λ name. record { name = name; form = form }) names
 
--- the form of the inputs that the words name behind the command
+-- the form of the inputs that the words name after the command
 abbrev pub own_form : Verb → Form
 own_form Compile = text_form
 own_form _ = binary_form
@@ -86,7 +86,7 @@ abbrev pub inputs_for : Verb → List (List ℕ) → List Input
 inputs_for Encode (machine ∷ codexes) = record { name = machine; form = binary_form } ∷ inputs_with codex_form codexes
 inputs_for verb names = inputs_with (own_form verb) names
 
--- the inputs that the words name behind the command
+-- the inputs that the words name after the command
 abbrev pub own_inputs : Plan → List Input
 own_inputs plan = inputs_for plan.command (input_files plan)
 
@@ -96,7 +96,9 @@ option_input form name = inputs_with form (option_to_list name)
 
 -- the files of the options, in the order in which they are read
 abbrev pub option_inputs : Options → List Input
-option_inputs o = option_input symbols_form o.isymbols ++ (option_input symbols_form o.osymbols ++ (option_input pairs_form o.relabel_ipairs ++ option_input pairs_form o.relabel_opairs))
+option_inputs o =
+    option_input symbols_form o.isymbols ++ (option_input symbols_form o.osymbols ++ (option_input pairs_form o.relabel_ipairs +
+    option_input pairs_form o.relabel_opairs))
 
 -- the inputs of a command, in the order in which they are read: the files of the options come first
 abbrev pub inputs_of : Plan → List Input

@@ -1,5 +1,5 @@
 -- How far a command has come: the files of the options are read, and the bytes of the output are there.
-use Rattle.std.specs.Prelude.{◌≡◌, ℕ, List, [], ◌∷◌, ◌++◌, Option, Some, Result, Ok, Err}
+use Rattle.std.specs.Prelude.{◌≡◌, ℕ, List, [], ◌∷◌, ◌++◌, length, Option, Some, Result, Ok, Err}
 use Rattle.fst_desk.specs.Seen.{Seen}
 use Rattle.fst_symbols.specs.Symbols.{Symbol}
 use Rattle.fst_words.specs.declared.options.Options.{Options}
@@ -10,11 +10,11 @@ use Rattle.fst_command.specs.Plans.{Input, inputs_of, option_inputs}
 use Rattle.fst_command.specs.Contents.{Choices, Renaming, choices_of, own_contents, renaming_of}
 use Rattle.fst_command.specs.Checks.{AllPass, input_checks, later_checks}
 use Rattle.fst_command.specs.Outputs.{Makes}
-use Rattle.fst_command.specs.Outcome.{Agrees}
+use Rattle.fst_command.specs.Outcome.{Agrees, Calls}
 use Rattle.fst_command.specs.Steps.{Works}
 
--- The inputs in front are read: they have these contents, no question finds a cause in them, and nothing
--- else has changed.
+-- The inputs in front are read, each by one fetch: they have these contents, no question finds a cause in them,
+-- and nothing else has changed.
 pub record Progress (plan : Plan) (front : List Input) (contents : List (List ℕ)) (old now : Seen) : Type 0 where
   pub agrees : Agrees old.filed.told front contents
   pub passes : AllPass (input_checks plan [] front contents)
@@ -22,6 +22,7 @@ pub record Progress (plan : Plan) (front : List Input) (contents : List (List �
   pub write_faults : now.filed.write_faults ≡ old.filed.write_faults
   pub missed : now.filed.missed ≡ old.filed.missed
   pub starved : now.filed.starved ≡ old.filed.starved
+  pub calls : Calls (length front) 0 old.filed now.filed
   pub showing : now.showing ≡ old.showing
 
 -- how texts are read and printed, by the options and these tables
@@ -38,7 +39,7 @@ choices_with o isymbols osymbols = record {
 abbrev pub renaming_in : OptionFiles → Renaming
 renaming_in files = record { input = files.input_pairs; output = files.output_pairs }
 
--- what these contents of the files of the options stand for, whatever is read behind them
+-- what these contents of the files of the options stand for, whatever is read after them
 pub record Chosen (options : Options) (contents : List (List ℕ)) (files : OptionFiles) : Type 0 where
   pub choices : (rest : List (List ℕ)) → choices_of options (contents ++ rest) ≡ choices_with options files.isymbols files.osymbols
   pub renaming : (rest : List (List ℕ)) → renaming_of options (contents ++ rest) ≡ renaming_in files

@@ -31,7 +31,7 @@ abbrev pub AreOf : ArcType → List (List ℕ) → List (Machine Cost) → Optio
 AreOf kind files machines None = AreMachines kind files machines
 AreOf kind files machines (Some other) = KindsDiffer files (kinds_differ kind other)
 
--- one file more has the arc type, and its machine stands behind the others
+-- one file more has the arc type, and its machine stands after the others
 pub record IsAddedAlike (kind : ArcType) (content : List ℕ) (old new : List (Machine Cost)) (was is : Option ArcType) : Type 0 where
   pub machine : Machine Cost
   pub reads : machine_of_file content ≡ Ok (record { kind = kind; machine = machine })
@@ -50,8 +50,9 @@ abbrev pub AddAnswer : ArcType → List ℕ → List ℕ → List (Machine Cost)
 AddAnswer kind name content old new was is (Ok _) = IsAddedAlike kind content old new was is ⊎ IsAddedOther kind content was is
 AddAnswer kind name content old new was is (Err refusal) = Declines (binary_check name content ∷ []) refusal
 
--- So many of the command's own files are read.
-pub record SeveralRead (plan : Plan) (files : OptionFiles) (kind : ArcType) (count : ℕ) (machines : List (Machine Cost)) (other : Option ArcType) (old now : Seen) : Type 0 where
+-- This many of the command's own files are read.
+pub record SeveralRead (plan : Plan) (files : OptionFiles) (kind : ArcType) (count : ℕ) (machines : List (Machine Cost)) (other : Option ArcType)
+    (old now : Seen) : Type 0 where
   pub options : List (List ℕ)
   pub own : List (List ℕ)
   pub chosen : Chosen plan.options options files
@@ -66,4 +67,5 @@ OthersAnswer plan files kind machines other old new (Err refusal) = Works (Some 
 
 -- preparing the output where the files of the options and then the first own file were read
 abbrev pub PreparesSeveral : Plan → List ℕ → List ℕ → Seen → Seen → Result (List ℕ) Refusal → Type 0
-PreparesSeveral plan name content now new result = (old mid : Seen) (files : OptionFiles) → OptionsRead plan files old mid → Reads name mid now (Ok content) → Prepares plan old new result
+PreparesSeveral plan name content now new result =
+    (old mid : Seen) (files : OptionFiles) → OptionsRead plan files old mid → Reads name mid now (Ok content) → Prepares plan old new result

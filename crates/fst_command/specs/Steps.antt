@@ -1,6 +1,6 @@
 -- What the steps of a command promise: reading an input, writing an output, and the whole command.
 use Rattle.std.specs.Prelude.{◌≡◌, Bool, ◌⊎◌, ℕ, ◌<◌, ◌≤◌, List, [], ◌∷◌, ◌++◌, length, Option, Some, None, IfSome, Result, Ok, Err}
-use Rattle.fst_desk.specs.Seen.{Filed, Seen, Rises}
+use Rattle.fst_desk.specs.Seen.{Filed, Seen, Rises, raised}
 use Rattle.fst_desk.specs.Desk.{content_of, ToldHolds}
 use Rattle.fst_semiring.specs.declared.arc_type.ArcType.{ArcType}
 use Rattle.fst_semiring.specs.Cost.{Cost}
@@ -43,13 +43,20 @@ abbrev pub ReadAnswer : List ℕ → Filed → Filed → Result (List ℕ) Refus
 ReadAnswer name old new (Ok content) = ReadsWhole name old new content
 ReadAnswer name old new (Err refusal) = Tells no_memory refusal ⊎ (NotRead name old new refusal ⊎ ReadsTooLong name old new refusal)
 
--- reading the input of that name: no file changes, no count of stores rises, and nothing is shown
+-- reading the input of that name: one fetch, no store and no show; no file changes
 pub record Reads (name : List ℕ) (old new : Seen) (result : Result (List ℕ) Refusal) : Type 0 where
   pub told : new.filed.told ≡ old.filed.told
   pub write_faults : new.filed.write_faults ≡ old.filed.write_faults
   pub starved : new.filed.starved ≡ old.filed.starved
+  pub fetches : new.filed.fetches ≡ raised old.filed.fetches
+  pub stores : new.filed.stores ≡ old.filed.stores
   pub showing : new.showing ≡ old.showing
   pub answer : ReadAnswer name old.filed new.filed result
+
+-- one store, and no fetch
+pub record StoresOnce (old new : Filed) : Type 0 where
+  pub fetches : new.fetches ≡ old.fetches
+  pub stores : new.stores ≡ raised old.stores
 
 -- an output that could not be written
 pub record NotWritten (name bytes : List ℕ) (old new : Filed) (refusal : Refusal) : Type 0 where
@@ -59,31 +66,30 @@ pub record NotWritten (name bytes : List ℕ) (old new : Filed) (refusal : Refus
   pub rest : List ℕ
   pub splits : bytes ≡ front ++ rest
   pub told : ToldHolds name front old.told new.told
+  pub once : StoresOnce old new
 
--- an output for which there was no memory
+-- there was no memory for the line of a write fault, and the desk was not called
 pub record NoRoom (old new : Filed) (refusal : Refusal) : Type 0 where
   pub tells : Tells no_memory refusal
-  pub told : new.told ≡ old.told
+  pub same : new ≡ old
 
--- what each answer of writing an output says
-abbrev pub WriteAnswer : List ℕ → List ℕ → Filed → Filed → Result Unit Refusal → Type 0
-WriteAnswer name bytes old new (Ok _) = ToldHolds name bytes old.told new.told
-WriteAnswer name bytes old new (Err refusal) = NoRoom old new refusal ⊎ NotWritten name bytes old new refusal
-
--- writing the output of that name: nothing is shown
-pub record WritesOutput (name bytes : List ℕ) (old new : Seen) (result : Result Unit Refusal) : Type 0 where
-  pub showing : new.showing ≡ old.showing
-  pub answer : WriteAnswer name bytes old.filed new.filed result
+-- an output that was written whole
+pub record WrittenWhole (name bytes : List ℕ) (old new : Filed) : Type 0 where
+  pub told : ToldHolds name bytes old.told new.told
+  pub write_faults : new.write_faults ≡ old.write_faults
+  pub starved : new.starved ≡ old.starved
+  pub once : StoresOnce old new
 
 -- a store that found no memory
 pub record Starves (old new : Filed) (refusal : Refusal) : Type 0 where
   pub tells : Tells no_memory refusal
   pub rises : Rises old.starved new.starved
   pub told : new.told ≡ old.told
+  pub once : StoresOnce old new
 
 -- what each answer of a store says of an output
 abbrev pub StoreAnswer : List ℕ → List ℕ → Filed → Filed → Result Unit Refusal → Type 0
-StoreAnswer name bytes old new (Ok _) = ToldHolds name bytes old.told new.told × (new.write_faults ≡ old.write_faults) × (new.starved ≡ old.starved)
+StoreAnswer name bytes old new (Ok _) = WrittenWhole name bytes old new
 StoreAnswer name bytes old new (Err refusal) = Starves old new refusal ⊎ NotWritten name bytes old new refusal
 
 -- storing the output of that name: nothing is shown
@@ -91,18 +97,29 @@ pub record StoresOutput (name bytes : List ℕ) (old new : Seen) (result : Resul
   pub showing : new.showing ≡ old.showing
   pub answer : StoreAnswer name bytes old.filed new.filed result
 
+-- what each answer of writing an output says
+abbrev pub WriteAnswer : List ℕ → List ℕ → Filed → Filed → Result Unit Refusal → Type 0
+WriteAnswer name bytes old new (Ok _) = WrittenWhole name bytes old new
+WriteAnswer name bytes old new (Err refusal) = NoRoom old new refusal ⊎ (Starves old new refusal ⊎ NotWritten name bytes old new refusal)
+
+-- writing the output of that name: nothing is shown
+pub record WritesOutput (name bytes : List ℕ) (old new : Seen) (result : Result Unit Refusal) : Type 0 where
+  pub showing : new.showing ≡ old.showing
+  pub answer : WriteAnswer name bytes old.filed new.filed result
+
 -- the first of two outputs stands whole, and the second does not
 pub record StopsBehind (name bytes other more : List ℕ) (old new : Filed) (refusal : Refusal) : Type 0 where
   pub mid : Filed
-  pub stands : StoreAnswer name bytes old mid (Ok tt)
-  pub stops : StoreAnswer other more mid new (Err refusal)
+  pub stands : WrittenWhole name bytes old mid
+  pub stops : Starves mid new refusal ⊎ NotWritten other more mid new refusal
 
 -- what each answer of writing two outputs says
 abbrev pub BothAnswer : List ℕ → List ℕ → List ℕ → List ℕ → Filed → Filed → Result Unit Refusal → Type 0
-BothAnswer name bytes other more old new (Ok _) = (mid : Filed) × StoreAnswer name bytes old mid (Ok tt) × StoreAnswer other more mid new (Ok tt)
-BothAnswer name bytes other more old new (Err refusal) = NoRoom old new refusal ⊎ (NotWritten name bytes old new refusal ⊎ StopsBehind name bytes other more old new refusal)
+BothAnswer name bytes other more old new (Ok _) = (mid : Filed) × WrittenWhole name bytes old mid × WrittenWhole other more mid new
+BothAnswer name bytes other more old new (Err refusal) =
+    NoRoom old new refusal ⊎ ((Starves old new refusal ⊎ NotWritten name bytes old new refusal) ⊎ StopsBehind name bytes other more old new refusal)
 
--- writing two outputs, one behind the other: nothing is shown
+-- writing two outputs, one after the other: nothing is shown
 pub record WritesBoth (name bytes other more : List ℕ) (old new : Seen) (result : Result Unit Refusal) : Type 0 where
   pub showing : new.showing ≡ old.showing
   pub answer : BothAnswer name bytes other more old.filed new.filed result
@@ -122,14 +139,15 @@ IsOfForm (undecodable fault) = Unit {0}
 IsOfForm (uncomposed fault) = Unit {0}
 IsOfForm (unprintable fault) = Unit {0}
 
--- the refusal tells want of memory, or the first cause that the questions find
+-- the refusal tells out of memory, or the first cause that the questions find
 abbrev pub Declines : List Check → Refusal → Type 0
 Declines checks refusal = Tells no_memory refusal ⊎ ((cause : Cause) × IsFirst checks cause × IsOfForm cause × Tells (refused cause) refusal)
 
 -- what the file of an option stands for, or why nothing
 abbrev pub FileAnswer : {X : Type 0} → (List ℕ → List ℕ → Check) → (List ℕ → Option X) → List ℕ → Seen → Seen → Result X Refusal → Type 0
 FileAnswer check read name old new (Ok x) = (content : List ℕ) × Reads name old new (Ok content) × (read content ≡ Some x)
-FileAnswer check read name old new (Err refusal) = Reads name old new (Err refusal) ⊎ ((content : List ℕ) × Reads name old new (Ok content) × Declines (check name content ∷ []) refusal)
+FileAnswer check read name old new (Err refusal) =
+    Reads name old new (Err refusal) ⊎ ((content : List ℕ) × Reads name old new (Ok content) × Declines (check name content ∷ []) refusal)
 
 -- reading the file of an option: without the option this value stands in its place, and nothing is done
 abbrev pub ReadsOption : {X : Type 0} → (List ℕ → List ℕ → Check) → (List ℕ → Option X) → X → Option (List ℕ) → Seen → Seen → Result X Refusal → Type 0
@@ -146,18 +164,20 @@ Settles checks makes (Err refusal) = Declines checks refusal
 -- What a command makes of the content of its last input, where these contents were read before, for its one
 -- output.
 abbrev pub Decides : Plan → List (List ℕ) → Input → List ℕ → Result (List ℕ) Refusal → Type 0
-Decides plan before i content result = Settles (form_check plan before i content ∷ later_checks plan (before ++ content ∷ [])) (Makes plan (before ++ content ∷ [])) result
+Decides plan before i content result =
+    Settles (form_check plan before i content ∷ later_checks plan (before ++ content ∷ [])) (Makes plan (before ++ content ∷ [])) result
 
 -- the same for all its outputs
 abbrev pub DecidesOn : Plan → List (List ℕ) → Input → List ℕ → List (List ℕ) → Type 0
-DecidesOn plan before i content made = AllPass (form_check plan before i content ∷ later_checks plan (before ++ content ∷ [])) × Makes plan (before ++ content ∷ []) made
+DecidesOn plan before i content made =
+    AllPass (form_check plan before i content ∷ later_checks plan (before ++ content ∷ [])) × Makes plan (before ++ content ∷ []) made
 
 -- the answer of a command that ended so
 abbrev pub Ends : Answer → Result Unit Refusal → Type 0
 Ends answer (Ok _) = answer ≡ done
 Ends answer (Err refusal) = Tells answer refusal
 
--- a command that was wanted by its words: its answer, with nothing shown
+-- a command that was wanted by its words: its answer, with no show
 pub record Works (plan : Option Plan) (old new : Seen) (result : Result Unit Refusal) : Type 0 where
   pub answer : Answer
   pub ends : Ends answer result
@@ -180,7 +200,8 @@ DescribesTo name content result = Settles (binary_check name content ∷ kinds_c
 
 -- the binary form of the machine that is made of the machine of a file, or why there is none
 abbrev pub OperatesTo : Verb → Options → Renaming → List ℕ → List ℕ → Result (List ℕ) Refusal → Type 0
-OperatesTo verb options renaming name content result = Settles (binary_check name content ∷ operation_checks verb options (content ∷ [])) (Operated verb options renaming (content ∷ [])) result
+OperatesTo verb options renaming name content result =
+    Settles (binary_check name content ∷ operation_checks verb options (content ∷ [])) (Operated verb options renaming (content ∷ [])) result
 
 -- that of the machine that is made of the machines of two files, which were read
 abbrev pub JoinsTo : Verb → Options → Renaming → List (List ℕ) → Result (List ℕ) Refusal → Type 0
@@ -224,4 +245,5 @@ EncodesTo weights name content (Err refusal) = Declines (binary_check name conte
 -- the binary form of the machine that the machine of a file and the codex of a second file, which has this name,
 -- stand for, or why there is none
 abbrev pub DecodesTo : List ℕ → List ℕ → List ℕ → Result (List ℕ) Refusal → Type 0
-DecodesTo file name codex result = Settles (codex_check name codex ∷ codex_kind_check file codex ∷ decode_check file codex ∷ []) (Decoded (file ∷ codex ∷ [])) result
+DecodesTo file name codex result =
+    Settles (codex_check name codex ∷ codex_kind_check file codex ∷ decode_check file codex ∷ []) (Decoded (file ∷ codex ∷ [])) result

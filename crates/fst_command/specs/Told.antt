@@ -22,13 +22,13 @@ pub record Tells (answer : Answer) (refusal : Refusal) : Type 0 where
   pub status : told_status refusal ≡ status_of answer
   pub line : Some (told_line refusal) ≡ line_of answer
 
--- a refusal that was to tell the answer, and is want of memory where there was none for the line
+-- a refusal that was to tell the answer, and is out of memory where there was none for the line
 abbrev pub IsMade : Answer → Refusal → Type 0
 IsMade answer refusals.Memory = Unit {0}
 IsMade answer refusals.Usage = Tells answer refusals.Usage
 IsMade answer (refusals.Told status line) = Tells answer (refusals.Told status line)
 
--- the refusal of a status with a line, want of memory where the line could not be made
+-- the refusal of a status with a line, out of memory where the line could not be made
 abbrev pub MakesLine : {E : Type 0} → ℕ → Result (String Global) E → Refusal → Type 0
 MakesLine status (Ok line) refusal = (told_status refusal ≡ status) × (told_line refusal ≡ string_bytes line) × (refusal ≡ refusals.Told status line)
 MakesLine status (Err e) refusal = refusal ≡ refusals.Memory

@@ -66,7 +66,7 @@ fn result_of<W: Weight>(
     }
 }
 
-/// The bytes of the composition of two machines, which are given up before the bytes are made.
+/// The bytes of the composition of two machines, which are freed before the bytes are made.
 pub fn composed<W: Weight>(
     alloc: Global,
     options: &Options,

@@ -55,7 +55,7 @@ fn codex_refusal(
     }
 }
 
-/// The bytes of the machine that a machine and a codex of its arc type stand for. Both are given up before the
+/// The bytes of the machine that a machine and a codex of its arc type stand for. Both are freed before the
 /// bytes are made.
 fn decoded_alike<W: Weight>(
     alloc: Global,
@@ -104,7 +104,7 @@ fn decoded_with<W: Weight>(
     }
 }
 
-/// Reads the machine of a file, whose arc type is that of the weights, and behind it the codex. The file is given up
+/// Reads the machine of a file, whose arc type is that of the weights, and after it the codex. The file is freed
 /// before the codex is read.
 fn decoded_as<W: Weight, D: Desk>(
     alloc: Global,
@@ -133,7 +133,7 @@ fn decoded_as<W: Weight, D: Desk>(
     decoded_with(alloc, machine, other, codex)
 }
 
-/// The bytes of the machine that the machine of a file and a codex, which is read behind it, stand for.
+/// The bytes of the machine that the machine of a file and a codex, which is read after it, stand for.
 pub fn decoded<D: Desk>(
     alloc: Global,
     desk: &mut D,

@@ -2,10 +2,9 @@
 
 ghost use Rattle.std.specs.Prelude.{◌≡◌, ◌++◌, IfOk, OnOk, codes, string_bytes};
 ghost use Rattle.std.specs.Fmt.{decimal};
-ghost use Rattle.fst_binary.specs.Spelling.{name_of};
+ghost use Rattle.fst_semiring.specs.Names.{name_of};
 ghost use Rattle.fst_command.specs.Descriptions.{answer_text, info_line, info_text, start_text};
 
-use crate::kinds::kind_name;
 use fst_semiring::ArcType;
 use fst_trim::Info;
 use std::alloc::{AllocError, Global};
@@ -28,7 +27,7 @@ fn add_line(text: &mut String, name: &str, value: &str) -> Result<(), AllocError
 fn add_type(text: &mut String, kind: ArcType) -> Result<(), AllocError>
     ensures { OnOk result (string_bytes text.new ≡ string_bytes text.old ++ info_line (codes "arc type") (name_of kind)) }
 {
-    add_line(text, "arc type", kind_name(kind))
+    add_line(text, "arc type", kind.name())
 }
 
 /// Appends the line of a count.

@@ -21,7 +21,7 @@ pub struct Coded {
     pub machine: Vec<u8>,
 }
 
-/// The codex and the machine for the machine of a file, whose arc type is that of its weights. Each is given up
+/// The codex and the machine for the machine of a file, whose arc type is that of its weights. Each is freed
 /// when the next is made.
 fn encoded_as<W: Weight>(
     alloc: Global,

@@ -58,7 +58,7 @@ pub fn write_output<D: Desk>(
     store_output(desk, name, bytes, refusal)
 }
 
-/// Writes two outputs, one behind the other. The lines of both write faults are made before the first byte is
+/// Writes two outputs, one after the other. The lines of both write faults are made before the first byte is
 /// written. Where the second output is not written, the first stands whole.
 pub fn write_both<D: Desk>(
     alloc: Global,

@@ -43,7 +43,7 @@ fn join_of<W: Weight>(
     }
 }
 
-/// The bytes of the machine that a command makes of two machines, which are given up before the bytes are made.
+/// The bytes of the machine that a command makes of two machines, which are freed before the bytes are made.
 fn joined<W: Weight>(alloc: Global, verb: Verb, list: Vec<Fst<W>>) -> Result<Vec<u8>, Refusal>
     requires join { is_join verb ≡ true }
     requires two { length list.items ≡ 2 }
@@ -92,8 +92,8 @@ fn combined<W: Weight>(
     }
 }
 
-/// Reads the machine of a first file, whose arc type is that of the weights, and behind it the others. Each file
-/// is given up before the next is read.
+/// Reads the machine of a first file, whose arc type is that of the weights, and after it the others. Each file
+/// is freed before the next is read.
 fn prepared_as<W: Weight, D: Desk>(
     alloc: Global,
     desk: &mut D,
@@ -119,7 +119,7 @@ fn prepared_as<W: Weight, D: Desk>(
 }
 
 /// The bytes of the machine that a command makes of the machine of a first file and those of others, which are
-/// read behind it.
+/// read after it.
 pub fn prepared<D: Desk>(
     alloc: Global,
     desk: &mut D,

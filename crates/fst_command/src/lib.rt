@@ -13,7 +13,6 @@ mod encoding;
 mod files;
 mod forms;
 mod joins;
-mod kinds;
 mod machines;
 mod operations;
 mod option_files;

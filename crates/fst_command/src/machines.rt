@@ -176,7 +176,7 @@ pub fn machine_name(plan: &Plan, place: usize) -> &str
     }
 }
 
-/// Reads the other machines of a command where the first is read. Each file is given up before the next is read.
+/// Reads the other machines of a command where the first is read. Each file is freed before the next is read.
 pub fn read_others<W: Weight, D: Desk>(
     alloc: Global,
     desk: &mut D,

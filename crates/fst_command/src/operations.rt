@@ -80,7 +80,7 @@ fn result_of<W: Weight>(
 }
 
 /// The bytes of the machine that a command makes of the machine of a file, whose arc type is that of its
-/// weights. The file is given up before the machine is made, and the machine of the file before the bytes.
+/// weights. The file is freed before the machine is made, and the machine of the file before the bytes.
 fn operated_as<W: Weight>(
     alloc: Global,
     verb: Verb,

@@ -4,7 +4,6 @@ ghost use Rattle.std.specs.Prelude.{◌≡◌, ◌↔◌, IsTrue, IfOk, string_b
 ghost use Rattle.fst_command.specs.Causes.{refused, recursive, recursive_line, bad_codex, undecodable, codex_reason, no_entry_line, overflow_line, limit_line, too_long, bad_symbols, bad_pairs, bad_text, bad_binary, kinds_differ, too_large, uncomposed, unprintable, unread, unwritten, line_at, placed_line, no_symbol_line, two_labels_line, symbols_line_at, symbols_reason, pairs_line_at, pairs_reason, text_reason, binary_reason};
 ghost use Rattle.fst_command.specs.Told.{IsMade, MakesLine, told_line, told_status};
 
-use crate::kinds::kind_name;
 use fst_binary::{BinaryFault, BinaryKind};
 use fst_codex::{CodexFault, CodexKind, DecodeFault};
 use fst_compose::ComposeFault;
@@ -26,7 +25,7 @@ pub enum Refusal {
 }
 
 impl Refusal {
-    /// Whether it is want of memory.
+    /// Whether it is out of memory.
     pub fn is_memory(&self) -> bool
         ensures { IsTrue result ↔ (self.now ≡ Refusal.Memory) }
     {
@@ -56,7 +55,7 @@ impl Refusal {
     }
 }
 
-/// The refusal with a line, or want of memory where there was none for the line.
+/// The refusal with a line, or out of memory where there was none for the line.
 fn made(status: u8, line: Result<String, AllocError>) -> Refusal
     ensures { MakesLine status line result }
 {
@@ -299,8 +298,8 @@ pub fn too_large(alloc: Global, fault: RationalFault) -> Refusal
 pub fn kinds_apart(alloc: Global, kind: ArcType, other: ArcType) -> Refusal
     ensures { IsMade (refused (kinds_differ kind other)) result }
 {
-    let first = kind_name(kind);
-    let second = kind_name(other);
+    let first = kind.name();
+    let second = other.name();
     made(
         1,
         format!(in alloc; "fst: arc types differ: {first} and {second}\n"),

@@ -103,7 +103,7 @@ fn expanded<W: Weight>(alloc: Global, plan: &Plan, list: &[Fst<W>]) -> Result<Fs
     }
 }
 
-/// The bytes of the machine of the rules of a command. The machines are given up before the bytes are made.
+/// The bytes of the machine of the rules of a command. The machines are freed before the bytes are made.
 pub fn replaced<W: Weight>(
     alloc: Global,
     plan: &Plan,

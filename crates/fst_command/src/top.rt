@@ -66,11 +66,14 @@ fn finish<D: Desk>(alloc: Global, words: &[String], desk: &mut D) -> u8
     }
 }
 
-/// The top call: all that the program does. `words` are those of the command line behind the program's
+/// The top call: all that the program does. `words` are those of the command line after the program's
 /// name. It fetches, works and stores through the desk, and on a refusal shows one line.
 ///
-/// The result is the status: 0 where the outputs stand, 3 for want of memory, 4 where an input could not be
+/// The result is the status: 0 where the outputs stand, 3 out of memory, 4 where an input could not be
 /// read, 5 where an output could not be written, and 1 for every other refusal.
+///
+/// With 0 there was one fetch for each input, one store for each output and no show. Else there was at most one
+/// fetch for each input, no store but those of the outputs as far as one that failed, and one show.
 pub fn run<R: Threads + Sync, D: Desk>(rt: &R, alloc: Global, words: &[String], desk: &mut D) -> u8
     ensures runs { Runs (map (λ w. string_bytes w) words.now) (D.seen desk.old) (D.seen desk.new) result }
     ensures completes { Completes (map (λ w. string_bytes w) words.now) (D.seen desk.old) (D.seen desk.new) result }

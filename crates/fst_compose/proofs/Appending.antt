@@ -10,8 +10,7 @@ use Rattle.fst_semiring.specs.declared.arc_type.ArcType.{ArcType}
 use Rattle.fst_machine.specs.Graph.{graph_of}
 use Rattle.fst_machine.specs.Machine.{Arc, Machine, valued, valued_arc}
 use Rattle.fst_machine.proofs.Walking.{graph_arcs}
-use Rattle.fst_compose.specs.Composition.{first_arcs, second_arcs}
-use Rattle.fst_compose.specs.Making.{composition}
+use Rattle.fst_compose.specs.Composition.{composition, first_arcs, second_arcs}
 use Rattle.fst_compose.specs.Names.{Name}
 
 module _ {X Y Z : Type 0} (f : Y → List Z) (v : X → Y) (xs : List X) where
@@ -32,7 +31,3 @@ expanded kind value a b key p q firsts seconds old mid new one two left right be
     let second : (graph_of (valued value b)).arcs key.second ≡ map (valued_arc value) seconds = ap (graph_of (valued value b)).arcs (sym two) ∙ graph_arcs value b q seconds right in
     let whole : (composition kind value a b).arcs key ≡ flat_map (first_arcs kind key (map (valued_arc value) seconds)) (map (valued_arc value) firsts) ++ flat_map (second_arcs key) (map (valued_arc value) seconds) = ap₂ (λ (xs ys : List (Arc Cost ℕ)). flat_map (first_arcs kind key ys) xs ++ flat_map (second_arcs key) ys) first second in
     more ∙ (ap (λ zs. zs ++ flat_map (second_arcs key) (map (valued_arc value) seconds)) before ∙ (append_assoc old (flat_map (first_arcs kind key (map (valued_arc value) seconds)) (map (valued_arc value) firsts)) (flat_map (second_arcs key) (map (valued_arc value) seconds)) ∙ ap (λ zs. old ++ zs) (sym whole)))
-
--- what was put into an empty list
-pub from_none : {X Y : Type 0} (f : X → Y) (old new slice : List X) (ys : List Y) → old ≡ [] → map f new ≡ map f old ++ ys → slice ≡ new → map f slice ≡ ys
-from_none f old new slice ys none put same = ap (map f) same ∙ (put ∙ ap (λ zs. map f zs ++ ys) none)

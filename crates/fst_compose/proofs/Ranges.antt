@@ -1,17 +1,15 @@
 -- Names of a composition keep their parts in range.
-use Rattle.std.proofs.Common.{◌≡◌, ◌⊎◌, inl, inr, ℕ, ◌<◌, ◌≤◌, List, [], ◌∷◌, None, Some, length, get_or, slice_get, sym, ap, ◌∙◌, subst, arith}
-use Rattle.std.specs.Option.{option_map}
-use Rattle.std.proofs.lemmas.Option.{slice_get_cases, slice_get_within, get_or_from_slice_get}
+use Rattle.std.proofs.Common.{ℕ, ◌<◌, ◌≤◌, List, [], ◌∷◌, slice_get, sym, ap, ◌∙◌, subst, arith}
 use Rattle.fst_semiring.specs.Cost.{Cost}
 use Rattle.fst_semiring.specs.declared.arc_type.ArcType.{ArcType}
-use Rattle.fst_machine.specs.Machine.{Arc, State, Machine, IsMachine, valued, valued_arc}
-use Rattle.fst_machine.specs.Graph.{Graph, graph_of}
+use Rattle.fst_machine.specs.Machine.{Arc}
+use Rattle.fst_machine.specs.Graph.{Graph}
 use Rattle.fst_machine.specs.Paths.{Transition, IsPath}
-use Rattle.fst_machine.specs.BreadthFirst.{Has, Apart, IsWalked}
+use Rattle.fst_machine.specs.BreadthFirst.{Has, IsBreadthFirst}
 use Rattle.fst_machine.proofs.Arcs.{mapped_at}
-use Rattle.fst_machine.proofs.Elements.{at_Has, Apart_within}
-use Rattle.fst_machine.proofs.Walking.{graph_arcs, nexts_within}
-use Rattle.fst_machine.proofs.Walks.{walked_reached, walked_from_start}
+use Rattle.fst_machine.proofs.BreadthFirst.{walked_of_breadth_first}
+use Rattle.fst_machine.proofs.Elements.{at_Has}
+use Rattle.fst_machine.proofs.Walks.{walked_reached}
 use Rattle.fst_compose.specs.Names.{Name}
 use Rattle.fst_compose.specs.NameLaws.{IsNameBelow, Keeps}
 use Rattle.fst_compose.specs.Composition.{composed}
@@ -41,29 +39,11 @@ keeps_path g P keeps [] p q holds here = subst P here holds
 keeps_path g P keeps (t ∷ path) p q holds leads = keeps_path g P keeps path t.arc.next q (keeps p t.place t.arc holds leads.0.1) leads.1
 
 -- what arcs keep holds of each name of a finished list
-pub keeps_walked : {N : Type 0} (g : Graph N) (P : N → Type 0) → Keeps P g → (start : N) (names : List N) → P start → IsWalked g start names → (z : N) → Has names z → P z
-keeps_walked g P keeps start names holds walked z h =
-    let r = walked_reached g start names walked z h in
+pub keeps_listed : {N : Type 0} (g : Graph N) (P : N → Type 0) → Keeps P g → (start : N) (names : List N) → P start → IsBreadthFirst g start names → (z : N) → Has names z → P z
+keeps_listed g P keeps start names holds listed z h =
+    let r = walked_reached g start names (walked_of_breadth_first g start names listed) z h in
     keeps_path g P keeps r.0 start z holds r.1
 
 -- names below keep below
 pub composed_below : (kind : ArcType) (a b : Graph ℕ) (states others : ℕ) → Keeps (λ p. p < states) a → Keeps (λ p. p < others) b → Keeps (IsNameBelow states others) (composed kind a b)
 composed_below kind a b states others = composed_keeps (λ p. p < states) (λ p. p < others) kind a b
-
--- arcs of a machine lead to its states
-pub machine_keeps : {V : Type 0} (value : V → Cost) (m : Machine V) → IsMachine value m → Keeps (λ p. p < length m.states) (graph_of (valued value m))
-machine_keeps {V} value m h p k arc low has = by_state (slice_get_cases m.states p).1
-  where
-    by_state : ((s : State V) × (p < length m.states) × (slice_get m.states p ≡ Some s) × (get_or m.states p s ≡ s)) ⊎ ((length m.states ≤ p) × (slice_get m.states p ≡ None)) → arc.next < length m.states
-    by_state (inl c) =
-        let e : option_map (λ (s : State V). s.arcs) (slice_get m.states p) ≡ Some c.0.arcs = ap (option_map (λ (s : State V). s.arcs)) c.2 in
-        let from = mapped_at (valued_arc value) c.0.arcs k arc (ap (λ arcs. slice_get arcs k) (sym (graph_arcs value m p c.0.arcs e)) ∙ has) in
-        let below : (get_or c.0.arcs k from.0).next < length m.states = nexts_within value m p c.0.arcs h e k from.0 (slice_get_within c.0.arcs k from.0 from.1) in
-        let here : (get_or c.0.arcs k from.0).next ≡ from.0.next = ap (λ (z : Arc V ℕ). z.next) (get_or_from_slice_get c.0.arcs k from.0 from.0 from.1) in
-        let there : from.0.next ≡ arc.next = ap (λ (z : Arc Cost ℕ). z.next) from.2 in
-        omega (arith, below, here, there)
-    by_state (inr c) = absurd (omega (arith, c.0))
-
--- different names that paths from the start reach are no more than a finished list has
-pub reached_few : {N : Type 0} (g : Graph N) (start : N) (names xs : List N) → IsWalked g start names → Apart xs → ((x : N) → Has xs x → (path : List (Transition N)) × IsPath g start path x) → length xs ≤ length names
-reached_few g start names xs walked apart reached = Apart_within xs names apart (λ x h. let r = reached x h in walked_from_start g start names walked r.0 x r.1)

@@ -164,11 +164,7 @@ module _ {N M : Type 0} (kind : ArcType) (a : Graph N) (b : Graph M) where
   pub composed_is : IsComposed kind a b (composed kind a b)
   composed_is = record {
     arcs = composed_arcs kind a b;
-    reads = reads_match;
-    clear = read_once a b;
-    has = match_has;
-    once = match_one;
-    says = composed-Rel;
+    pairs = record { reads = reads_match; clear = read_once a b; has = match_has; once = match_one; says = composed-Rel };
   }
 
   -- Where a start is missing, neither side relates anything.

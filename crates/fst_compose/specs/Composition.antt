@@ -1,13 +1,13 @@
 -- The composition of two graphs. (Mohri 2009, section 4.1: an arc of the one and an arc of the other that
 -- match go together, epsilon lets one machine go alone, and a filter lets just one order of such arcs through,
 -- so that no pair of paths is counted twice.)
-use Rattle.std.specs.Prelude.{ℕ, zero, suc, List, [], ◌∷◌, ◌++◌, Option, None, Some, cond, nat_eq}
+use Rattle.std.specs.Prelude.{ℕ, zero, suc, ◌<◌, List, [], ◌∷◌, ◌++◌, Option, None, Some, cond, length, nat_eq}
 use Rattle.std.specs.List.{flat_map}
 use Rattle.fst_semiring.specs.Cost.{Cost}
 use Rattle.fst_semiring.specs.declared.arc_type.ArcType.{ArcType}
 use Rattle.fst_semiring.specs.Semiring.{times}
-use Rattle.fst_machine.specs.Machine.{Arc}
-use Rattle.fst_machine.specs.Graph.{Graph}
+use Rattle.fst_machine.specs.Machine.{Arc, Machine, valued}
+use Rattle.fst_machine.specs.Graph.{Graph, graph_of}
 use Rattle.fst_compose.specs.Names.{Name, name_at}
 
 -- one value for epsilon, another for each other label; and one value for filter 0, another for filter 1
@@ -55,3 +55,11 @@ composed kind a b = record {
   arcs = λ n. flat_map (first_arcs kind n (b.arcs n.second)) (a.arcs n.first) ++ flat_map (second_arcs n) (b.arcs n.second);
   final = λ n. times kind (a.final n.first) (b.final n.second);
 }
+
+-- the composition of two machines
+abbrev pub composition : {V : Type 0} → ArcType → (V → Cost) → Machine V → Machine V → Graph (Name ℕ ℕ)
+composition kind value a b = composed kind (graph_of (valued value a)) (graph_of (valued value b))
+
+-- the states of a name are states of these machines
+abbrev pub IsInside : {V : Type 0} → Machine V → Machine V → Name ℕ ℕ → Type 0
+IsInside a b n = (n.first < length a.states) × (n.second < length b.states)

@@ -3,7 +3,6 @@ pub mod Composition
 pub mod Moves
 pub mod Reading
 pub mod Theorem
-pub mod Trimmed
 pub mod NameLaws
-pub mod Making
+pub mod Good
 pub mod Answers

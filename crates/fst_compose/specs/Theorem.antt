@@ -1,6 +1,6 @@
 -- What composition gives. (Mohri 2009, section 4.1: the paths of the result are the matching pairs of paths, each
 -- once, so that the weight of a pair of strings is the sum, over all strings between, of products.)
-use Rattle.std.specs.Prelude.{◌≡◌, ◌↔◌, ℕ, List, map, get_or}
+use Rattle.std.specs.Prelude.{◌≡◌, ◌↔◌, ℕ, List, map}
 use Rattle.fst_semiring.specs.Cost.{Cost}
 use Rattle.fst_semiring.specs.declared.arc_type.ArcType.{ArcType}
 use Rattle.fst_semiring.specs.Semiring.{times}
@@ -8,13 +8,13 @@ use Rattle.fst_machine.specs.Machine.{Machine}
 use Rattle.fst_machine.specs.Graph.{Graph, graph_of}
 use Rattle.fst_machine.specs.Letters.{input, output}
 use Rattle.fst_machine.specs.Paths.{Transition, letters}
-use Rattle.fst_machine.specs.Renaming.{moved}
 use Rattle.fst_machine.specs.Relation.{IsSuccessful, Rel}
 use Rattle.fst_machine.specs.Matching.{IsMatchingPair}
+use Rattle.fst_trim.specs.KeptPaths.{IsRenumbered}
 use Rattle.fst_compose.specs.Names.{Name}
 use Rattle.fst_compose.specs.Composition.{composed}
 use Rattle.fst_compose.specs.Moves.{moves_at, arc_by}
-use Rattle.fst_compose.specs.Reading.{IsReadOff}
+use Rattle.fst_compose.specs.Reading.{GoesThrough, IsReadBy, IsReadOff, Path}
 
 module _ {N M : Type 0} (kind : ArcType) (a : Graph N) (b : Graph M) where
   -- The first relates x to some string that the second relates to z, and the weight is the product.
@@ -26,25 +26,41 @@ module _ {N M : Type 0} (kind : ArcType) (a : Graph N) (b : Graph M) where
     pub second : Rel kind b middle z second_weight
     pub weight : w ≡ times kind first_weight second_weight
 
-  -- What the composition is, as a graph: its arcs are made by the moves at each name, in order. A successful path
-  -- is read off to just one pair of paths, which match and have its triple; each matching pair is read off from a
-  -- successful path with its triple, and from one only. So its relation is that of the two, one after the other.
-  pub record IsComposed (g : Graph (Name N M)) : Type 0 where
-    pub arcs : (n : Name N M) → g.arcs n ≡ map (arc_by kind n) (moves_at a b n)
-    pub reads : (path : List (Transition (Name N M))) (w : Cost) → IsSuccessful kind g path w → (one : List (Transition N)) × (two : List (Transition M)) × IsReadOff a b path one two × IsMatchingPair kind a b one two (input (letters path)) (output (letters path)) w
-    pub clear : (path : List (Transition (Name N M))) (one other : List (Transition N)) (two another : List (Transition M)) → IsReadOff a b path one two → IsReadOff a b path other another → (one ≡ other) × (two ≡ another)
-    pub has : (one : List (Transition N)) (two : List (Transition M)) (x z : List ℕ) (w : Cost) → IsMatchingPair kind a b one two x z w → (path : List (Transition (Name N M))) × IsSuccessful kind g path w × IsReadOff a b path one two × (x ≡ input (letters path)) × (z ≡ output (letters path))
-    pub once : (path other : List (Transition (Name N M))) (v w : Cost) (one : List (Transition N)) (two : List (Transition M)) → IsSuccessful kind g path v → IsSuccessful kind g other w → IsReadOff a b path one two → IsReadOff a b other one two → path ≡ other
+  -- The successful paths of a graph are the matching pairs of paths of the two, one to one, by what its paths are read
+  -- to: a successful path is read to just one pair of paths, which match and have its triple; each matching pair is read
+  -- from a successful path with its triple, and from one only. So its relation is that of the two, one after the other.
+  pub record Pairs {P : Type 0} (g : Graph P) (Reads : Path P → Path N → Path M → Type 0) : Type 0 where
+    pub reads : (path : Path P) (w : Cost) → IsSuccessful kind g path w
+        → (one : Path N) × (two : Path M) × Reads path one two × IsMatchingPair kind a b one two (input (letters path)) (output (letters path)) w
+    pub clear : (path : Path P) (one other : Path N) (two another : Path M) → Reads path one two → Reads path other another → (one ≡ other) × (two ≡ another)
+    pub has : (one : Path N) (two : Path M) (x z : List ℕ) (w : Cost) → IsMatchingPair kind a b one two x z w
+        → (path : Path P) × IsSuccessful kind g path w × Reads path one two × (x ≡ input (letters path)) × (z ≡ output (letters path))
+    pub once : (path other : Path P) (v w : Cost) (one : Path N) (two : Path M) → IsSuccessful kind g path v → IsSuccessful kind g other w
+        → Reads path one two → Reads other one two → path ≡ other
     pub says : (x z : List ℕ) (w : Cost) → Rel kind g x z w ↔ Relates x z w
 
-  -- The same of a machine whose states stand for these names: its paths are read with each number as its name.
-  -- (The name d stands where a number has none, and no path goes there.)
-  pub record IsComposition (names : List (Name N M)) (m : Machine Cost) : Type 0 where
-    pub reads : (d : Name N M) (path : List (Transition ℕ)) (w : Cost) → IsSuccessful kind (graph_of m) path w → (one : List (Transition N)) × (two : List (Transition M)) × IsReadOff a b (moved (λ i. get_or names i d) path) one two × IsMatchingPair kind a b one two (input (letters path)) (output (letters path)) w
-    pub clear : (d : Name N M) (path : List (Transition ℕ)) (one other : List (Transition N)) (two another : List (Transition M)) → IsReadOff a b (moved (λ i. get_or names i d) path) one two → IsReadOff a b (moved (λ i. get_or names i d) path) other another → (one ≡ other) × (two ≡ another)
-    pub has : (d : Name N M) (one : List (Transition N)) (two : List (Transition M)) (x z : List ℕ) (w : Cost) → IsMatchingPair kind a b one two x z w → (path : List (Transition ℕ)) × IsSuccessful kind (graph_of m) path w × IsReadOff a b (moved (λ i. get_or names i d) path) one two × (x ≡ input (letters path)) × (z ≡ output (letters path))
-    pub once : (d : Name N M) (path other : List (Transition ℕ)) (v w : Cost) (one : List (Transition N)) (two : List (Transition M)) → IsSuccessful kind (graph_of m) path v → IsSuccessful kind (graph_of m) other w → IsReadOff a b (moved (λ i. get_or names i d) path) one two → IsReadOff a b (moved (λ i. get_or names i d) other) one two → path ≡ other
-    pub says : (x z : List ℕ) (w : Cost) → Rel kind (graph_of m) x z w ↔ Relates x z w
+  -- What the composition is, as a graph: its arcs are made by the moves at each name, in order, and its successful paths
+  -- are the matching pairs, as they are read off.
+  pub record IsComposed (g : Graph (Name N M)) : Type 0 where
+    pub arcs : (n : Name N M) → g.arcs n ≡ map (arc_by kind n) (moves_at a b n)
+    pub pairs : Pairs g (IsReadOff a b)
+
+  -- A path of numbers is read to what the path of the composition is read off to that goes through the names of these
+  -- numbers, by arcs in the same places.
+  abbrev pub IsReadNamed : List (Name N M) → Path ℕ → Path N → Path M → Type 0
+  IsReadNamed names = IsReadBy kind (composed kind a b) (GoesThrough names) (IsReadOff a b)
+
+  -- So is a machine whose states stand for these names.
+  abbrev pub IsComposition : List (Name N M) → Machine Cost → Type 0
+  IsComposition names m = Pairs (graph_of m) (IsReadNamed names)
+
+  -- A path of new numbers is read to what the path of the whole machine is read to that it comes from.
+  abbrev pub IsReadThrough : List (Name N M) → Machine Cost → List ℕ → Path ℕ → Path N → Path M → Type 0
+  IsReadThrough names whole kept = IsReadBy kind (graph_of whole) (IsRenumbered whole kept) (IsReadNamed names)
+
+  -- And so is the machine of its useful states.
+  abbrev pub IsConnectedComposition : List (Name N M) → Machine Cost → List ℕ → Machine Cost → Type 0
+  IsConnectedComposition names whole kept c = Pairs (graph_of c) (IsReadThrough names whole kept)
 
   -- Neither the composition nor the two, one after the other, relate anything.
   pub record RelatesNothing (x z : List ℕ) (w : Cost) : Type 0 where

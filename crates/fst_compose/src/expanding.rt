@@ -4,8 +4,8 @@ ghost use Rattle.std.specs.Prelude.{◌≡◌, ◌<◌, ◌≤◌, ◌++◌, ◌
 ghost use Rattle.std.specs.List.{flat_map};
 ghost use Rattle.fst_semiring.specs.Semiring.{Within};
 ghost use Rattle.fst_machine.specs.Machine.{valued_arc};
-ghost use Rattle.fst_compose.specs.Composition.{first_arcs, match_arcs, second_arcs};
-ghost use Rattle.fst_compose.specs.Making.{composition, key_arc};
+ghost use Rattle.fst_compose.specs.Composition.{composition, first_arcs, match_arcs, second_arcs};
+ghost use Rattle.fst_walk.specs.Names.{key_arc};
 ghost use Rattle.fst_trim.specs.Sides.{IsSortedOn};
 ghost use Rattle.fst_trim.specs.declared.side.Side.TheVariants as sides;
 
@@ -14,7 +14,7 @@ use fst_machine::{Fst, FstArc};
 use fst_semiring::Weight;
 use std::alloc::{AllocError, Global};
 
-/// Puts the arc of two arcs behind the others, if these match.
+/// Puts the arc of two arcs after the others, if these match.
 fn put_match<W: Weight>(
     out: &mut Vec<KeyArc<W>>,
     a: FstArc<W>,
@@ -33,7 +33,7 @@ fn put_match<W: Weight>(
     Ok(())
 }
 
-/// Puts the arcs of an arc with each of these that it matches behind the others.
+/// Puts the arcs of an arc with each of these that it matches after the others.
 fn put_matches<W: Weight>(
     out: &mut Vec<KeyArc<W>>,
     a: FstArc<W>,
@@ -47,7 +47,7 @@ fn put_matches<W: Weight>(
     Ok(())
 }
 
-/// Puts the arcs that an arc of the first machine has with these of the second behind the others.
+/// Puts the arcs that an arc of the first machine has with these of the second after the others.
 fn put_first<W: Weight>(
     out: &mut Vec<KeyArc<W>>,
     key: ComposeKey,
@@ -86,7 +86,7 @@ fn put_firsts<W: Weight>(
     Ok(())
 }
 
-/// Puts the arc of an arc of the second machine alone behind the others, if it reads epsilon.
+/// Puts the arc of an arc of the second machine alone after the others, if it reads epsilon.
 fn put_second<W: Weight>(
     out: &mut Vec<KeyArc<W>>,
     key: ComposeKey,
@@ -120,7 +120,7 @@ fn put_seconds<W: Weight>(
     Ok(())
 }
 
-/// Puts the arcs of a name behind the others.
+/// Puts the arcs of a name after the others.
 pub(crate) fn put_arcs<W: Weight>(
     out: &mut Vec<KeyArc<W>>,
     a: &Fst<W>,

@@ -7,13 +7,12 @@ ghost use Rattle.fst_semiring.specs.Cost.{Cost};
 ghost use Rattle.fst_semiring.specs.declared.arc_type.ArcType.{ArcType};
 ghost use Rattle.fst_machine.specs.Machine.{Machine, no_states};
 ghost use Rattle.fst_machine.specs.Graph.{Graph};
-ghost use Rattle.fst_machine.specs.Connected.{IsConnected};
 ghost use Rattle.fst_machine.specs.Numbering.{IsNumbered};
 ghost use Rattle.fst_compose.specs.Names.{Name};
 ghost use Rattle.fst_compose.specs.Composition.{start_name, composed};
-ghost use Rattle.fst_compose.specs.Theorem.{IsComposed, IsComposition, RelatesNothing};
-ghost use Rattle.fst_compose.specs.Trimmed.{KeepsPaths, IsConnectedComposition};
-ghost use Rattle.fst_compose.specs.NameLaws.{NameLaws, FrontLaws};
+ghost use Rattle.fst_trim.specs.KeptPaths.{KeepsPaths};
+ghost use Rattle.fst_compose.specs.Theorem.{IsComposed, IsComposition, IsConnectedComposition, RelatesNothing};
+ghost use Rattle.fst_compose.specs.NameLaws.{NameLaws};
 
 /// What composition gives: the successful paths of the result are the matching pairs of paths, one to one, with the
 /// triple of each, in the graph of the composition and in each machine that numbers its names. Where a start is
@@ -25,16 +24,13 @@ pub fn composition_laws<N, M>()
     ensures nothing { (kind : ArcType) (a : Graph N) (b : Graph M) → start_name a.start b.start ≡ None → (x z : List ℕ) (w : Cost) → RelatesNothing kind a b x z w }
 {}
 
-/// The names that a composition of machines reaches keep their parts in range, and what a walk has found on its way
-/// is the front of the finished list.
-pub fn name_laws<N>()
-    ensures names { (kind : ArcType) (a b : Graph ℕ) (states others : ℕ) → NameLaws kind a b states others }
-    ensures fronts { (g : Graph N) (start : N) (names found : List N) (taken : ℕ) → FrontLaws g start names found taken }
+/// The names that a composition of machines reaches keep their parts in range.
+pub fn name_laws()
+    ensures { (kind : ArcType) (a b : Graph ℕ) (states others : ℕ) → NameLaws kind a b states others }
 {}
 
-/// Keeping just the useful states of a machine keeps its successful paths, one to one, with their letters and weights.
-/// So the successful paths of a composition that has been connected are still the matching pairs of paths, one to one.
+/// The successful paths of a composition of which just the useful states are kept are still the matching pairs of
+/// paths, one to one.
 pub fn trimming_laws<N, M>()
-    ensures paths { (kind : ArcType) (m c : Machine Cost) (h : IsConnected m c) → KeepsPaths kind m c h.kept }
-    ensures composition { (kind : ArcType) (a : Graph N) (b : Graph M) (names : List (Name N M)) (whole c : Machine Cost) (kept : List ℕ) → IsComposition kind a b names whole → KeepsPaths kind whole c kept → IsConnectedComposition kind a b names whole kept c }
+    ensures { (kind : ArcType) (a : Graph N) (b : Graph M) (names : List (Name N M)) (whole c : Machine Cost) (kept : List ℕ) → IsComposition kind a b names whole → KeepsPaths kind whole c kept → IsConnectedComposition kind a b names whole kept c }
 {}

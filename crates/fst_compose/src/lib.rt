@@ -14,7 +14,6 @@ mod expanding;
 mod fault;
 mod key;
 pub mod laws;
-mod table;
 
 pub use composing::{Composed, compose};
 pub use expanding::{expand, key_final};

@@ -6,7 +6,7 @@ use Rattle.std.proofs.lemmas.Grind.{common_steps}
 use Rattle.std.proofs.lemmas.Bool.Decides.{nat_tests}
 use Rattle.fst_desk.specs.Seen.{Rises, raised}
 use Rattle.fst_desk.specs.Desk.{Holds, Stores, DeskShows}
-use Rattle.fst_desk.specs.Kept.{Kept, last_of, files_of, counted, written, seen_of, KeptStores, KeptShows}
+use Rattle.fst_desk.specs.Kept.{Kept, last_of, files_of, storing_once, written, seen_of, KeptStores, KeptShows}
 use Rattle.fst_desk.specs.declared.edge.StoreFault.{StoreFault}
 use Rattle.fst_desk.specs.declared.edge.StoreFault.TheVariants as storing
 
@@ -18,7 +18,7 @@ Rises-raised n = grind (arith, nat_tests)
 pub raised-le : (n : ℕ) → n ≤ raised n
 raised-le n = grind (arith, nat_tests)
 
--- the last of a longer list is the last of the pairs behind, after those in front
+-- the last of a longer list is the last of the later pairs, after those in front
 pub last_of-append : {K V : Type 0} (same : K → K → Bool) (found : Option V) (front back : List (K × V)) (key : K) →
     last_of same found (front ++ back) key ≡ last_of same (last_of same found front key) back key
 last_of-append same found [] back key = refl
@@ -39,20 +39,24 @@ Stores-kept name bytes old new (Ok done) s = rw s.after record {
   taken = refl;
   write_faults = omega arith;
   starved = omega arith;
+  fetches = refl;
+  stores = refl;
   showing = refl;
-  answer = record { told = Holds-written name bytes (counted old); write_faults = refl; starved = refl };
+  answer = record { told = Holds-written name bytes (storing_once old); write_faults = refl; starved = refl };
 }
 Stores-kept name bytes old new (Err storing.Failed) s = rw s.after record {
   missed = refl;
   taken = refl;
   write_faults = raised-le old.write_faults;
   starved = omega arith;
+  fetches = refl;
+  stores = refl;
   showing = refl;
   answer = record {
     front = take s.most bytes;
     rest = drop s.most bytes;
     splits = sym (take-append-drop s.most bytes);
-    told = Holds-written name (take s.most bytes) (counted old);
+    told = Holds-written name (take s.most bytes) (storing_once old);
     write_faults = Rises-raised old.write_faults;
     starved = refl;
   };
@@ -62,6 +66,8 @@ Stores-kept name bytes old new (Err storing.Memory) s = rw s record {
   taken = refl;
   write_faults = omega arith;
   starved = raised-le old.starved;
+  fetches = refl;
+  stores = refl;
   showing = refl;
   answer = record { told = refl; write_faults = refl; starved = Rises-raised old.starved };
 }
@@ -73,12 +79,14 @@ DeskShows-kept line old new (Ok done) s = rw s.after record {
   filed = refl;
   show_faults = omega arith;
   show_starved = omega arith;
+  shows = refl;
   answer = record { shown = refl; show_faults = refl; show_starved = refl };
 }
 DeskShows-kept line old new (Err storing.Failed) s = rw s.after record {
   filed = refl;
   show_faults = raised-le old.show_faults;
   show_starved = omega arith;
+  shows = refl;
   answer = record {
     front = take s.most line;
     rest = drop s.most line;
@@ -92,5 +100,6 @@ DeskShows-kept line old new (Err storing.Memory) s = rw s record {
   filed = refl;
   show_faults = omega arith;
   show_starved = raised-le old.show_starved;
+  shows = refl;
   answer = record { shown = refl; show_faults = refl; show_starved = Rises-raised old.show_starved };
 }

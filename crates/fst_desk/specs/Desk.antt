@@ -1,6 +1,6 @@
 -- What each call of a desk promises, by what is seen before and after it.
 use Rattle.std.specs.Prelude.{◌≡◌, ◌≢◌, ℕ, ◌<◌, ◌≤◌, List, [], ◌∷◌, ◌++◌, length, Option, None, Some, unwrap_or, IfSome, Result, Ok, Err}
-use Rattle.fst_desk.specs.Seen.{Files, Filed, Showing, Seen, Rises}
+use Rattle.fst_desk.specs.Seen.{Files, Filed, Showing, Seen, Rises, raised}
 use Rattle.fst_desk.specs.declared.edge.FetchFault.{FetchFault}
 use Rattle.fst_desk.specs.declared.edge.FetchFault.TheVariants as fetching
 use Rattle.fst_desk.specs.declared.edge.StoreFault.{StoreFault}
@@ -42,11 +42,13 @@ FetchAnswer name limit old new (Err fetching.Failed) = new.missed ≡ old.missed
 FetchAnswer name limit old new (Err fetching.TooLong) = FetchesTooLong name limit old new
 FetchAnswer name limit old new (Err fetching.Memory) = new.missed ≡ old.missed
 
--- a fetch of the name with that limit: it changes no file, no count and nothing shown
+-- a fetch of the name with that limit: it is counted, and changes no file, no other count and nothing shown
 pub record Fetches (name : List ℕ) (limit : ℕ) (old new : Seen) (result : Result (List ℕ) FetchFault) : Type 0 where
   pub told : new.filed.told ≡ old.filed.told
   pub write_faults : new.filed.write_faults ≡ old.filed.write_faults
   pub starved : new.filed.starved ≡ old.filed.starved
+  pub fetches : new.filed.fetches ≡ raised old.filed.fetches
+  pub stores : new.filed.stores ≡ old.filed.stores
   pub showing : new.showing ≡ old.showing
   pub answer : FetchAnswer name limit old.filed new.filed result
 
@@ -77,12 +79,14 @@ StoreAnswer name bytes old new (Ok _) = StoresWhole name bytes old new
 StoreAnswer name bytes old new (Err storing.Failed) = StoresPrefix name bytes old new
 StoreAnswer name bytes old new (Err storing.Memory) = StoresNothing old new
 
--- a store of the bytes under the name: it changes nothing shown, no name missed, and no count falls
+-- a store of the bytes under the name: it is counted, and changes nothing shown, no name missed; no count falls
 pub record Stores (name bytes : List ℕ) (old new : Seen) (result : Result Unit StoreFault) : Type 0 where
   pub missed : new.filed.missed ≡ old.filed.missed
   pub taken : new.filed.taken ≡ old.filed.taken
   pub write_faults : old.filed.write_faults ≤ new.filed.write_faults
   pub starved : old.filed.starved ≤ new.filed.starved
+  pub fetches : new.filed.fetches ≡ old.filed.fetches
+  pub stores : new.filed.stores ≡ raised old.filed.stores
   pub showing : new.showing ≡ old.showing
   pub answer : StoreAnswer name bytes old.filed new.filed result
 
@@ -120,9 +124,10 @@ ShowAnswer line old new (Ok _) = ShowsWhole line old new
 ShowAnswer line old new (Err storing.Failed) = ShowsPrefix line old new
 ShowAnswer line old new (Err storing.Memory) = ShowsNothing old new
 
--- a show of the line: it changes nothing of the files' half, and no count falls
+-- a show of the line: it is counted, and changes nothing of the files' half; no count falls
 pub record DeskShows (line : List ℕ) (old new : Seen) (result : Result Unit StoreFault) : Type 0 where
   pub filed : new.filed ≡ old.filed
   pub show_faults : old.showing.show_faults ≤ new.showing.show_faults
   pub show_starved : old.showing.show_starved ≤ new.showing.show_starved
+  pub shows : new.showing.shows ≡ raised old.showing.shows
   pub answer : ShowAnswer line old.showing new.showing result

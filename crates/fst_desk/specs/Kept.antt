@@ -13,8 +13,11 @@ pub record Kept : Type 0 where
   pub writes : List (List ℕ × List ℕ)
   -- each number of a call that is to fail, with the bytes that it takes first; the last of a number stands
   pub plan : List (ℕ × ℕ)
-  -- how many calls of fetch, store and show there were
+  -- how many calls of fetch, store and show there were, and how many of each
   pub calls : ℕ
+  pub fetches : ℕ
+  pub stores : ℕ
+  pub shows : ℕ
   pub missed : List (List ℕ)
   pub write_faults : ℕ
   pub starved : ℕ
@@ -34,7 +37,21 @@ files_of kept name = last_of bytes_eq None kept.writes name
 
 -- a desk that holds no file and of which no call is to fail
 abbrev pub fresh : Kept
-fresh = record { writes = []; plan = []; calls = 0; missed = []; write_faults = 0; starved = 0; taken = 0; shown = []; show_faults = 0; show_starved = 0 }
+fresh = record {
+  writes = [];
+  plan = [];
+  calls = 0;
+  fetches = 0;
+  stores = 0;
+  shows = 0;
+  missed = [];
+  write_faults = 0;
+  starved = 0;
+  taken = 0;
+  shown = [];
+  show_faults = 0;
+  show_starved = 0;
+}
 
 -- what a call takes of its bytes: all, or the planned number of them
 abbrev pub part_of : Option ℕ → List ℕ → List ℕ
@@ -49,6 +66,16 @@ planned_for kept = last_of nat_eq None kept.plan (raised kept.calls)
 abbrev pub counted : Kept → Kept
 counted kept = record kept { calls = raised kept.calls }
 
+-- the desk with one more fetch, one more store, one more show counted
+abbrev pub fetching_once : Kept → Kept
+fetching_once kept = record (counted kept) { fetches = raised kept.fetches }
+
+abbrev pub storing_once : Kept → Kept
+storing_once kept = record (counted kept) { stores = raised kept.stores }
+
+abbrev pub showing_once : Kept → Kept
+showing_once kept = record (counted kept) { shows = raised kept.shows }
+
 -- the desk with that content under the name
 abbrev pub written : List ℕ → List ℕ → Kept → Kept
 written name content kept = record kept { writes = kept.writes ++ (name, content) ∷ [] }
@@ -56,8 +83,16 @@ written name content kept = record kept { writes = kept.writes ++ (name, content
 -- what callers see of a memory desk, which tells all
 abbrev pub seen_of : Kept → Seen
 seen_of kept = record {
-  filed = record { told = Some (files_of kept); missed = kept.missed; write_faults = kept.write_faults; starved = kept.starved; taken = kept.taken };
-  showing = record { shown = Some kept.shown; show_faults = kept.show_faults; show_starved = kept.show_starved };
+  filed = record {
+    told = Some (files_of kept);
+    missed = kept.missed;
+    write_faults = kept.write_faults;
+    starved = kept.starved;
+    taken = kept.taken;
+    fetches = kept.fetches;
+    stores = kept.stores;
+  };
+  showing = record { shown = Some kept.shown; show_faults = kept.show_faults; show_starved = kept.show_starved; shows = kept.shows };
 }
 
 -- a fetch that gave the content: it is held, it fits, and the call was not to fail
@@ -65,14 +100,14 @@ pub record FetchesHeld (name : List ℕ) (limit : ℕ) (old new : Kept) (content
   pub unplanned : planned_for old ≡ None
   pub held : files_of old name ≡ Some content
   pub fits : length content ≤ limit
-  pub after : new ≡ record (counted old) { taken = length content }
+  pub after : new ≡ record (fetching_once old) { taken = length content }
 
 -- a fetch that failed: the call was to fail, or the name is not held
 pub record FetchesFailing (name : List ℕ) (old new : Kept) : Type 0 where
   pub cause : IsSome (planned_for old) ⊎ (files_of old name ≡ None)
-  pub after : new ≡ record (counted old) { missed = old.missed ++ name ∷ []; taken = 0 }
+  pub after : new ≡ record (fetching_once old) { missed = old.missed ++ name ∷ []; taken = 0 }
 
--- the note of a name whose fetch failed, or the want of memory for it
+-- the note of a name whose fetch failed, or that there was no memory for it
 abbrev pub Misses : List ℕ → Kept → Kept → FetchFault → Type 0
 Misses name old new fetching.Failed = new ≡ record old { missed = old.missed ++ name ∷ []; taken = 0 }
 Misses name old new fetching.TooLong = ⊥
@@ -84,45 +119,45 @@ pub record FetchesLonger (name : List ℕ) (limit : ℕ) (old new : Kept) : Type
   pub content : List ℕ
   pub held : files_of old name ≡ Some content
   pub longer : limit < length content
-  pub after : new ≡ record (counted old) { taken = length content }
+  pub after : new ≡ record (fetching_once old) { taken = length content }
 
 -- each answer of a memory desk's fetch
 abbrev pub KeptFetches : List ℕ → ℕ → Kept → Kept → Result (List ℕ) FetchFault → Type 0
 KeptFetches name limit old new (Ok content) = FetchesHeld name limit old new content
 KeptFetches name limit old new (Err fetching.Failed) = FetchesFailing name old new
 KeptFetches name limit old new (Err fetching.TooLong) = FetchesLonger name limit old new
-KeptFetches name limit old new (Err fetching.Memory) = new ≡ record (counted old) { taken = 0 }
+KeptFetches name limit old new (Err fetching.Memory) = new ≡ record (fetching_once old) { taken = 0 }
 
 -- a store that left the bytes: the call was not to fail
 pub record StoresUnplanned (name bytes : List ℕ) (old new : Kept) : Type 0 where
   pub unplanned : planned_for old ≡ None
-  pub after : new ≡ written name bytes (counted old)
+  pub after : new ≡ written name bytes (storing_once old)
 
 -- a store that was to fail: it took the planned number of bytes first
 pub record StoresPlanned (name bytes : List ℕ) (old new : Kept) : Type 0 where
   pub most : ℕ
   pub planned : planned_for old ≡ Some most
-  pub after : new ≡ record (written name (take most bytes) (counted old)) { write_faults = raised old.write_faults }
+  pub after : new ≡ record (written name (take most bytes) (storing_once old)) { write_faults = raised old.write_faults }
 
 -- each answer of a memory desk's store
 abbrev pub KeptStores : List ℕ → List ℕ → Kept → Kept → Result Unit StoreFault → Type 0
 KeptStores name bytes old new (Ok _) = StoresUnplanned name bytes old new
 KeptStores name bytes old new (Err storing.Failed) = StoresPlanned name bytes old new
-KeptStores name bytes old new (Err storing.Memory) = new ≡ record (counted old) { starved = raised old.starved }
+KeptStores name bytes old new (Err storing.Memory) = new ≡ record (storing_once old) { starved = raised old.starved }
 
 -- a show that appended the line: the call was not to fail
 pub record ShowsUnplanned (line : List ℕ) (old new : Kept) : Type 0 where
   pub unplanned : planned_for old ≡ None
-  pub after : new ≡ record (counted old) { shown = old.shown ++ line }
+  pub after : new ≡ record (showing_once old) { shown = old.shown ++ line }
 
 -- a show that was to fail: it took the planned number of bytes first
 pub record ShowsPlanned (line : List ℕ) (old new : Kept) : Type 0 where
   pub most : ℕ
   pub planned : planned_for old ≡ Some most
-  pub after : new ≡ record (counted old) { shown = old.shown ++ take most line; show_faults = raised old.show_faults }
+  pub after : new ≡ record (showing_once old) { shown = old.shown ++ take most line; show_faults = raised old.show_faults }
 
 -- each answer of a memory desk's show
 abbrev pub KeptShows : List ℕ → Kept → Kept → Result Unit StoreFault → Type 0
 KeptShows line old new (Ok _) = ShowsUnplanned line old new
 KeptShows line old new (Err storing.Failed) = ShowsPlanned line old new
-KeptShows line old new (Err storing.Memory) = new ≡ record (counted old) { show_starved = raised old.show_starved }
+KeptShows line old new (Err storing.Memory) = new ≡ record (showing_once old) { show_starved = raised old.show_starved }

@@ -17,6 +17,9 @@ pub record Filed : Type 0 where
   pub starved : ℕ
   -- how many bytes the last fetch took
   pub taken : ℕ
+  -- how many fetches and how many stores there were, whatever they answered
+  pub fetches : ℕ
+  pub stores : ℕ
 
 -- the half of the diagnostic lines
 pub record Showing : Type 0 where
@@ -26,6 +29,8 @@ pub record Showing : Type 0 where
   pub show_faults : ℕ
   -- how many shows found no memory
   pub show_starved : ℕ
+  -- how many shows there were, whatever they answered
+  pub shows : ℕ
 
 -- all that a desk shows of itself
 pub record Seen : Type 0 where

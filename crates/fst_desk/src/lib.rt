@@ -3,7 +3,7 @@
 //! A command asks a [`Desk`] for the content of a file by its name, hands it the bytes of each
 //! output, and shows it the one line of a refusal. What the call promises is stated by what is seen
 //! of the desk before and after: the contents where the desk tells them, the names that it could not
-//! read, and counts of the calls that failed.
+//! read, and counts of the calls and of those that failed.
 //!
 //! - [`MemoryDesk`] holds its files in memory and tells all. It fails where it was asked to.
 //! - [`RealDesk`] is the operating system: files, the three standard streams. It tells no content.

@@ -4,7 +4,7 @@ ghost use Rattle.std.specs.Option.{option_copied};
 ghost use Rattle.std.specs.Result.{result_map_both};
 ghost use Rattle.std.specs.Str.{bytes_eq};
 ghost use Rattle.fst_desk.specs.Desk.{Fetches, Stores, DeskShows};
-ghost use Rattle.fst_desk.specs.Kept.{last_of, files_of, fresh, planned_for, counted, written, seen_of, part_of, Misses, KeptFetches, KeptStores, KeptShows};
+ghost use Rattle.fst_desk.specs.Kept.{last_of, files_of, fresh, planned_for, counted, fetching_once, storing_once, showing_once, written, seen_of, part_of, Misses, KeptFetches, KeptStores, KeptShows};
 
 use crate::count::raise;
 use crate::edge::{Desk, FetchFault, StoreFault};
@@ -51,6 +51,9 @@ pub struct MemoryDesk {
     writes: Vec<Write>,
     plan: Vec<Planned>,
     calls: u64,
+    fetches: u64,
+    stores: u64,
+    shows: u64,
     missed: Vec<Text>,
     write_faults: u64,
     starved: u64,
@@ -69,6 +72,9 @@ impl Model for MemoryDesk {
       writes = d.writes.items;
       plan = d.plan.items;
       calls = d.calls;
+      fetches = d.fetches;
+      stores = d.stores;
+      shows = d.shows;
       missed = d.missed.items;
       write_faults = d.write_faults;
       starved = d.starved;
@@ -80,7 +86,8 @@ impl Model for MemoryDesk {
 }
 
 impl MemoryDesk {
-    /// A desk that holds no file, and of which no call is to fail. It takes no memory.
+    /// A desk that holds no file, of which no call is to fail, before its first call: each count is 0.
+    /// It takes no memory.
     pub fn new(alloc: Global) -> MemoryDesk
         ensures { result ≡ fresh }
     {
@@ -88,6 +95,9 @@ impl MemoryDesk {
             writes: Vec::new(alloc),
             plan: Vec::new(alloc),
             calls: 0,
+            fetches: 0,
+            stores: 0,
+            shows: 0,
             missed: Vec::new(alloc),
             write_faults: 0,
             starved: 0,
@@ -98,7 +108,8 @@ impl MemoryDesk {
         }
     }
 
-    /// Sets the content of a file. After an `Err`, for want of memory, nothing is changed.
+    /// Sets the content of a file. It counts as no store. After an `Err`, out of memory, nothing is
+    /// changed.
     pub fn put(&mut self, name: &str, bytes: &[u8]) -> Result<(), AllocError>
         ensures ok { OnOk result (self.new ≡ written name.now bytes.now self.old) }
         ensures err { OnErr result (self.new ≡ self.old) }
@@ -111,8 +122,8 @@ impl MemoryDesk {
     }
 
     /// Makes the call of that number fail, counted from 1 over `fetch`, `store` and `show` together. A
-    /// failing `store` or `show` first takes `after` bytes, or all where there are fewer. After an
-    /// `Err`, for want of memory, nothing is changed.
+    /// failing `store` or `show` first takes `after` bytes, or all where there are fewer. It counts as
+    /// no call. After an `Err`, out of memory, nothing is changed.
     pub fn fail(&mut self, call: u64, after: u64) -> Result<(), AllocError>
         ensures ok { OnOk result (self.new ≡ record self.old { plan = self.old.plan ++ (call, after) ∷ [] }) }
         ensures err { OnErr result (self.new ≡ self.old) }
@@ -121,18 +132,41 @@ impl MemoryDesk {
         Ok(())
     }
 
-    /// The content under the name, None exactly where the name is not held. It takes no memory.
+    /// The content under the name, None exactly where the name is not held. It counts as no fetch, and
+    /// takes no memory.
     pub fn held(&self, name: &str) -> Option<&[u8]>
         ensures { option_copied result ≡ files_of self.now name.now }
     {
         last_written(self.writes.as_slice(), name)
     }
 
-    /// The diagnostic bytes, in the order in which they were shown. It takes no memory.
+    /// The diagnostic bytes, in the order in which they were shown. It changes no count, and takes no
+    /// memory.
     pub fn shown_bytes(&self) -> &[u8]
         ensures { result.now ≡ self.now.shown }
     {
         self.shown.as_slice()
+    }
+
+    /// How many fetches there were since the desk was new. It takes no memory.
+    pub fn fetches(&self) -> u64
+        ensures { result ≡ self.now.fetches }
+    {
+        self.fetches
+    }
+
+    /// How many stores there were since the desk was new. It takes no memory.
+    pub fn stores(&self) -> u64
+        ensures { result ≡ self.now.stores }
+    {
+        self.stores
+    }
+
+    /// How many shows there were since the desk was new. It takes no memory.
+    pub fn shows(&self) -> u64
+        ensures { result ≡ self.now.shows }
+    {
+        self.shows
     }
 
     // Counts a call. Where it is to fail, the result is the number of bytes that it takes first.
@@ -142,6 +176,33 @@ impl MemoryDesk {
     {
         self.calls = raise(self.calls);
         last_planned(self.plan.as_slice(), self.calls)
+    }
+
+    // Counts a fetch, of which the rest is as for any call.
+    fn count_fetch(&mut self) -> Option<u64>
+        ensures counts { self.new ≡ fetching_once self.old }
+        ensures planned { result ≡ planned_for self.old }
+    {
+        self.fetches = raise(self.fetches);
+        self.count_call()
+    }
+
+    // Counts a store, of which the rest is as for any call.
+    fn count_store(&mut self) -> Option<u64>
+        ensures counts { self.new ≡ storing_once self.old }
+        ensures planned { result ≡ planned_for self.old }
+    {
+        self.stores = raise(self.stores);
+        self.count_call()
+    }
+
+    // Counts a show, of which the rest is as for any call.
+    fn count_show(&mut self) -> Option<u64>
+        ensures counts { self.new ≡ showing_once self.old }
+        ensures planned { result ≡ planned_for self.old }
+    {
+        self.shows = raise(self.shows);
+        self.count_call()
     }
 
     // Notes a name whose fetch failed.
@@ -170,7 +231,7 @@ impl Desk for MemoryDesk {
         ensures exact { KeptFetches name.now limit self.old self.new
             (result_map_both (λ v. v.items) (λ e. e) result) }
     {
-        if self.count_call().is_some() {
+        if self.count_fetch().is_some() {
             return Err(self.miss(name));
         }
         let content = match self.held(name) {
@@ -198,7 +259,7 @@ impl Desk for MemoryDesk {
         ensures promised { Stores name.now bytes.now (seen_of self.old) (seen_of self.new) result }
         ensures exact { KeptStores name.now bytes.now self.old self.new result }
     {
-        let planned = self.count_call();
+        let planned = self.count_store();
         if self.put(name, part(bytes, planned)).is_err() {
             self.starved = raise(self.starved);
             return Err(StoreFault::Memory);
@@ -214,7 +275,7 @@ impl Desk for MemoryDesk {
         ensures promised { DeskShows line.now (seen_of self.old) (seen_of self.new) result }
         ensures exact { KeptShows line.now self.old self.new result }
     {
-        let planned = self.count_call();
+        let planned = self.count_show();
         if self.shown.extend_from_slice(part(line, planned)).is_err() {
             self.show_starved = raise(self.show_starved);
             return Err(StoreFault::Memory);

@@ -31,6 +31,9 @@ pub struct RealDesk<'r, R: Runtime> {
     write_faults: u64,
     taken: usize,
     show_faults: u64,
+    fetches: u64,
+    stores: u64,
+    shows: u64,
 }
 
 impl<'r, R: Runtime> Model for RealDesk<'r, R> {
@@ -43,11 +46,14 @@ impl<'r, R: Runtime> Model for RealDesk<'r, R> {
       write_faults = d.write_faults;
       taken = d.taken;
       show_faults = d.show_faults;
+      fetches = d.fetches;
+      stores = d.stores;
+      shows = d.shows;
     } };
 }
 
 impl<'r, R: Runtime> RealDesk<'r, R> {
-    /// A desk over that runtime, before its first call. It takes no memory.
+    /// A desk over that runtime, before its first call: each count is 0. It takes no memory.
     pub fn new(alloc: Global, rt: &'r R) -> RealDesk<'r, R>
         ensures { result ≡ unnoted }
     {
@@ -57,6 +63,9 @@ impl<'r, R: Runtime> RealDesk<'r, R> {
             write_faults: 0,
             taken: 0,
             show_faults: 0,
+            fetches: 0,
+            stores: 0,
+            shows: 0,
         }
     }
 }
@@ -65,6 +74,7 @@ impl<'r, R: Runtime> Desk for RealDesk<'r, R> {
     ghost seen = { noted_seen };
 
     fn fetch(&mut self, alloc: Global, name: &str, limit: usize) -> Result<Vec<u8>, FetchFault> {
+        self.fetches = raise(self.fetches);
         self.taken = 0;
         // The memory for the note comes first, so that a read that fails can always be noted.
         let note = match note_of(alloc, name, &mut self.missed) {
@@ -84,6 +94,7 @@ impl<'r, R: Runtime> Desk for RealDesk<'r, R> {
     }
 
     fn store(&mut self, name: &str, bytes: &[u8]) -> Result<(), StoreFault> {
+        self.stores = raise(self.stores);
         if write_output(self.rt, name, bytes).is_err() {
             self.write_faults = raise(self.write_faults);
             return Err(StoreFault::Failed);
@@ -92,6 +103,7 @@ impl<'r, R: Runtime> Desk for RealDesk<'r, R> {
     }
 
     fn show(&mut self, line: &[u8]) -> Result<(), StoreFault> {
+        self.shows = raise(self.shows);
         if print_line(self.rt, line).is_err() {
             self.show_faults = raise(self.show_faults);
             return Err(StoreFault::Failed);

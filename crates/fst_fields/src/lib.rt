@@ -1,7 +1,8 @@
 //! Lines of a text, fields of a line and decimal numbers: what every text form of the project is read with.
 //!
 //! `next_line` and `next_field` take the first line and the first field off a slice, without a copy;
-//! `read_decimal` reads a field as a whole number, and `read_label` as the number of a label.
+//! `read_row` gives the two fields of a line; `read_decimal` reads a field as a whole number, and `read_label` as
+//! the number of a label.
 #![tactic(auto)]
 
 mod decimal;
@@ -10,4 +11,4 @@ mod lines;
 
 pub use decimal::{MOST_LABEL, read_decimal, read_label};
 pub use laws::printed_decimal_reads_again;
-pub use lines::{next_field, next_line};
+pub use lines::{next_field, next_line, read_row};

@@ -1,8 +1,10 @@
 //! The first line of a text and the first field of a line.
 
 ghost use Rattle.std.specs.Prelude.{◌≡◌, ◌∷◌, [], ◌<◌, ◌≤◌, true, MatchOption, IfSome, length};
+ghost use Rattle.std.specs.Option.{option_map};
 ghost use Rattle.std.specs.List.{prefix_len, position_or_len};
 ghost use Rattle.fst_fields.specs.Lines.{lines_of, fields_of, begins_field, is_separator, is_line_end};
+ghost use Rattle.fst_fields.specs.Texts.{row_of};
 
 use memchr::memchr;
 
@@ -88,4 +90,19 @@ pub fn next_field(line: &[u8]) -> Option<(&[u8], &[u8])>
     }
     let end = field_length(line);
     Some((&line[..end], &line[end..]))
+}
+
+/// The row of a line: its two fields, or nothing where the line is blank. `None` exactly where the line has one
+/// field, or more than two. Takes no memory.
+pub fn read_row(line: &[u8]) -> Option<Option<(&[u8], &[u8])>>
+    ensures { option_map (option_map (λ p. (p.0.now, p.1.now))) result ≡ row_of (fields_of line.now) }
+{
+    let Some((first, rest)) = next_field(line) else {
+        return Some(None);
+    };
+    let (second, rest) = next_field(rest)?;
+    if next_field(rest).is_some() {
+        return None;
+    }
+    Some(Some((first, second)))
 }

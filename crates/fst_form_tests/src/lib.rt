@@ -15,6 +15,8 @@ mod codices;
 #[cfg(test)]
 mod fields;
 #[cfg(test)]
+mod numbers;
+#[cfg(test)]
 mod symbols;
 #[cfg(test)]
 mod texts;

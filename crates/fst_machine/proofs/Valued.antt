@@ -5,13 +5,11 @@ use Rattle.std.specs.Option.{option_map}
 use Rattle.std.specs.Prelude.{IfSome}
 use Rattle.std.proofs.Math.ListN.{get_or-map}
 use Rattle.std.proofs.lemmas.List.{length-map}
+use Rattle.std.proofs.lemmas.Option.{same_Some}
 use Rattle.std.proofs.lemmas.List.Elements.{All-map, All-weaker}
 use Rattle.std.proofs.lemmas.List.Sums.{sum_by-cons}
 use Rattle.fst_semiring.specs.Cost.{Cost}
 use Rattle.fst_machine.specs.Machine.{Arc, State, Machine, IsArc, IsMachine, arc_total, valued, valued_arc, valued_state}
-
-some_is : {X : Type 0} (x y : X) → Some x ≡ Some y → x ≡ y
-some_is x y e = cc
 
 -- a state that is known by its two parts stands in its place
 pub stands : {V : Type 0} (states : List (State V)) (i : ℕ) (last : V) (arcs : List (Arc V ℕ)) → option_map (λ s. s.final) (slice_get states i) ≡ Some last → option_map (λ s. s.arcs) (slice_get states i) ≡ Some arcs → slice_get states i ≡ Some (record { final = last; arcs = arcs })
@@ -19,7 +17,7 @@ stands {V} states i last arcs f a = by_option (slice_get states i) f a
   where
     by_option : (o : Option (State V)) → option_map (λ s. s.final) o ≡ Some last → option_map (λ s. s.arcs) o ≡ Some arcs → o ≡ Some (record { final = last; arcs = arcs })
     by_option None f a = absurd cc
-    by_option (Some s) f a = rw (← some_is _ _ f, ← some_is _ _ a) refl
+    by_option (Some s) f a = rw (← same_Some _ _ f, ← same_Some _ _ a) refl
 
 -- the values of weights are as many as the weights
 pub arc_total-valued : {V : Type 0} (value : V → Cost) (states : List (State V)) → arc_total (map (valued_state value) states) ≡ arc_total states

@@ -3,7 +3,7 @@
 ghost use Rattle.std.specs.Prelude.{◌<◌, ◌≤◌};
 ghost use Rattle.fst_machine.specs.Machine.{most_states};
 
-use crate::machines::{is_text, machine};
+use crate::machines::{chain, is_text, machine, same};
 use fst_compose::{ComposeFault, ComposeKey, compose, expand, key_final};
 use fst_machine::Fst;
 use fst_semiring::{Tropical, Weight};
@@ -100,5 +100,21 @@ fn gives_the_arcs_of_one_name(rt: HostRuntime) -> Result<(), Fail> {
     assert!(rt; arcs.len() == 1);
     assert!(rt; arcs[0].ilabel == 0 && arcs[0].olabel == 9 && arcs[0].next == key(1));
     assert!(rt; key_final(&a, &b, key(0)) == Tropical::zero().widen());
+    Ok(())
+}
+
+#[test]
+fn makes_as_many_names_as_the_limit(rt: HostRuntime) -> Result<(), Fail> {
+    let alloc = rt.alloc();
+    let mut a = chain(&rt, alloc, 6_001, true)?;
+    let states = a.states();
+    assert!(rt; states == 6_001);
+    a.set_start(0);
+    a.set_final(6_000, Tropical::one());
+    let b = machine(alloc, b"0 0 1 1\n0\n")?;
+    let made = compose(alloc, &a, &b, 6_001)?;
+    same(&rt, &made.fst, &a);
+    let fault = compose(alloc, &a, &b, 6_000).err();
+    assert!(rt; fault == Some(ComposeFault::StateLimit { limit: 6_000 }));
     Ok(())
 }

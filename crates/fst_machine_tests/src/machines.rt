@@ -1,7 +1,7 @@
 //! Machines from texts, and the machines of the comparisons, for each arc type.
 
-use fst_machine::{Fst, GrowFault};
-use fst_semiring::{ArcType, Weight};
+use fst_machine::{Fst, FstArc, GrowFault};
+use fst_semiring::{ArcType, Tropical, Weight};
 use fst_text::{TextOptions, compile};
 use std::alloc::Global;
 use std::process::Abort;
@@ -65,8 +65,34 @@ fn copy_state<W: Weight>(
     Ok(())
 }
 
+/// A machine with so many states, each but the last with an arc to the next where `linked` is set.
+pub(crate) fn chain(
+    rt: &impl Abort,
+    alloc: Global,
+    states: u32,
+    linked: bool,
+) -> Result<Fst<Tropical>, GrowFault> {
+    let mut fst: Fst<Tropical> = Fst::new(alloc);
+    for _ in 0..states {
+        fst.add_state()?;
+    }
+    let arcs = if linked { states } else { 0 };
+    for next in 1..arcs {
+        let count = fst.states();
+        assert!(rt; next < count);
+        let arc = FstArc {
+            ilabel: 1,
+            olabel: 1,
+            weight: Tropical::one(),
+            next,
+        };
+        fst.add_arc(next - 1, arc)?;
+    }
+    Ok(fst)
+}
+
 /// Asks that two machines have the same start, states, final weights and arcs, in the same order.
-fn same<W: Weight>(rt: &impl Abort, a: &Fst<W>, b: &Fst<W>) {
+pub(crate) fn same<W: Weight>(rt: &impl Abort, a: &Fst<W>, b: &Fst<W>) {
     assert_eq!(rt; a.start(), b.start());
     assert!(rt; a.states() == b.states());
     for state in 0..a.states() {

@@ -27,13 +27,24 @@ static GIVEN: [(&[(u32, &[u8])], &[u8]); 3] = [
 ];
 
 /// Labels with machines, and the label of the first rule that is reached and calls itself.
-static RECURSIVE: [(&[(u32, &[u8])], u32); 3] = [
+static RECURSIVE: [(&[(u32, &[u8])], u32); 4] = [
     (&[(100, ROOT), (5, b"0 1 1 5\n1\n")], 5),
     (
         &[
             (100, b"0 1 1 7\n1\n"),
             (6, b"0 1 1 7\n1\n"),
             (7, b"0 1 1 6\n1\n"),
+        ],
+        6,
+    ),
+    // A ring of four, which the root calls.
+    (
+        &[
+            (100, b"0 1 1 8\n1\n"),
+            (6, b"0 1 1 7\n1\n"),
+            (7, b"0 1 1 8\n1\n"),
+            (8, b"0 1 1 9\n1\n"),
+            (9, b"0 1 1 6\n1\n"),
         ],
         6,
     ),

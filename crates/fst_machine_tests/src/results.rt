@@ -1,13 +1,11 @@
 //! What each operation makes of small tropical machines, by hand.
 
-use crate::machines::{is_text, machine, without_start};
+use crate::machines::{chain, is_text, machine, without_start};
 use crate::operations::{Change, apply};
-use fst_machine::{Fst, FstArc, GrowFault, MOST_STATES};
+use fst_machine::{Fst, MOST_STATES};
 use fst_rational::{PairsFault, RationalFault, concat, read_pairs, relabel, union};
 use fst_semiring::{Tropical, Weight};
 use fst_trim::connect;
-use std::alloc::Global;
-use std::process::Abort;
 use std::test::Fail;
 
 /// One arc from state 0 to state 1.
@@ -137,32 +135,6 @@ fn joins_two_machines(rt: HostRuntime) -> Result<(), Fail> {
         is_text(&rt, alloc, &made, want)?;
     }
     Ok(())
-}
-
-/// A machine with so many states, each but the last with an arc to the next where `linked` is set.
-fn chain(
-    rt: &impl Abort,
-    alloc: Global,
-    states: u32,
-    linked: bool,
-) -> Result<Fst<Tropical>, GrowFault> {
-    let mut fst: Fst<Tropical> = Fst::new(alloc);
-    for _ in 0..states {
-        fst.add_state()?;
-    }
-    let arcs = if linked { states } else { 0 };
-    for next in 1..arcs {
-        let count = fst.states();
-        assert!(rt; next < count);
-        let arc = FstArc {
-            ilabel: 1,
-            olabel: 1,
-            weight: Tropical::one(),
-            next,
-        };
-        fst.add_arc(next - 1, arc)?;
-    }
-    Ok(fst)
 }
 
 #[test]

@@ -3,20 +3,17 @@ use Rattle.std.proofs.Common.{◌≡◌, ℕ, ◌+◌, ◌≤◌, zero, suc, Lis
 use Rattle.std.specs.Option.{option_map}
 use Rattle.std.proofs.lemmas.List.{map_more, take-map}
 use Rattle.std.proofs.lemmas.List.Sums.{sum_by-cons, sum_by-append, sum_by-take-le, sum_by_push}
-use Rattle.std.proofs.lemmas.Option.{get_or_from_slice_get, slice_get_within}
+use Rattle.std.proofs.lemmas.Option.{get_or_from_slice_get, same_Some, slice_get_within}
 use Rattle.fst_machine.proofs.Arcs.{mapped_some}
 use Rattle.fst_machine.proofs.Valued.{arc_total-valued, stands}
 use Rattle.fst_rational.specs.Changing.{goings, onward}
 use Rattle.fst_semiring.specs.Cost.{Cost}
 use Rattle.fst_machine.specs.Machine.{Arc, State, arc_total, most_arcs, valued_arc, valued_state}
 
-some_is : {X : Type 0} (x y : X) → Some x ≡ Some y → x ≡ y
-some_is x y e = cc
-
 -- one more of the items, mapped twice
 one_more : {X Y Z : Type 0} (g : X → Y) (f : Y → Z) (xs : List X) (i : ℕ) (x : X) → slice_get xs i ≡ Some x → map f (map g (take (suc i) xs)) ≡ map f (map g (take i xs)) ++ f (g x) ∷ []
 one_more g f [] i x e = absurd cc
-one_more g f (y ∷ xs) zero x e = ap (λ z. f (g z) ∷ []) (some_is y x e)
+one_more g f (y ∷ xs) zero x e = ap (λ z. f (g z) ∷ []) (same_Some y x e)
 one_more g f (y ∷ xs) (suc i) x e = ap (λ zs. f (g y) ∷ zs) (one_more g f xs i x e)
 
 pub taken_more : {X Y Z : Type 0} (g : X → Y) (f : Y → Z) (xs : List X) (i : ℕ) (x : X) → slice_get xs i ≡ Some x → map f (map g (take (i + 1) xs)) ≡ map f (map g (take i xs)) ++ f (g x) ∷ []

@@ -1,14 +1,8 @@
 -- Machines whose states are changed one by one.
-use Rattle.std.specs.Prelude.{ℕ, Bool, true, false, List, [], ◌++◌, length, sum_by, map, Option, None, Some}
-use Rattle.fst_semiring.specs.Cost.{Cost, best, finite, infinite}
+use Rattle.std.specs.Prelude.{ℕ, List, [], ◌++◌, length, sum_by, map, Option, None, Some}
+use Rattle.fst_semiring.specs.Cost.{Cost}
 use Rattle.fst_machine.specs.Machine.{Arc, State}
 use Rattle.fst_machine.specs.Continuing.{leaving}
-
--- whether a value is Zero
-abbrev pub is_infinite : Cost → Bool
-is_infinite infinite = true
-is_infinite best = false
-is_infinite (finite a b) = false
 
 -- the epsilon arc by which a state with this final weight goes on, where there is somewhere to go
 abbrev pub onward : Cost → Option ℕ → List (Arc Cost ℕ)

@@ -1,8 +1,10 @@
 -- The pairs of a text, and the first fault of a text that has none. (OpenFst manual, "fstrelabel": a line of a
 -- file of pairs has an old label and its new label. The range of the labels is this project's own.)
-use Rattle.std.specs.Prelude.{◌≡◌, ℕ, ◌+◌, ◌==◌, nat_eq, List, [], ◌∷◌, ◌++◌, map, Option, None, Some, Result, Ok, Err, if◌then◌else◌}
+use Rattle.std.specs.Prelude.{ℕ, ◌==◌, nat_eq, List, [], ◌∷◌, ◌++◌, map, Option, None, Some, Result, Ok, Err, if◌then◌else◌}
 use Rattle.std.specs.List.{list_any}
-use Rattle.fst_fields.specs.Lines.{fields_of, lines_of}
+use Rattle.fst_fields.specs.Reading as reading
+use Rattle.fst_fields.specs.Reading.{◌>>=◌}
+use Rattle.fst_fields.specs.Texts.{read_text, row_of}
 use Rattle.fst_fields.specs.Decimal.{label_of_text}
 use Rattle.fst_rational.specs.declared.pairs.PairsFault.{PairsFault}
 use Rattle.fst_rational.specs.declared.pairs.PairsFault.TheVariants.{BadColumns, BadLabel, Duplicate, Memory}
@@ -20,44 +22,23 @@ old_label field = elim (label_of_text field) [ None ↦ None | Some n ↦ if n =
 abbrev pub with_pair : ℕ → List Pair → ℕ → ℕ → Result (List Pair) PairsFault
 with_pair line before old new = if list_any (nat_eq old) (map (λ p. p.old) before) then Err (Duplicate line) else Ok (before ++ record { old = old; new = new } ∷ [])
 
--- the pairs before and that of a line with two fields
-abbrev pub with_row : ℕ → List Pair → List ℕ → List ℕ → Result (List Pair) PairsFault
-with_row line before old new = elim (old_label old) [ None ↦ Err (BadLabel line) | Some o ↦ elim (label_of_text new) [ None ↦ Err (BadLabel line) | Some n ↦ with_pair line before o n ] ]
+-- the labels of a line with these fields; a blank line has none
+abbrev pub pair_of : ℕ → List (List ℕ) → Result (Option (ℕ × ℕ)) PairsFault
+pair_of line fields = elim (row_of fields) [ None ↦ Err (BadColumns line) | Some row ↦ elim row [ None ↦ Ok None | Some p ↦ elim (old_label p.0) [ None ↦ Err (BadLabel line) | Some o ↦ elim (label_of_text p.1) [ None ↦ Err (BadLabel line) | Some n ↦ Ok (Some (o, n)) ] ] ] ]
+
+-- the pairs before and that of two labels, if there are any
+abbrev pub with_row : ℕ → List Pair → Option (ℕ × ℕ) → Result (List Pair) PairsFault
+with_row line before None = Ok before
+with_row line before (Some p) = with_pair line before p.0 p.1
 
 -- the pairs before and that of a line with these fields; a blank line says nothing
 abbrev pub after_line : ℕ → List Pair → List (List ℕ) → Result (List Pair) PairsFault
-after_line line before [] = Ok before
-after_line line before (old ∷ new ∷ []) = with_row line before old new
-after_line line before _ = Err (BadColumns line)
-
-infixl 10 ◌>>=◌
--- reading goes on with what was read, or ends with the first fault
-abbrev pub ◌>>=◌ : {A B : Type 0} → Result A PairsFault → (A → Result B PairsFault) → Result B PairsFault
-(Ok a) >>= f = f a
-(Err e) >>= f = Err e
-
--- the pairs before and those of lines, of which the first has this number
-abbrev pub after_lines : ℕ → List Pair → List (List (List ℕ)) → Result (List Pair) PairsFault
-after_lines line before [] = Ok before
-after_lines line before (fields ∷ lines) = after_line line before fields >>= λ pairs. after_lines (line + 1) pairs lines
+after_line line before fields = pair_of line fields >>= with_row line before
 
 -- the pairs of a text, or the first fault of its first faulty line
 abbrev pub pairs_of_text : List ℕ → Result (List Pair) PairsFault
-pairs_of_text text = after_lines 1 [] (map fields_of (lines_of text))
+pairs_of_text text = read_text after_line [] text
 
--- a fault is the one that reading gives, unless memory ran out
-abbrev pub Fails : {Y : Type 0} → PairsFault → Result Y PairsFault → Type 0
-Fails Memory read = Unit {0}
-Fails (BadColumns line) read = read ≡ Err (BadColumns line)
-Fails (BadLabel line) read = read ≡ Err (BadLabel line)
-Fails (Duplicate line) read = read ≡ Err (Duplicate line)
-
--- what was returned, seen by view, is what reading gives, unless memory ran out
+-- what was returned, seen by view, is what reading gives, or memory ran out
 abbrev pub Gives : {X Y : Type 0} → (X → Y) → Result X PairsFault → Result Y PairsFault → Type 0
-Gives view (Ok x) read = read ≡ Ok (view x)
-Gives view (Err fault) read = Fails fault read
-
--- what a call has made of the pairs, or the fault that reading gives, unless memory ran out
-abbrev pub Adds : {X : Type 0} → List Pair → Result X PairsFault → Result (List Pair) PairsFault → Type 0
-Adds pairs (Ok x) read = read ≡ Ok pairs
-Adds pairs (Err fault) read = Fails fault read
+Gives view result read = reading.Gives Memory view result read

@@ -3,11 +3,11 @@
 ghost use Rattle.std.specs.Prelude.{◌≡◌, ◌<◌, ◌≤◌, ◌+◌, ◌++◌, ◌∷◌, [], All, IfSome, OnOk, length, map};
 ghost use Rattle.fst_machine.specs.Graph.{renamed};
 ghost use Rattle.fst_machine.specs.Machine.{IsArc, arc_total, most_arcs, most_states, valued_arc, valued_state};
-ghost use Rattle.fst_rational.specs.Changing.{changed_state, goings, is_infinite, onward};
+ghost use Rattle.fst_rational.specs.Changing.{changed_state, goings, onward};
 ghost use Rattle.fst_rational.specs.Constructions.{entry, kept};
 
 use fst_machine::{Fst, FstArc, StateList};
-use fst_semiring::Weight;
+use fst_semiring::{Weight, is_zero};
 use std::alloc::AllocError;
 
 /// What a construction makes of each state.
@@ -43,13 +43,6 @@ pub(crate) trait Change<W: Weight> {
         ensures { result ≡ target self.now };
 }
 
-/// Whether a weight is Zero.
-pub(crate) fn is_zero<W: Weight>(weight: W) -> bool
-    ensures { result ≡ is_infinite (W.value weight) }
-{
-    W::key(weight.widen()).class == 2
-}
-
 /// Puts each arc, changed, behind those of a list.
 fn put_arcs<W: Weight, C: Change<W>>(
     out: &mut Vec<FstArc<W>>,
@@ -67,7 +60,7 @@ fn put_arcs<W: Weight, C: Change<W>>(
 }
 
 /// Puts the epsilon arc by which a state with this final weight goes on, if it does, behind those of a list.
-pub(crate) fn put_onward<W: Weight>(
+pub fn put_onward<W: Weight>(
     out: &mut Vec<FstArc<W>>,
     last: W,
     target: Option<u32>,
@@ -211,7 +204,7 @@ fn goes_on<W: Weight>(last: W, target: Option<u32>) -> u32
 }
 
 /// How many states go on by an epsilon arc where the target is this one.
-pub(crate) fn count_onward<W: Weight>(fst: &Fst<W>, target: Option<u32>) -> u32
+pub fn count_onward<W: Weight>(fst: &Fst<W>, target: Option<u32>) -> u32
     ensures count { result ≡ goings target (map (valued_state W.value) fst.now.states) }
     ensures few { result ≤ length fst.now.states }
 {

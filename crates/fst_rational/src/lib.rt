@@ -14,10 +14,12 @@ mod reversal;
 mod size;
 mod unite;
 
+pub use change::{count_onward, put_onward};
 pub use close::closure;
 pub use concatenate::concat;
 pub use fault::RationalFault;
 pub use labels::{invert, project, relabel};
 pub use pairs::{Pairs, PairsFault, read_pairs};
 pub use reversal::reverse;
+pub use size::entries;
 pub use unite::union;

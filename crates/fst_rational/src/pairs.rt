@@ -1,14 +1,15 @@
 //! Pairs of an old and a new label.
 
-ghost use Rattle.std.specs.Prelude.{◌≡◌, ◌<◌, ◌≤◌, [], IfOk};
+ghost use Rattle.std.specs.Prelude.{◌≡◌, ◌<◌, ◌≤◌, [], IfOk, IfSome};
 ghost use Rattle.fst_fields.specs.Lines.{fields_of};
+ghost use Rattle.fst_fields.specs.Texts.{IsRead};
 ghost use Rattle.fst_machine.specs.Machine.{greatest_label};
 ghost use Rattle.fst_rational.specs.Labels.{IsPairs};
-ghost use Rattle.fst_rational.specs.Pairs.{Adds, Gives, after_line, pairs_of, pairs_of_text, with_pair, with_row};
+ghost use Rattle.fst_rational.specs.Pairs.{Gives, after_line, pair_of, pairs_of, pairs_of_text, with_pair};
 
-use fst_fields::{next_field, next_line, read_label};
+use fst_fields::{next_line, read_label, read_row};
 use indexmap::IndexMap;
-use std::alloc::Global;
+use std::alloc::{AllocError, Global};
 use std::marker::Model;
 
 /// Why a text has no pairs: the first fault of the first faulty line. Lines count from 1, blank ones included. In
@@ -62,53 +63,75 @@ impl Pairs {
         &self.news
     }
 
-    /// Adds a pair. After an error the pairs are as before.
-    fn add(&mut self, line: u64, old: u32, new: u32) -> Result<(), PairsFault>
+    /// Adds a pair; the fault, where its old label is there. After either error the pairs are as before.
+    fn add(&mut self, line: u64, old: u32, new: u32) -> Result<Result<(), PairsFault>, AllocError>
         requires label { 0 < old }
         requires old { old ≤ greatest_label }
         requires new { new ≤ greatest_label }
-        ensures { Adds self.new result (with_pair line self.old old new) }
+        ensures { IfOk result (λ r. IsRead (λ x. self.new) r (with_pair line self.old old new)) }
     {
         if self.news.get(&old).is_some() {
-            return Err(PairsFault::Duplicate { line });
+            return Ok(Err(PairsFault::Duplicate { line }));
         }
         let Ok(_) = self.news.insert(old, new) else {
-            return Err(PairsFault::Memory);
+            return Err(AllocError);
         };
-        Ok(())
+        Ok(Ok(()))
     }
 
-    /// Adds a row of two fields. After an error the pairs are as before.
-    fn add_row(&mut self, line: u64, old: &[u8], new: &[u8]) -> Result<(), PairsFault>
-        ensures { Adds self.new result (with_row line self.old old.now new.now) }
+    /// Adds a line, which has this number. After either error the pairs are as before.
+    fn add_line(&mut self, line: u64, text: &[u8]) -> Result<Result<(), PairsFault>, AllocError>
+        ensures { IfOk result (λ r. IsRead (λ x. self.new) r (after_line line self.old (fields_of text.now))) }
     {
-        let Some(old) = read_label(old) else {
-            return Err(PairsFault::BadLabel { line });
-        };
-        if old == 0 {
-            return Err(PairsFault::BadLabel { line });
+        match read_pair(line, text) {
+            Ok(Some((old, new))) => self.add(line, old, new),
+            Ok(None) => Ok(Ok(())),
+            Err(fault) => Ok(Err(fault)),
         }
-        let Some(new) = read_label(new) else {
-            return Err(PairsFault::BadLabel { line });
-        };
-        self.add(line, old, new)
     }
+}
 
-    /// Adds a line, which has this number. After an error the pairs are as before.
-    fn add_line(&mut self, line: u64, text: &[u8]) -> Result<(), PairsFault>
-        ensures { Adds self.new result (after_line line self.old (fields_of text.now)) }
-    {
-        let Some((old, rest)) = next_field(text) else {
-            return Ok(());
-        };
-        let Some((new, rest)) = next_field(rest) else {
-            return Err(PairsFault::BadColumns { line });
-        };
-        if next_field(rest).is_some() {
-            return Err(PairsFault::BadColumns { line });
-        }
-        self.add_row(line, old, new)
+/// The old and the new label of a line; nothing where the line is blank. Takes no memory.
+fn read_pair(line: u64, text: &[u8]) -> Result<Option<(u32, u32)>, PairsFault>
+    ensures read { result ≡ pair_of line (fields_of text.now) }
+    ensures label { IfOk result (λ row. IfSome row (λ p. 0 < p.0)) }
+    ensures old { IfOk result (λ row. IfSome row (λ p. p.0 ≤ greatest_label)) }
+    ensures new { IfOk result (λ row. IfSome row (λ p. p.1 ≤ greatest_label)) }
+{
+    let Some(row) = read_row(text) else {
+        return Err(PairsFault::BadColumns { line });
+    };
+    let Some((old, new)) = row else {
+        return Ok(None);
+    };
+    let Some(old) = read_label(old) else {
+        return Err(PairsFault::BadLabel { line });
+    };
+    if old == 0 {
+        return Err(PairsFault::BadLabel { line });
     }
+    let Some(new) = read_label(new) else {
+        return Err(PairsFault::BadLabel { line });
+    };
+    Ok(Some((old, new)))
+}
+
+/// Reads the pairs of a text; the fault is the first one of the first faulty line.
+fn read_lines(alloc: Global, bytes: &[u8]) -> Result<Result<Pairs, PairsFault>, AllocError>
+    ensures { IfOk result (λ r. IsRead (λ p. p) r (pairs_of_text bytes.now)) }
+{
+    let mut pairs = Pairs::new(alloc);
+    let mut rest = bytes;
+    let mut line: u64 = 0;
+    while let Some((first, behind)) = next_line(rest) {
+        line += 1;
+        match pairs.add_line(line, first)? {
+            Ok(()) => {}
+            Err(fault) => return Ok(Err(fault)),
+        }
+        rest = behind;
+    }
+    Ok(Ok(pairs))
 }
 
 /// The pairs of a text: each line that is not blank has an old label, which is not 0, and its new label.
@@ -118,17 +141,12 @@ pub fn read_pairs(alloc: Global, bytes: &[u8]) -> Result<Pairs, PairsFault>
     ensures read { Gives (λ p. p) result (pairs_of_text bytes.now) }
     ensures pairs { IfOk result IsPairs }
 {
-    let mut pairs = Pairs::new(alloc);
-    let mut rest = bytes;
-    let mut line: u64 = 0;
-    while let Some((first, behind)) = next_line(rest) {
-        line += 1;
-        match pairs.add_line(line, first) {
-            Ok(()) => {}
-            Err(fault) => return Err(fault),
+    match read_lines(alloc, bytes) {
+        Ok(Ok(pairs)) => {
+            let _ = pairs.news();
+            Ok(pairs)
         }
-        rest = behind;
+        Ok(Err(fault)) => Err(fault),
+        Err(_) => Err(PairsFault::Memory),
     }
-    let _ = pairs.news();
-    Ok(pairs)
 }

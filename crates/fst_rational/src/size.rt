@@ -20,7 +20,7 @@ pub(crate) fn check_size(states: u32, arcs: u32) -> Option<RationalFault>
 }
 
 /// How many arcs enter a machine with this start.
-pub(crate) fn entries(start: Option<u32>) -> u32
+pub fn entries(start: Option<u32>) -> u32
     ensures { result ≡ start_count start }
 {
     if start.is_some() { 1 } else { 0 }

@@ -29,10 +29,6 @@ pub none_is : {T : Type 0} (A : Type 0) (P : T → Type 0) (o : Option T) → o 
 none_is A P None e h = h
 none_is A P (Some t) e h = absurd (cc)
 
-pub some_is : {T : Type 0} (A : Type 0) (P : T → Type 0) (o : Option T) (t : T) → o ≡ Some t → MatchOption o A P → P t
-some_is A P None t e h = absurd (cc)
-some_is {T} A P (Some u) t e h = let same : u ≡ t = cc in subst P same h
-
 module _ {X : Type 0} (rules : List (Labelled Cost)) where
   -- a machine is made
   pub made_recurs : (x : X) → IsFine rules → Recurs {X = X} rules (Ok x)
@@ -44,19 +40,12 @@ module _ {X : Type 0} (rules : List (Labelled Cost)) where
     arcs = ((λ e. absurd (cc)), (λ r. absurd (let over = r.2 in let few = h.arcs in omega (arith, over, few))));
   }
 
-  -- memory runs out
-  pub memory_recurs : Recurs {X = X} rules (Err Memory)
-  memory_recurs label = ((λ e. absurd (cc)), (λ r. inr refl))
-
-  pub memory_limited : IsLimited {X = X} rules (Err Memory)
-  memory_limited = record { states = ((λ e. absurd (cc)), (λ r. inr refl)); arcs = ((λ e. absurd (cc)), (λ r. inr refl)) }
-
   -- there is a cause
   pub cause_recurs : (fault : ReplaceFault) → IsCause rules fault → Recurs {X = X} rules (Err fault)
   cause_recurs (Recursive l) h label = ((λ e. subst (IsRecursiveLabel rules) (let z : ◌≡◌ {A = Result X ReplaceFault} (Err (Recursive l)) (Err (Recursive label)) = e in cc) h), (λ r. inl (ap (λ (n : ℕ). Err (Recursive n)) (one_label rules l label h r))))
   cause_recurs TooManyStates h label = ((λ e. absurd (cc)), (λ r. absurd (h.0 r.0 r.2.recursive)))
   cause_recurs TooManyArcs h label = ((λ e. absurd (cc)), (λ r. absurd (h.0 r.0 r.2.recursive)))
-  cause_recurs Memory h label = memory_recurs label
+  cause_recurs Memory h label = absurd h
 
   pub cause_limited : (fault : ReplaceFault) → IsCause rules fault → IsLimited {X = X} rules (Err fault)
   cause_limited (Recursive l) h = record {
@@ -71,4 +60,4 @@ module _ {X : Type 0} (rules : List (Labelled Cost)) where
     states = ((λ e. absurd (cc)), (λ r. absurd (let over = r.1 in let few = h.1 in omega (arith, over, few))));
     arcs = ((λ e. h), (λ r. inl refl));
   }
-  cause_limited Memory h = memory_limited
+  cause_limited Memory h = absurd h

@@ -16,6 +16,7 @@ use Rattle.fst_semiring.specs.Cost.{Cost}
 use Rattle.fst_machine.specs.BreadthFirst.{Has}
 use Rattle.fst_machine.specs.Machine.{IsMachine, Machine, greatest_label, no_states}
 use Rattle.fst_machine.proofs.Arcs.{mapped_some}
+use Rattle.fst_rational.proofs.Reading.{is_some-map, none_of}
 use Rattle.fst_replace.specs.Rules.{IsRules, Labelled, labels_of, machine_at}
 
 eq_true : (n x : ℕ) → n ≡ x → nat_eq n x ≡ true
@@ -41,15 +42,6 @@ Has_any n (x ∷ xs) (inr h) = by_place (Has_any n xs h) (cases_eq x n)
     by_place : list_any (nat_eq n) xs ≡ true → (x ≡ n) ⊎ (x ≡ n → ⊥) → list_any (nat_eq n) (x ∷ xs) ≡ true
     by_place more (inl same) = ap (λ b. b || list_any (nat_eq n) xs) (eq_true n x (sym same))
     by_place more (inr other) = ap (λ b. b || list_any (nat_eq n) xs) (eq_false n x other) ∙ more
-
-none_of : {X : Type 0} (r : Option X) → is_some r ≡ false → r ≡ None
-none_of None e = refl
-none_of (Some x) e = cc
-
--- the same by what a value is seen as
-is_some-map : {X Y : Type 0} (f : X → Y) (r : Option X) (s : Option Y) → option_map f r ≡ s → is_some s ≡ is_some r
-is_some-map f None s e = ap is_some (sym e)
-is_some-map f (Some x) s e = ap is_some (sym e)
 
 module _ {V X : Type 0} (f : X → Machine V) where
   abbrev pub seen : List (ℕ × X) → List (Labelled V)

@@ -25,12 +25,12 @@ pub record IsLimited {X : Type 0} (rules : List (Labelled Cost)) (result : Resul
   pub states : IsExact result TooManyStates (HasNoRecursion (called rules) × (most_states < length (replaced rules).states))
   pub arcs : IsExact result TooManyArcs (HasNoRecursion (called rules) × (length (replaced rules).states ≤ most_states) × (most_arcs < arc_total (replaced rules).states))
 
--- what a fault says of the rules
+-- what a fault says of the rules; running out of memory is no cause
 abbrev pub IsCause : List (Labelled Cost) → ReplaceFault → Type 0
 IsCause rules (Recursive label) = IsRecursiveLabel rules label
 IsCause rules TooManyStates = HasNoRecursion (called rules) × (most_states < length (replaced rules).states)
 IsCause rules TooManyArcs = HasNoRecursion (called rules) × (length (replaced rules).states ≤ most_states) × (most_arcs < arc_total (replaced rules).states)
-IsCause rules Memory = Unit {0}
+IsCause rules Memory = ⊥
 
 -- rules with no cause of a fault
 pub record IsFine (rules : List (Labelled Cost)) : Type 0 where

@@ -3,7 +3,6 @@
 ghost use Rattle.std.specs.Prelude.{◌≡◌, ◌<◌, ◌≤◌, ◌+◌, ◌++◌, ◌∷◌, ℕ, All, IfOk, IfSome, OnOk, [], length, map, reverse};
 ghost use Rattle.fst_machine.specs.Graph.{renamed};
 ghost use Rattle.fst_machine.specs.Machine.{IsArc, IsMachine, arc_total, most_arcs, most_states, valued, valued_arc, valued_state};
-ghost use Rattle.fst_rational.specs.Changing.{onward};
 ghost use Rattle.fst_rational.specs.Constructions.{carried, kept};
 ghost use Rattle.fst_replace.specs.Calls.{arcs_of, call_of, calls_in, rules_in};
 ghost use Rattle.fst_replace.specs.Expansion.{blocks_size, entered, entered_by, entered_states, entry, replaced};
@@ -12,6 +11,7 @@ ghost use Rattle.fst_replace.specs.Totals.{HasStarts, IsTable, shape_at, shifted
 
 use crate::rule::Rules;
 use fst_machine::{Fst, FstArc, StateList};
+use fst_rational::put_onward;
 use fst_semiring::Weight;
 use std::alloc::{AllocError, Global};
 use std::marker::Model;
@@ -169,29 +169,6 @@ fn kept_weight<W: Weight>(keeps: bool, last: W) -> W
     ensures { W.value result ≡ kept keeps (W.value last) }
 {
     if keeps { last } else { W::zero() }
-}
-
-/// Puts the epsilon arc by which a state with this final weight goes on, if it does, behind those of a list.
-fn put_onward<W: Weight>(
-    out: &mut Vec<FstArc<W>>,
-    last: W,
-    target: Option<u32>,
-) -> Result<(), AllocError>
-    ensures { OnOk result (map (valued_arc W.value) out.new.items ≡ map (valued_arc W.value) out.old.items ++ onward (W.value last) target) }
-{
-    let Some(next) = target else {
-        return Ok(());
-    };
-    if W::key(last.widen()).class == 2 {
-        return Ok(());
-    }
-    out.push(FstArc {
-        ilabel: 0,
-        olabel: 0,
-        weight: last,
-        next,
-    })?;
-    Ok(())
 }
 
 /// Puts a state with this final weight and these arcs behind the others.

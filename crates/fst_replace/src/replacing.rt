@@ -4,7 +4,7 @@ ghost use Rattle.std.specs.Prelude.{◌≡◌, ◌<◌, ◌≤◌, ◌+◌, ℕ,
 ghost use Rattle.fst_machine.specs.BreadthFirst.{Has};
 ghost use Rattle.fst_machine.specs.Machine.{arc_total, most_arcs, most_states, valued};
 ghost use Rattle.fst_replace.specs.Answers.{IsCause, IsFine, IsLimited, Recurs};
-ghost use Rattle.fst_replace.specs.Calls.{Reaches, arcs_of, calls_in, rules_in};
+ghost use Rattle.fst_replace.specs.Calls.{IsRecursive, Reaches, arcs_of, calls_in, rules_in};
 ghost use Rattle.fst_replace.specs.Expansion.{expansion, replaced};
 ghost use Rattle.fst_replace.specs.Relation.{Replaces};
 ghost use Rattle.fst_replace.specs.Rules.{labels_of, machine_at, valued_rules};
@@ -43,7 +43,7 @@ fn shapes_of<W: Weight>(
     Ok(shapes)
 }
 
-/// The fault of rules of which one that the root reaches can call itself.
+/// The fault of rules of which one that the root reaches can call itself, and names it.
 fn recursion_fault<W: Weight>(
     alloc: Global,
     rules: &Rules<'_, W>,
@@ -52,13 +52,14 @@ fn recursion_fault<W: Weight>(
     requires calls { calls.now ≡ map (λ r. rules_in (calls_in (labels_of rules.now) (arcs_of r.machine.states))) rules.now }
     requires root { 0 < length calls.now }
     requires closed { IsClosed calls.now }
+    requires recursive { (i : ℕ) × IsRecursive (at_place calls.now) i }
     ensures { IfOk result (λ fault. IsCause (valued_rules W.value rules.now) fault) }
 {
     match first_recursive(alloc, calls)? {
         Some(rule) => Ok(ReplaceFault::Recursive {
             label: rules.label(rule),
         }),
-        None => Ok(ReplaceFault::Memory),
+        None => unreachable!(),
     }
 }
 

@@ -3,7 +3,6 @@
 ghost use Rattle.std.specs.Prelude.{◌≡◌, ◌<◌, ◌≤◌, ◌+◌, ℕ, IfOk, MatchOption, Some, get_or, length, map, sum_by};
 ghost use Rattle.fst_machine.specs.BreadthFirst.{Has};
 ghost use Rattle.fst_machine.specs.Machine.{arc_total, valued};
-ghost use Rattle.fst_rational.specs.Changing.{onward};
 ghost use Rattle.fst_replace.specs.Calls.{arcs_of, calls_in, rules_in};
 ghost use Rattle.fst_replace.specs.Rules.{labels_of, machine_at};
 ghost use Rattle.fst_replace.specs.Totals.{IsTotal, brings};
@@ -12,6 +11,7 @@ ghost use Rattle.fst_replace.specs.Walks.{IsClosed, IsOrdered, at_place};
 use crate::calls::{CallList, places_at};
 use crate::rule::Rules;
 use fst_machine::Fst;
+use fst_rational::{count_onward, entries};
 use fst_semiring::Weight;
 use std::alloc::{AllocError, Global};
 
@@ -130,30 +130,12 @@ pub(crate) fn plain_counts<W: Weight>(
     Ok(counts)
 }
 
-/// Whether a state with this final weight is final, as a number.
-fn final_count<W: Weight>(last: W) -> u32
-    ensures count { result ≡ length (onward (W.value last) (Some 0)) }
-    ensures one { result ≤ 1 }
-{
-    if W::key(last.widen()).class == 2 {
-        0
-    } else {
-        1
-    }
-}
-
 /// How many arcs a call of this machine brings.
 fn brought_by<W: Weight>(machine: &Fst<W>) -> u32
     ensures { result ≡ brings (valued W.value machine.now) }
 {
-    let mut count = 0;
-    for state in 0..machine.states() {
-        count += final_count(machine.final_weight(state));
-    }
-    if machine.start().is_some() {
-        count += 1;
-    }
-    count
+    let _states = machine.states();
+    entries(machine.start()) + count_onward(machine, Some(0))
 }
 
 /// How many arcs a call of each rule brings.

@@ -1,8 +1,10 @@
 -- A field of a line is a name, and a line has no line end.
-use Rattle.std.proofs.Common.{◌≡◌, ℕ, Bool, true, false, cond, List, [], ◌∷◌, refl, subst, arith}
+use Rattle.std.proofs.Common.{◌≡◌, ℕ, Bool, true, false, cond, List, [], ◌∷◌, Some, ap, refl, subst, arith}
+use Rattle.std.proofs.lemmas.Option.{same_Some}
 use Rattle.std.specs.List.{All, AllByRecursion}
 use Rattle.std.proofs.lemmas.List.Elements.{All-nil, All-cons, All-head, All-tail}
 use Rattle.fst_fields.specs.Lines.{lines_of, fields_of, in_front, is_separator, is_line_end, begins_field}
+use Rattle.fst_fields.specs.Texts.{row_of}
 use Rattle.fst_symbols.specs.Symbols.{IsName, IsNameByte}
 
 -- no byte ends a line
@@ -37,5 +39,15 @@ fields-names (c ∷ cs) inner = go (is_separator c) refl (begins_field cs) (fiel
   go false test false more = (record { filled = omega arith; bytes = All-cons IsNameByte c [] (record { inner = test; on_line = All-head (λ c. is_line_end c ≡ false) c cs inner }) (All-nil IsNameByte) }, more)
 
 -- the first field of a line is a name
-pub first-name : (line first : List ℕ) (others : List (List ℕ)) → All (λ c. is_line_end c ≡ false) line → fields_of line ≡ first ∷ others → IsName first
+first-name : (line first : List ℕ) (others : List (List ℕ)) → All (λ c. is_line_end c ≡ false) line → fields_of line ≡ first ∷ others → IsName first
 first-name line first others inner e = (subst (AllByRecursion IsName) e (fields-names line inner)).0
+
+two_fields : (fields : List (List ℕ)) (first second : List ℕ) → row_of fields ≡ Some (Some (first, second)) → (others : List (List ℕ)) × (fields ≡ first ∷ others)
+two_fields [] first second e = absurd (cc)
+two_fields (x ∷ []) first second e = absurd (cc)
+two_fields (x ∷ y ∷ []) first second e = (y ∷ [], ap (λ z. z ∷ y ∷ []) (ap (λ (p : List ℕ × List ℕ). p.0) (same_Some _ _ (same_Some _ _ e))))
+two_fields (x ∷ y ∷ z ∷ zs) first second e = absurd (cc)
+
+-- and so is the first field of a row
+pub row-name : (line first second : List ℕ) → All (λ c. is_line_end c ≡ false) line → row_of (fields_of line) ≡ Some (Some (first, second)) → IsName first
+row-name line first second inner e = let two = two_fields (fields_of line) first second e in first-name line first two.0 inner two.1

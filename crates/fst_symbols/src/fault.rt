@@ -1,7 +1,5 @@
 //! Why a text is no symbol table.
 
-use std::alloc::AllocError;
-
 /// Why a text is no symbol table: the first fault of the first faulty line. Lines count from 1, blank ones
 /// included. In a line the faults come in the order below.
 #[derive(Clone, Copy, Debug, PartialEq, Eq)]
@@ -16,15 +14,4 @@ pub enum SymbolsFault {
     DuplicateNumber { line: u64 },
     /// There is no memory.
     Memory,
-}
-
-impl From<AllocError> for SymbolsFault {
-    ghost use Rattle.std.specs.Prelude.{◌≡◌};
-    ghost use Rattle.fst_symbols.specs.declared.fault.SymbolsFault.TheVariants as faults;
-
-    ghost from_gives = { λ _ e. e ≡ faults.Memory };
-
-    fn from(_e: AllocError) -> SymbolsFault {
-        SymbolsFault::Memory
-    }
 }

@@ -1,18 +1,19 @@
 //! The rows of a table in order, found by name and by number.
 
-ghost use Rattle.std.specs.Prelude.{◌≡◌, ◌*◌, ◌≤◌, min, [], false, All, IfOk, OnOk};
+ghost use Rattle.std.specs.Prelude.{◌≡◌, ◌*◌, ◌≤◌, min, [], false, All, IfOk, IfSome, OnOk};
 ghost use Rattle.std.specs.Option.{option_map};
 ghost use Rattle.indexmap.specs.IndexMap.{spare};
 ghost use Rattle.fst_fields.specs.Decimal.{greatest_label};
 ghost use Rattle.fst_fields.specs.Lines.{fields_of, is_line_end};
 ghost use Rattle.fst_symbols.specs.Symbols.{IsName, name_of, number_of};
-ghost use Rattle.fst_symbols.specs.Reading.{Adds, after_line, with_row, with_symbol};
+ghost use Rattle.fst_fields.specs.Texts.{IsRead};
+ghost use Rattle.fst_symbols.specs.Reading.{after_line, symbol_of, with_symbol};
 ghost use Rattle.fst_symbols.specs.Kept.{IsKept, ranked_name, symbols_in};
 
 use crate::fault::SymbolsFault;
 use crate::name::{Name, Sought};
 use crate::places::Places;
-use fst_fields::{next_field, read_label};
+use fst_fields::{read_label, read_row};
 use indexmap::IndexMap;
 use std::alloc::{AllocError, Global};
 
@@ -71,69 +72,69 @@ impl Rows {
         self.ranked_name(self.places.get(number))
     }
 
-    /// Adds a symbol. After an error the rows are no table.
+    /// Adds a symbol; the fault, where its name or its number is there. After a fault the rows are no table.
     fn add(
         &mut self,
         alloc: Global,
         line: u64,
         name: &[u8],
         number: u32,
-    ) -> Result<(), SymbolsFault>
+    ) -> Result<Result<(), SymbolsFault>, AllocError>
         requires kept { IsKept self.old }
         requires name { IsName name.now }
         requires small { number ≤ greatest_label }
-        ensures added { Adds (symbols_in self.new) result (with_symbol line (symbols_in self.old) name.now number) }
-        ensures kept { OnOk result (IsKept self.new) }
+        ensures added { IfOk result (λ r. IsRead (λ x. symbols_in self.new) r (with_symbol line (symbols_in self.old) name.now number)) }
+        ensures kept { IfOk result (λ r. OnOk r (IsKept self.new)) }
     {
         match self.numbers.insert(Name::new(alloc, name)?, number) {
             Ok(None) => {}
-            Ok(Some(_)) => return Err(SymbolsFault::DuplicateSymbol { line }),
-            Err(_) => return Err(SymbolsFault::Memory),
+            Ok(Some(_)) => return Ok(Err(SymbolsFault::DuplicateSymbol { line })),
+            Err(_) => return Err(AllocError),
         }
         let Ok(rank) = u32::try_from(self.numbers.len()) else {
-            return Err(SymbolsFault::Memory);
+            return Err(AllocError);
         };
         if self.places.put(number, rank)? != 0 {
-            return Err(SymbolsFault::DuplicateNumber { line });
+            return Ok(Err(SymbolsFault::DuplicateNumber { line }));
         }
-        Ok(())
+        Ok(Ok(()))
     }
 
-    /// Adds a row of two fields. After an error the rows are no table.
-    fn add_row(
+    /// Adds a line, which has this number. After a fault the rows are no table.
+    pub fn line(
         &mut self,
         alloc: Global,
         line: u64,
-        name: &[u8],
-        number: &[u8],
-    ) -> Result<(), SymbolsFault>
-        requires kept { IsKept self.old }
-        requires name { IsName name.now }
-        ensures added { Adds (symbols_in self.new) result (with_row line (symbols_in self.old) name.now number.now) }
-        ensures kept { OnOk result (IsKept self.new) }
-    {
-        match read_label(number) {
-            Some(number) => self.add(alloc, line, name, number),
-            None => Err(SymbolsFault::BadNumber { line }),
-        }
-    }
-
-    /// Adds a line, which has this number. After an error the rows are no table.
-    pub fn line(&mut self, alloc: Global, line: u64, text: &[u8]) -> Result<(), SymbolsFault>
+        text: &[u8],
+    ) -> Result<Result<(), SymbolsFault>, AllocError>
         requires kept { IsKept self.old }
         requires inner { All (λ c. is_line_end c ≡ false) text.now }
-        ensures added { Adds (symbols_in self.new) result (after_line line (symbols_in self.old) (fields_of text.now)) }
-        ensures kept { OnOk result (IsKept self.new) }
+        ensures added { IfOk result (λ r. IsRead (λ x. symbols_in self.new) r (after_line line (symbols_in self.old) (fields_of text.now))) }
+        ensures kept { IfOk result (λ r. OnOk r (IsKept self.new)) }
     {
-        let Some((name, rest)) = next_field(text) else {
-            return Ok(());
-        };
-        let Some((number, rest)) = next_field(rest) else {
-            return Err(SymbolsFault::BadColumns { line });
-        };
-        if next_field(rest).is_some() {
-            return Err(SymbolsFault::BadColumns { line });
+        match read_symbol(line, text) {
+            Ok(Some((name, number))) => self.add(alloc, line, name, number),
+            Ok(None) => Ok(Ok(())),
+            Err(fault) => Ok(Err(fault)),
         }
-        self.add_row(alloc, line, name, number)
+    }
+}
+
+/// The name and the number of a line; nothing where the line is blank. Takes no memory.
+fn read_symbol(line: u64, text: &[u8]) -> Result<Option<(&[u8], u32)>, SymbolsFault>
+    requires { All (λ c. is_line_end c ≡ false) text.now }
+    ensures read { IsRead (option_map (λ p. (p.0.now, p.1))) result (symbol_of line (fields_of text.now)) }
+    ensures name { IfOk result (λ row. IfSome row (λ p. IsName p.0.now)) }
+    ensures small { IfOk result (λ row. IfSome row (λ p. p.1 ≤ greatest_label)) }
+{
+    let Some(row) = read_row(text) else {
+        return Err(SymbolsFault::BadColumns { line });
+    };
+    let Some((name, number)) = row else {
+        return Ok(None);
+    };
+    match read_label(number) {
+        Some(number) => Ok(Some((name, number))),
+        None => Err(SymbolsFault::BadNumber { line }),
     }
 }

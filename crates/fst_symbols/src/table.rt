@@ -4,6 +4,7 @@ ghost use Rattle.std.specs.Prelude.{◌≡◌, ◌+◌, ◌/◌, min, IfOk, leng
 ghost use Rattle.std.specs.List.{count_by};
 ghost use Rattle.std.specs.Option.{option_map};
 ghost use Rattle.fst_fields.specs.Lines.{is_line_end};
+ghost use Rattle.fst_fields.specs.Texts.{IsRead};
 ghost use Rattle.fst_symbols.specs.Symbols.{IsTable, name_of, number_of};
 ghost use Rattle.fst_symbols.specs.Reading.{Gives, table_of_text};
 ghost use Rattle.fst_symbols.specs.Kept.{IsKept, symbols_in};
@@ -11,7 +12,7 @@ ghost use Rattle.fst_symbols.specs.Kept.{IsKept, symbols_in};
 use crate::fault::SymbolsFault;
 use crate::rows::Rows;
 use fst_fields::next_line;
-use std::alloc::Global;
+use std::alloc::{AllocError, Global};
 use std::marker::Model;
 
 /// The names of labels, seen as a list of symbols in the order of their lines. No two symbols have one name
@@ -43,8 +44,9 @@ impl SymbolTable {
         ensures table { IfOk result IsTable }
     {
         match read_rows(alloc, bytes) {
-            Ok(rows) => Ok(SymbolTable { rows }),
-            Err(fault) => Err(fault),
+            Ok(Ok(rows)) => Ok(SymbolTable { rows }),
+            Ok(Err(fault)) => Err(fault),
+            Err(_) => Err(SymbolsFault::Memory),
         }
     }
 
@@ -86,21 +88,21 @@ fn most_rows(bytes: &[u8]) -> usize
     line_ends(bytes).min(bytes.len() / 4) + 1
 }
 
-/// The rows of a text.
-fn read_rows(alloc: Global, bytes: &[u8]) -> Result<Rows, SymbolsFault>
-    ensures read { Gives symbols_in result (table_of_text bytes.now) }
-    ensures kept { IfOk result IsKept }
+/// The rows of a text, or the first fault of its first faulty line.
+fn read_rows(alloc: Global, bytes: &[u8]) -> Result<Result<Rows, SymbolsFault>, AllocError>
+    ensures read { IfOk result (λ r. IsRead symbols_in r (table_of_text bytes.now)) }
+    ensures kept { IfOk result (λ r. IfOk r IsKept) }
 {
     let mut rows = Rows::with_room(alloc, most_rows(bytes))?;
     let mut rest = bytes;
     let mut line: u64 = 0;
     while let Some((first, behind)) = next_line(rest) {
         line += 1;
-        match rows.line(alloc, line, first) {
+        match rows.line(alloc, line, first)? {
             Ok(()) => {}
-            Err(fault) => return Err(fault),
+            Err(fault) => return Ok(Err(fault)),
         }
         rest = behind;
     }
-    Ok(rows)
+    Ok(Ok(rows))
 }

@@ -8,16 +8,17 @@ use Rattle.std.proofs.lemmas.List.Sums.{sum_by-cons}
 use Rattle.std.proofs.lemmas.Option.{slice_get-get_or, slice_get_within}
 use Rattle.std.proofs.lemmas.Bool.{eq-eqb}
 use Rattle.fst_semiring.specs.declared.arc_type.ArcType.{ArcType}
-use Rattle.fst_semiring.specs.Cost.{Cost, infinite}
+use Rattle.fst_semiring.specs.Cost.{Cost, infinite, is_infinite}
 use Rattle.fst_machine.specs.Machine.{Arc, IsArc, Machine, State, arc_total, bare_state, most_arcs, most_states}
 use Rattle.fst_text.specs.declared.fault.PrintFault.{PrintFault}
 use Rattle.fst_text.specs.declared.fault.PrintFault.TheVariants.{NotAcceptor, UnknownSymbol}
 use Rattle.fst_text.specs.declared.fault.TextFault.{TextFault}
 use Rattle.fst_text.specs.Options.{HasTables, Options}
 use Rattle.fst_text.specs.Entries.{Entry, above, arc_count, arc_entry, arcs_from, final_entry, first_in, from_zero, machine_of_entries, machine_over, place_in, placed, state_of, states_named}
-use Rattle.fst_text.specs.Grammar.{◌>>=◌, entries_of_lines, machine_of_text}
+use Rattle.fst_fields.specs.Reading.{◌>>=◌}
+use Rattle.fst_text.specs.Grammar.{entries_of_lines, machine_of_text}
 use Rattle.fst_text.specs.Laws.{CompilesBack, IsWeight}
-use Rattle.fst_text.specs.Printed.{entries_at, entries_of_machine, fields_of_entry, final_entries, is_zero, other_entries, refusal, split_arc, split_machine, split_state, state_entries, text_of_entries, text_of_machine, unnamed_label}
+use Rattle.fst_text.specs.Printed.{entries_at, entries_of_machine, fields_of_entry, final_entries, other_entries, refusal, split_arc, split_machine, split_state, state_entries, text_of_entries, text_of_machine, unnamed_label}
 use Rattle.fst_text.proofs.Numbers.{equal_is, place_in-from_zero}
 use Rattle.fst_text.proofs.EntryTexts.{GoodArc, GoodEntry, IsNamed, fields-good}
 use Rattle.fst_text.proofs.Naming.{all-named}
@@ -62,7 +63,7 @@ arc-entries-good kind options count q (a ∷ arcs) low h = ((low, h.0), arc-entr
 
 final-entries-good : (kind : ArcType) (options : Options) (count q : ℕ) (w : Cost) (arcs : List (Arc Cost ℕ)) → q < count → IsWeight kind w → AllByRecursion (GoodEntry kind options count) (final_entries q w arcs)
 final-entries-good kind options count q w [] low h = ((low, h), tt)
-final-entries-good kind options count q w (a ∷ arcs) low h = go (is_zero w) where
+final-entries-good kind options count q w (a ∷ arcs) low h = go (is_infinite w) where
   go : (zero_is : Bool) → AllByRecursion (GoodEntry kind options count) (cond zero_is [] (final_entry q w ∷ []))
   go true = tt
   go false = ((low, h), tt)
@@ -89,7 +90,7 @@ count-arcs q (a ∷ arcs) = ap suc (count-arcs q arcs)
 
 count-final : (q : ℕ) (w : Cost) (arcs : List (Arc Cost ℕ)) → arc_count (final_entries q w arcs) ≡ 0
 count-final q w [] = refl
-count-final q w (a ∷ arcs) = go (is_zero w) where
+count-final q w (a ∷ arcs) = go (is_infinite w) where
   go : (zero_is : Bool) → arc_count (cond zero_is [] (final_entry q w ∷ [])) ≡ 0
   go true = refl
   go false = refl

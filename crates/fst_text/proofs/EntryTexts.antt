@@ -4,6 +4,7 @@ use Rattle.std.specs.Prelude.{IfSome}
 use Rattle.std.specs.Fmt.{decimal}
 use Rattle.std.specs.List.{AllByRecursion}
 use Rattle.std.proofs.lemmas.Bool.Decides.{nat_tests}
+use Rattle.fst_fields.specs.Reading.{◌>>=◌}
 use Rattle.fst_fields.specs.Decimal.{label_of_text}
 use Rattle.fst_semiring.specs.declared.arc_type.ArcType.{ArcType}
 use Rattle.fst_semiring.specs.Cost.{Cost, best, finite, infinite}
@@ -14,7 +15,7 @@ use Rattle.fst_text.specs.declared.fault.TextFault.{TextFault}
 use Rattle.fst_text.specs.declared.fault.TextFault.TheVariants.{BadState, BadLabel, UnknownSymbol, BadWeight, TooManyStates, TooManyArcs}
 use Rattle.fst_text.specs.Options.{HasTables, Options}
 use Rattle.fst_text.specs.Entries.{Entry, arc_entry, final_entry}
-use Rattle.fst_text.specs.Grammar.{Room, ◌>>=◌, acceptor_line, arc_line, arc_weight_of_field, entry_of_fields, final_line, label_of_field, not_zero, output_label, state_of_field, transducer_line, weight_of_field}
+use Rattle.fst_text.specs.Grammar.{Room, acceptor_line, arc_line, arc_weight_of_field, entry_of_fields, final_line, label_of_field, not_zero, output_label, state_of_field, transducer_line, weight_of_field}
 use Rattle.fst_text.specs.Laws.{IsWeight}
 use Rattle.fst_text.specs.Printed.{Label, field_of_label, fields_of_entry, first_unnamed, is_one, labels_of_arc, labels_of_entry, text_of_label, weight_fields}
 use Rattle.fst_fields.proofs.Decimals.{AreDigits, IsDigit, decimal-digits, decimal-read}

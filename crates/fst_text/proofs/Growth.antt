@@ -1,9 +1,10 @@
 -- Machines that are built, with states more.
 use Rattle.std.proofs.Common.{◌≡◌, ℕ, ◌+◌, ◌-◌, ◌<◌, ◌≤◌, suc, List, [], ◌∷◌, ◌++◌, length, map, replicate, Option, sym, ap, ◌∙◌, arith, append_assoc, append-nil}
+use Rattle.std.proofs.lemmas.List.Sums.{sum_by_push}
 use Rattle.std.proofs.lemmas.List.{length-append, length-map, map-append}
 use mathlib.Core.Path.{fun_ext}
 use Rattle.fst_semiring.specs.Cost.{Cost, infinite}
-use Rattle.fst_machine.specs.Machine.{Machine, State, bare_state, valued, valued_state}
+use Rattle.fst_machine.specs.Machine.{Machine, State, arc_total, bare_state, valued, valued_state}
 use Rattle.fst_text.specs.Building.{Building, grown, with_place, with_state}
 
 -- the values of the states with a state more that has no arcs
@@ -36,3 +37,7 @@ grown-all n states many =
 
 pub length-pushed : {V : Type 0} (value : V → Cost) (states : List (State V)) (w : V) → length (map (valued_state value) (states ++ bare_state w ∷ [])) ≡ length (map (valued_state value) states) + 1
 length-pushed value states w = simp (length-map, length-append)
+
+-- a state more that has no arcs
+pub arc_total-pushed : {V : Type 0} (states : List (State V)) (w : V) → arc_total (states ++ bare_state w ∷ []) ≡ arc_total states
+arc_total-pushed {V} states w = omega (arith, sum_by_push (λ (s : State V). length s.arcs) states (bare_state w))

@@ -1,10 +1,9 @@
 -- What a line adds to a machine that is built.
-use Rattle.std.proofs.Common.{◌≡◌, ℕ, ◌+◌, ◌<◌, zero, suc, Bool, List, [], ◌∷◌, length, map, Option, refl, sym, ap, ◌∙◌, arith}
+use Rattle.std.proofs.Common.{◌≡◌, ℕ, ◌<◌, zero, suc, Bool, List, [], ◌∷◌, length, map, Option, refl, ap, ◌∙◌, arith}
 use Rattle.std.proofs.lemmas.List.{length-map, map-append}
 use Rattle.std.proofs.lemmas.Option.{IfSome_then}
-use Rattle.std.proofs.lemmas.List.Sums.{sum_by-cons}
 use Rattle.fst_semiring.specs.Cost.{Cost}
-use Rattle.fst_machine.specs.Machine.{Arc, Machine, State, arc_total, changed, valued, valued_arc, valued_state, with_arc, with_final}
+use Rattle.fst_machine.specs.Machine.{Arc, Machine, State, changed, valued, valued_arc, valued_state, with_arc, with_final}
 use Rattle.fst_text.specs.Entries.{arc_entry, final_entry}
 use Rattle.fst_text.specs.Building.{Building, IsPlaced, or_start, place_of, with_entry, with_number}
 
@@ -18,15 +17,6 @@ pub length-changed : {X : Type 0} (f : X → X) (xs : List X) (i : ℕ) → leng
 length-changed f [] i = refl
 length-changed f (x ∷ xs) zero = refl
 length-changed f (x ∷ xs) (suc i) = ap (λ n. suc n) (length-changed f xs i)
-
--- the values have as many arcs
-pub arc_total-valued : {V : Type 0} (value : V → Cost) (states : List (State V)) → arc_total (map (valued_state value) states) ≡ arc_total states
-arc_total-valued value [] = refl
-arc_total-valued {V} value (s ∷ states) =
-    sum_by-cons (λ (t : State Cost). length t.arcs) (valued_state value s) (map (valued_state value) states)
-    ∙ ap (λ n. n + arc_total (map (valued_state value) states)) (length-map s.arcs (valued_arc value))
-    ∙ ap (λ n. length s.arcs + n) (arc_total-valued value states)
-    ∙ sym (sum_by-cons (λ (t : State V). length t.arcs) s states)
 
 -- the values after one more arc, and after another final weight
 states-with_arc : {V : Type 0} (value : V → Cost) (a : Arc V ℕ) (states : List (State V)) (i : ℕ) → map (valued_state value) (changed (with_arc a) states i) ≡ changed (with_arc (valued_arc value a)) (map (valued_state value) states) i

@@ -6,10 +6,10 @@ use Rattle.std.proofs.lemmas.List.{take_all, map-append}
 use Rattle.std.proofs.lemmas.Option.{slice_get-get_or}
 use Rattle.std.proofs.lemmas.Bool.{eq-eqb}
 use Rattle.std.proofs.lemmas.Bool.Decides.{nat_tests}
-use Rattle.fst_semiring.specs.Cost.{Cost, best, finite, infinite}
+use Rattle.fst_semiring.specs.Cost.{Cost, best, finite, infinite, is_infinite}
 use Rattle.fst_machine.specs.Machine.{Arc, State}
 use Rattle.fst_text.specs.Entries.{Entry, arc_entry, arcs_from, final_entry, from_zero, last_weight}
-use Rattle.fst_text.specs.Printed.{final_entries, is_zero, other_entries, state_entries}
+use Rattle.fst_text.specs.Printed.{final_entries, other_entries, state_entries}
 use Rattle.fst_text.proofs.Numbers.{equal_is}
 
 -- what entries one behind the other say of a state
@@ -44,26 +44,26 @@ arcs-weight n q (a ∷ arcs) w = arcs-weight n q arcs w
 
 final-arcs : (n q : ℕ) (w : Cost) (arcs : List (Arc Cost ℕ)) → arcs_from n (final_entries q w arcs) ≡ []
 final-arcs n q w [] = refl
-final-arcs n q w (a ∷ arcs) = go (is_zero w) where
+final-arcs n q w (a ∷ arcs) = go (is_infinite w) where
   go : (zero_is : Bool) → arcs_from n (cond zero_is [] (final_entry q w ∷ [])) ≡ []
   go true = refl
   go false = refl
 
-zero-is : (w : Cost) → is_zero w ≡ true → w ≡ infinite
+zero-is : (w : Cost) → is_infinite w ≡ true → w ≡ infinite
 zero-is best e = absurd (cc)
 zero-is (finite a b) e = absurd (cc)
 zero-is infinite e = refl
 
 own-final : (q : ℕ) (w : Cost) (arcs : List (Arc Cost ℕ)) → last_weight infinite q (final_entries q w arcs) ≡ w
 own-final q w [] = ap (λ b. cond b w infinite) (eq-eqb q q refl)
-own-final q w (a ∷ arcs) = go (is_zero w) refl where
-  go : (zero_is : Bool) → is_zero w ≡ zero_is → last_weight infinite q (cond zero_is [] (final_entry q w ∷ [])) ≡ w
+own-final q w (a ∷ arcs) = go (is_infinite w) refl where
+  go : (zero_is : Bool) → is_infinite w ≡ zero_is → last_weight infinite q (cond zero_is [] (final_entry q w ∷ [])) ≡ w
   go true e = sym (zero-is w e)
   go false e = ap (λ b. cond b w infinite) (eq-eqb q q refl)
 
 other-final : (n q : ℕ) (w v : Cost) (arcs : List (Arc Cost ℕ)) → (n == q) ≡ false → last_weight v n (final_entries q w arcs) ≡ v
 other-final n q w v [] e = ap (λ b. cond b w v) e
-other-final n q w v (a ∷ arcs) e = go (is_zero w) where
+other-final n q w v (a ∷ arcs) e = go (is_infinite w) where
   go : (zero_is : Bool) → last_weight v n (cond zero_is [] (final_entry q w ∷ [])) ≡ v
   go true = refl
   go false = ap (λ b. cond b w v) e

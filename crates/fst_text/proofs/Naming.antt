@@ -1,12 +1,13 @@
 -- Labels that are printed, and the first of them without a name.
-use Rattle.std.proofs.Common.{◌≡◌, ℕ, List, [], ◌∷◌, ◌++◌, Option, Some, None, refl, sym, ap, ◌∙◌, subst}
+use Rattle.std.proofs.Common.{◌≡◌, ℕ, List, [], ◌∷◌, ◌++◌, Option, Some, None, refl, sym, ap, ◌∙◌}
 use Rattle.std.specs.List.{AllByRecursion, flat_map}
+use Rattle.std.specs.Option.{option_map}
 use Rattle.std.proofs.lemmas.Grind.{flat_map-append}
 use Rattle.fst_text.specs.declared.fault.PrintFault.{PrintFault}
-use Rattle.fst_text.specs.declared.fault.PrintFault.TheVariants.{NotAcceptor, UnknownSymbol, Memory}
+use Rattle.fst_text.specs.declared.fault.PrintFault.TheVariants.{UnknownSymbol}
 use Rattle.fst_text.specs.Options.{Options}
 use Rattle.fst_text.specs.Entries.{Entry}
-use Rattle.fst_text.specs.Printed.{Label, LacksName, first_unnamed, labels_of_entry, text_of_label, unnamed_label}
+use Rattle.fst_text.specs.Printed.{Label, first_unnamed, labels_of_entry, text_of_label, unnamed_label}
 
 -- where all of the first labels have names, the others are asked
 pub unnamed-behind : (xs ys : List Label) → first_unnamed xs ≡ None → first_unnamed (xs ++ ys) ≡ first_unnamed ys
@@ -33,10 +34,11 @@ unnamed-both (x ∷ xs) ys h = go (text_of_label x) h (unnamed-both xs ys) where
   go (Some text) e more = more e
 
 -- a fault of the first labels is one of all
-fault-front : (fault : PrintFault) (xs ys : List Label) → LacksName fault (first_unnamed xs) → LacksName fault (first_unnamed (xs ++ ys))
-fault-front Memory xs ys h = tt
-fault-front (UnknownSymbol label) xs ys h = unnamed-front xs ys label h
-fault-front (NotAcceptor state place) xs ys h = h
+fault-front : (fault : PrintFault) (xs ys : List Label) → option_map UnknownSymbol (first_unnamed xs) ≡ Some fault → option_map UnknownSymbol (first_unnamed (xs ++ ys)) ≡ Some fault
+fault-front fault xs ys h = go (first_unnamed xs) refl h where
+  go : (o : Option ℕ) → first_unnamed xs ≡ o → option_map UnknownSymbol o ≡ Some fault → option_map UnknownSymbol (first_unnamed (xs ++ ys)) ≡ Some fault
+  go None e h = absurd (cc)
+  go (Some n) e h = ap (option_map UnknownSymbol) (unnamed-front xs ys n e) ∙ h
 
 -- the labels of entries one behind the other
 labels-append : (options : Options) (first second : List Entry) → unnamed_label options (first ++ second) ≡ first_unnamed (flat_map (labels_of_entry options) first ++ flat_map (labels_of_entry options) second)
@@ -45,15 +47,15 @@ labels-append options first second = ap first_unnamed (flat_map-append (labels_o
 pub entries-behind : (options : Options) (first second : List Entry) → unnamed_label options first ≡ None → unnamed_label options (first ++ second) ≡ unnamed_label options second
 entries-behind options first second h = labels-append options first second ∙ unnamed-behind (flat_map (labels_of_entry options) first) (flat_map (labels_of_entry options) second) h
 
-pub entries-front : (fault : PrintFault) (options : Options) (first second : List Entry) → LacksName fault (unnamed_label options first) → LacksName fault (unnamed_label options (first ++ second))
-entries-front fault options first second h = subst (λ (o : Option ℕ). LacksName fault o) (sym (labels-append options first second)) (fault-front fault (flat_map (labels_of_entry options) first) (flat_map (labels_of_entry options) second) h)
+pub entries-front : (fault : PrintFault) (options : Options) (first second : List Entry) → option_map UnknownSymbol (unnamed_label options first) ≡ Some fault → option_map UnknownSymbol (unnamed_label options (first ++ second)) ≡ Some fault
+entries-front fault options first second h = ap (option_map UnknownSymbol) (labels-append options first second) ∙ fault-front fault (flat_map (labels_of_entry options) first) (flat_map (labels_of_entry options) second) h
 
 -- a fault of what is found first
-pub fault-as : (fault : PrintFault) (o p : Option ℕ) → o ≡ p → LacksName fault o → LacksName fault p
-fault-as fault o p e h = subst (λ (o : Option ℕ). LacksName fault o) e h
+pub fault-as : (fault : PrintFault) (o p : Option ℕ) → o ≡ p → option_map UnknownSymbol o ≡ Some fault → option_map UnknownSymbol p ≡ Some fault
+fault-as fault o p e h = ap (option_map UnknownSymbol) (sym e) ∙ h
 
 -- a fault of entries behind others that have none
-pub entries-later : (fault : PrintFault) (options : Options) (first second : List Entry) → unnamed_label options first ≡ None → LacksName fault (unnamed_label options second) → LacksName fault (unnamed_label options (first ++ second))
+pub entries-later : (fault : PrintFault) (options : Options) (first second : List Entry) → unnamed_label options first ≡ None → option_map UnknownSymbol (unnamed_label options second) ≡ Some fault → option_map UnknownSymbol (unnamed_label options (first ++ second)) ≡ Some fault
 entries-later fault options first second none h = fault-as fault (unnamed_label options second) (unnamed_label options (first ++ second)) (sym (entries-behind options first second none)) h
 
 -- where no label of entries is without a name, none of any entry is

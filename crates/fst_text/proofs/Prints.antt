@@ -7,12 +7,13 @@ use Rattle.std.proofs.lemmas.List.{length-map}
 use Rattle.std.proofs.lemmas.List.Sums.{get_or-le-sum_by}
 use Rattle.std.proofs.lemmas.Option.{get_or_from_slice_get, slice_get-map, slice_get_within}
 use Rattle.fst_semiring.specs.declared.arc_type.ArcType.{ArcType}
-use Rattle.fst_semiring.specs.Cost.{Cost}
+use Rattle.fst_semiring.specs.Cost.{Cost, is_infinite}
 use Rattle.fst_machine.specs.Machine.{Arc, State, arc_total, most_arcs, valued_arc, valued_state}
 use Rattle.fst_text.specs.declared.fault.PrintFault.{PrintFault}
+use Rattle.fst_text.specs.declared.fault.PrintFault.TheVariants.{UnknownSymbol}
 use Rattle.fst_text.specs.Options.{Options}
 use Rattle.fst_text.specs.Entries.{Entry, arc_entry, final_entry}
-use Rattle.fst_text.specs.Printed.{LacksName, entries_at, fields_of_entry, final_entries, is_zero, other_entries, split_arc, split_state, state_entries, text_of_entries, text_of_line, unnamed_label}
+use Rattle.fst_text.specs.Printed.{entries_at, fields_of_entry, final_entries, other_entries, split_arc, split_state, state_entries, text_of_entries, text_of_line, unnamed_label}
 use Rattle.fst_text.proofs.Naming.{entries-front, fault-as}
 
 -- what is read of a state is of the one that stands there
@@ -44,7 +45,7 @@ entries-read {V} value states q arcs w ha hw =
     ∙ ap (λ (u : V). state_entries q (record { final = value u; arcs = map (valued_arc value) arcs })) (final-there states q s w there.1 hw)
 
 -- a fault of the arcs of a state is one of the state
-pub arcs-fault : {V : Type 0} (value : V → Cost) (options : Options) (fault : PrintFault) (states : List (State V)) (q : ℕ) (arcs : List (Arc V ℕ)) → option_map (λ s. s.arcs) (slice_get states q) ≡ Some arcs → LacksName fault (unnamed_label options (map (arc_entry q) (map (valued_arc value) arcs))) → LacksName fault (unnamed_label options (entries_at q (map (valued_state value) states)))
+pub arcs-fault : {V : Type 0} (value : V → Cost) (options : Options) (fault : PrintFault) (states : List (State V)) (q : ℕ) (arcs : List (Arc V ℕ)) → option_map (λ s. s.arcs) (slice_get states q) ≡ Some arcs → option_map UnknownSymbol (unnamed_label options (map (arc_entry q) (map (valued_arc value) arcs))) ≡ Some fault → option_map UnknownSymbol (unnamed_label options (entries_at q (map (valued_state value) states))) ≡ Some fault
 arcs-fault {V} value options fault states q arcs ha h =
     let there = state-there states q arcs ha in
     let s : State V = there.0 in
@@ -85,7 +86,7 @@ others-pushed value kind options start q states old out more low e h =
 -- a final entry has no labels
 pub final-unnamed : (options : Options) (state : ℕ) (w : Cost) (arcs : List (Arc Cost ℕ)) → unnamed_label options (final_entries state w arcs) ≡ None
 final-unnamed options state w [] = refl
-final-unnamed options state w (a ∷ arcs) = go (is_zero w) where
+final-unnamed options state w (a ∷ arcs) = go (is_infinite w) where
   go : (zero_is : Bool) → unnamed_label options (cond zero_is [] (final_entry state w ∷ [])) ≡ None
   go true = refl
   go false = refl

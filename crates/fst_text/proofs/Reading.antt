@@ -1,17 +1,18 @@
 -- Building line by line gives the machine of the text, or its fault.
-use Rattle.std.proofs.Common.{◌≡◌, ℕ, ◌+◌, Bool, true, false, List, [], ◌∷◌, ◌++◌, length, map, nat_le, nat_lt, Result, Ok, Err, refl, sym, ap, ◌∙◌, subst}
+use Rattle.std.proofs.Common.{◌≡◌, ℕ, ◌+◌, Bool, true, false, List, [], ◌∷◌, ◌++◌, length, map, nat_le, nat_lt, Result, Ok, Err, refl, sym, ap, ◌∙◌}
 use Rattle.std.specs.List.{flat_map}
 use mathlib.Core.Path.{fun_ext}
 use Rattle.fst_fields.specs.Lines.{lines_of, fields_of}
+use Rattle.fst_fields.specs.Reading.{◌>>=◌}
+use Rattle.fst_fields.specs.Texts.{read_lines}
 use Rattle.fst_semiring.specs.declared.arc_type.ArcType.{ArcType}
 use Rattle.fst_semiring.specs.Cost.{Cost}
 use Rattle.fst_machine.specs.Machine.{Machine, arc_total, most_arcs, most_states}
 use Rattle.fst_text.specs.declared.fault.TextFault.{TextFault}
-use Rattle.fst_text.specs.declared.fault.TextFault.TheVariants.{BadColumns, BadState, BadLabel, UnknownSymbol, BadWeight, TooManyStates, TooManyArcs, Memory}
 use Rattle.fst_text.specs.Options.{Options}
 use Rattle.fst_text.specs.Entries.{Entry, machine_of_entries, states_named}
-use Rattle.fst_text.specs.Grammar.{Fails, Room, ◌>>=◌, entries_of_lines, entry_of_fields, machine_of_text, room_behind}
-use Rattle.fst_text.specs.Building.{Building, after_lines, nothing_built, room_of, with_entry, with_number}
+use Rattle.fst_text.specs.Grammar.{Room, entries_of_lines, entry_of_fields, machine_of_text, room_behind}
+use Rattle.fst_text.specs.Building.{Building, after_line, built_of_text, nothing_built, room_of, with_entry, with_number}
 use Rattle.fst_text.proofs.Held.{Holds, number-held, states-count}
 use Rattle.fst_text.proofs.Added.{entry-held, numbers-one, numbers-two, numbers_of}
 use Rattle.fst_text.proofs.Numbers.{with_more}
@@ -34,13 +35,13 @@ room-held kept es b h =
     ∙ ap (λ (t : Bool). record { state = (room_behind kept es).state; states = (room_behind kept es).states; arc = t }) arc
 
 -- lines behind entries for which a building stands
-after_lines-reads : (kind : ArcType) (options : Options) (line : ℕ) (es : List Entry) (b : Building) (lines : List (List (List ℕ))) → Holds options.keep_state_numbering (numbers_of options.keep_state_numbering es) es b → (after_lines kind options line b lines >>= λ c. Ok c.machine) ≡ (entries_of_lines kind options line es lines >>= λ es. Ok (machine_of_entries options.keep_state_numbering es))
+after_lines-reads : (kind : ArcType) (options : Options) (line : ℕ) (es : List Entry) (b : Building) (lines : List (List (List ℕ))) → Holds options.keep_state_numbering (numbers_of options.keep_state_numbering es) es b → (read_lines (after_line kind options) line b lines >>= λ c. Ok c.machine) ≡ (entries_of_lines kind options line es lines >>= λ es. Ok (machine_of_entries options.keep_state_numbering es))
 after_lines-reads kind options line es b [] h = ap Ok h.machine
 after_lines-reads kind options line es b ([] ∷ lines) h = after_lines-reads kind options (line + 1) es b lines h
 after_lines-reads kind options line es b ((f ∷ fs) ∷ lines) h =
-    ap (λ (room : Room). ((entry_of_fields kind options line room (f ∷ fs) >>= λ e. Ok (with_entry options.keep_state_numbering b e)) >>= λ c. after_lines kind options (line + 1) c lines) >>= λ c. Ok c.machine) (room-held options.keep_state_numbering es b h)
+    ap (λ (room : Room). ((entry_of_fields kind options line room (f ∷ fs) >>= λ e. Ok (with_entry options.keep_state_numbering b e)) >>= λ c. read_lines (after_line kind options) (line + 1) c lines) >>= λ c. Ok c.machine) (room-held options.keep_state_numbering es b h)
     ∙ go (entry_of_fields kind options line (room_behind options.keep_state_numbering es) (f ∷ fs)) (λ e. after_lines-reads kind options (line + 1) (es ++ e ∷ []) (with_entry options.keep_state_numbering b e) lines (entry-held options.keep_state_numbering es b e h)) where
-      go : (read : Result Entry TextFault) → ((e : Entry) → (after_lines kind options (line + 1) (with_entry options.keep_state_numbering b e) lines >>= λ c. Ok c.machine) ≡ (entries_of_lines kind options (line + 1) (es ++ e ∷ []) lines >>= λ es. Ok (machine_of_entries options.keep_state_numbering es))) → (((read >>= λ e. Ok (with_entry options.keep_state_numbering b e)) >>= λ c. after_lines kind options (line + 1) c lines) >>= λ c. Ok c.machine) ≡ ((read >>= λ e. entries_of_lines kind options (line + 1) (es ++ e ∷ []) lines) >>= λ es. Ok (machine_of_entries options.keep_state_numbering es))
+      go : (read : Result Entry TextFault) → ((e : Entry) → (read_lines (after_line kind options) (line + 1) (with_entry options.keep_state_numbering b e) lines >>= λ c. Ok c.machine) ≡ (entries_of_lines kind options (line + 1) (es ++ e ∷ []) lines >>= λ es. Ok (machine_of_entries options.keep_state_numbering es))) → (((read >>= λ e. Ok (with_entry options.keep_state_numbering b e)) >>= λ c. read_lines (after_line kind options) (line + 1) c lines) >>= λ c. Ok c.machine) ≡ ((read >>= λ e. entries_of_lines kind options (line + 1) (es ++ e ∷ []) lines) >>= λ es. Ok (machine_of_entries options.keep_state_numbering es))
       go (Ok e) more = more e
       go (Err fault) more = refl
 
@@ -49,24 +50,13 @@ nothing-holds true = record { found = λ e n. refl; machine = refl; named = tt; 
 nothing-holds false = record { found = λ e n. refl; machine = refl; named = tt; apart = tt; zeros = λ e. refl }
 
 -- a text is read line by line
-pub text-reads : (kind : ArcType) (options : Options) (text : List ℕ) → (after_lines kind options 1 nothing_built (map fields_of (lines_of text)) >>= λ c. Ok c.machine) ≡ machine_of_text kind options text
+pub text-reads : (kind : ArcType) (options : Options) (text : List ℕ) → (built_of_text kind options text >>= λ c. Ok c.machine) ≡ machine_of_text kind options text
 text-reads kind options text = after_lines-reads kind options 1 [] nothing_built (map fields_of (lines_of text)) (nothing-holds options.keep_state_numbering)
 
--- a fault stays the fault of what goes on behind it
-pub Fails-through : {A B : Type 0} (fault : TextFault) (read : Result A TextFault) (f : A → Result B TextFault) → Fails fault read → Fails fault (read >>= f)
-Fails-through Memory read f h = tt
-Fails-through (BadColumns line) read f h = ap (λ r. r >>= f) h
-Fails-through (BadState line) read f h = ap (λ r. r >>= f) h
-Fails-through (BadLabel line) read f h = ap (λ r. r >>= f) h
-Fails-through (UnknownSymbol line) read f h = ap (λ r. r >>= f) h
-Fails-through (BadWeight line) read f h = ap (λ r. r >>= f) h
-Fails-through (TooManyStates line) read f h = ap (λ r. r >>= f) h
-Fails-through (TooManyArcs line) read f h = ap (λ r. r >>= f) h
-
 -- what the lines of a text build has the machine of the text
-pub text-built : (kind : ArcType) (options : Options) (text : List ℕ) (b : Building) → after_lines kind options 1 nothing_built (map fields_of (lines_of text)) ≡ Ok b → machine_of_text kind options text ≡ Ok b.machine
+pub text-built : (kind : ArcType) (options : Options) (text : List ℕ) (b : Building) → built_of_text kind options text ≡ Ok b → machine_of_text kind options text ≡ Ok b.machine
 text-built kind options text b h = sym (text-reads kind options text) ∙ ap (λ (r : Result Building TextFault). r >>= λ c. Ok c.machine) h
 
 -- and their fault is its fault
-pub text-fails : (kind : ArcType) (options : Options) (text : List ℕ) (fault : TextFault) → Fails fault (after_lines kind options 1 nothing_built (map fields_of (lines_of text))) → Fails fault (machine_of_text kind options text)
-text-fails kind options text fault h = subst (λ (r : Result (Machine Cost) TextFault). Fails fault r) (text-reads kind options text) (Fails-through fault (after_lines kind options 1 nothing_built (map fields_of (lines_of text))) (λ c. Ok c.machine) h)
+pub text-fails : (kind : ArcType) (options : Options) (text : List ℕ) (fault : TextFault) → built_of_text kind options text ≡ Err fault → machine_of_text kind options text ≡ Err fault
+text-fails kind options text fault h = sym (text-reads kind options text) ∙ ap (λ (r : Result Building TextFault). r >>= λ c. Ok c.machine) h

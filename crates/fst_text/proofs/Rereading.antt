@@ -8,7 +8,8 @@ use Rattle.fst_machine.specs.Machine.{most_arcs, most_states}
 use Rattle.fst_text.specs.declared.fault.TextFault.{TextFault}
 use Rattle.fst_text.specs.Options.{HasTables, Options}
 use Rattle.fst_text.specs.Entries.{Entry, above, arc_count, arc_entry, final_entry, from_zero, states_named}
-use Rattle.fst_text.specs.Grammar.{◌>>=◌, entries_of_lines, fits, room_behind}
+use Rattle.fst_fields.specs.Reading.{◌>>=◌}
+use Rattle.fst_text.specs.Grammar.{entries_of_lines, fits, room_behind}
 use Rattle.fst_text.specs.Printed.{fields_of_entry}
 use Rattle.fst_text.proofs.Numbers.{length-from_zero}
 use Rattle.fst_text.proofs.EntryTexts.{GoodEntry, IsNamed, Roomy, arc-entry-reads, final-entry-reads}

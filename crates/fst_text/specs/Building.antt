@@ -1,15 +1,19 @@
 -- A machine that is being built line by line.
-use Rattle.std.specs.Prelude.{◌≡◌, ℕ, ◌+◌, ◌-◌, ◌<◌, ◌==◌, Bool, List, [], ◌∷◌, ◌++◌, length, replicate, nat_le, nat_lt, Option, Some, None, IfSome, Result, Ok, Err, if◌then◌else◌}
+use Rattle.std.specs.Prelude.{◌≡◌, ◌≢◌, ◌≤◌, ℕ, true, ◌+◌, ◌-◌, ◌<◌, ◌==◌, Bool, List, [], ◌∷◌, ◌++◌, length, replicate, nat_le, nat_lt, Option, Some, None, IfSome, Result, Ok, if◌then◌else◌}
 use Rattle.fst_semiring.specs.declared.arc_type.ArcType.{ArcType}
 use Rattle.fst_semiring.specs.Cost.{Cost, infinite}
-use Rattle.fst_machine.specs.Machine.{Machine, State, arc_total, bare_state, changed, most_arcs, most_states, no_states, valued, with_arc, with_final}
+use Rattle.fst_machine.specs.Machine.{Machine, State, arc_total, bare_state, changed, greatest_label, most_arcs, most_states, no_states, valued, with_arc, with_final}
 use Rattle.fst_text.specs.declared.fault.TextFault.{TextFault}
 use Rattle.fst_text.specs.Options.{Options}
 use Rattle.fst_text.specs.declared.places.Places.{Places}
 use Rattle.fst_text.specs.declared.builder.Builder.{Builder}
 use Rattle.fst_text.specs.Slots.{found_among}
 use Rattle.fst_text.specs.Entries.{Entry, arc_entry, final_entry}
-use Rattle.fst_text.specs.Grammar.{Room, ◌>>=◌, Fails, entry_of_fields}
+use Rattle.fst_fields.specs.Reading.{◌>>=◌}
+use Rattle.fst_fields.specs.Texts.{read_text}
+use Rattle.fst_text.specs.declared.entry.LineEntry.{LineEntry}
+use Rattle.fst_text.specs.declared.entry.LineEntry.TheVariants.{Arc, Final}
+use Rattle.fst_text.specs.Grammar.{Room, entry_of_fields}
 
 -- The place of the state of each written number that is known, and the machine so far.
 pub record Building : Type 0 where
@@ -91,16 +95,20 @@ abbrev pub after_line : ArcType → Options → ℕ → Building → List (List 
 after_line kind options line b [] = Ok b
 after_line kind options line b (f ∷ fs) = with_read options.keep_state_numbering b (entry_of_fields kind options line (room_of options.keep_state_numbering b) (f ∷ fs))
 
--- with lines, of which the first has this number
-abbrev pub after_lines : ArcType → Options → ℕ → Building → List (List (List ℕ)) → Result Building TextFault
-after_lines kind options line b [] = Ok b
-after_lines kind options line b (fields ∷ lines) = after_line kind options line b fields >>= λ c. after_lines kind options (line + 1) c lines
-
 -- nothing is known and there is no state
 abbrev pub nothing_built : Building
 nothing_built = record { found = λ n. None; machine = no_states }
 
--- what a call has made of a building, or the fault that reading gives, unless memory ran out
-abbrev pub Builds : {X : Type 0} → Building → Result X TextFault → Result Building TextFault → Type 0
-Builds b (Ok x) read = read ≡ Ok b
-Builds b (Err fault) read = Fails fault read
+-- what the lines of a text build, or the first fault of the first faulty line
+abbrev pub built_of_text : ArcType → Options → List ℕ → Result Building TextFault
+built_of_text kind options text = read_text (after_line kind options) nothing_built text
+
+-- what a line says, by the values of its weights
+abbrev pub said : {W : Type 0} → (W → Cost) → LineEntry W → Entry
+said value (Arc source dest ilabel olabel weight) = arc_entry source (record { ilabel = ilabel; olabel = olabel; weight = value weight; next = dest })
+said value (Final state weight) = final_entry state (value weight)
+
+-- A building has room for an entry, whose labels are in range, and whose weight is not Zero where it is an arc.
+abbrev pub Fits : Bool → Building → Entry → Type 0
+Fits kept b (arc_entry source a) = ((room_of kept b).state source ≡ true) × ((room_of kept b).states source a.next ≡ true) × ((room_of kept b).arc ≡ true) × (a.ilabel ≤ greatest_label) × (a.olabel ≤ greatest_label) × (a.weight ≢ infinite)
+Fits kept b (final_entry state w) = (room_of kept b).state state ≡ true

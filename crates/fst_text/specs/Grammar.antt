@@ -1,8 +1,10 @@
 -- The text form of a machine: which texts have it, what they say, and the first fault of the others.
 -- (OpenFst Quick Tour, "Creating FSTs". The limits and the numbers of digits are this project's own.)
-use Rattle.std.specs.Prelude.{◌≡◌, ℕ, ◌+◌, Bool, List, [], ◌∷◌, ◌++◌, length, map, nat_le, nat_lt, Option, Some, None, Result, Ok, Err, if◌then◌else◌}
+use Rattle.std.specs.Prelude.{ℕ, ◌+◌, Bool, List, [], ◌∷◌, ◌++◌, length, map, nat_le, nat_lt, Option, Some, None, Result, Ok, Err, if◌then◌else◌}
 use Rattle.std.specs.List.{flat_map}
 use Rattle.fst_fields.specs.Lines.{lines_of, fields_of}
+use Rattle.fst_fields.specs.Reading as reading
+use Rattle.fst_fields.specs.Reading.{◌>>=◌}
 use Rattle.fst_fields.specs.Decimal.{label_of_text, natural_of_text}
 use Rattle.fst_symbols.specs.Symbols.{Symbol, number_of}
 use Rattle.fst_semiring.specs.declared.arc_type.ArcType.{ArcType}
@@ -14,12 +16,6 @@ use Rattle.fst_text.specs.declared.fault.TextFault.{TextFault}
 use Rattle.fst_text.specs.declared.fault.TextFault.TheVariants.{BadColumns, BadState, BadLabel, UnknownSymbol, BadWeight, TooManyStates, TooManyArcs, Memory}
 use Rattle.fst_text.specs.Options.{Options}
 use Rattle.fst_text.specs.Entries.{Entry, arc_count, arc_entry, final_entry, states_named, state_numbers, machine_of_entries}
-
-infixl 10 ◌>>=◌
--- reading goes on with what was read, or ends with the first fault
-abbrev pub ◌>>=◌ : {A B : Type 0} → Result A TextFault → (A → Result B TextFault) → Result B TextFault
-(Ok a) >>= f = f a
-(Err e) >>= f = Err e
 
 -- What still fits into a machine: a state with this number, states with these two numbers, one more arc.
 pub record Room : Type 0 where
@@ -114,18 +110,6 @@ entries_of_lines kind options line before ((f ∷ fs) ∷ lines) = entry_of_fiel
 abbrev pub machine_of_text : ArcType → Options → List ℕ → Result (Machine Cost) TextFault
 machine_of_text kind options text = entries_of_lines kind options 1 [] (map fields_of (lines_of text)) >>= λ es. Ok (machine_of_entries options.keep_state_numbering es)
 
--- a fault is the one that reading gives, unless memory ran out
-abbrev pub Fails : {Y : Type 0} → TextFault → Result Y TextFault → Type 0
-Fails Memory read = Unit {0}
-Fails (BadColumns line) read = read ≡ Err (BadColumns line)
-Fails (BadState line) read = read ≡ Err (BadState line)
-Fails (BadLabel line) read = read ≡ Err (BadLabel line)
-Fails (UnknownSymbol line) read = read ≡ Err (UnknownSymbol line)
-Fails (BadWeight line) read = read ≡ Err (BadWeight line)
-Fails (TooManyStates line) read = read ≡ Err (TooManyStates line)
-Fails (TooManyArcs line) read = read ≡ Err (TooManyArcs line)
-
--- what was returned, seen by view, is what reading gives, unless memory ran out
+-- what was returned, seen by view, is what reading gives, or memory ran out
 abbrev pub Gives : {X Y : Type 0} → (X → Y) → Result X TextFault → Result Y TextFault → Type 0
-Gives view (Ok x) read = read ≡ Ok (view x)
-Gives view (Err e) read = Fails e read
+Gives view result read = reading.Gives Memory view result read

@@ -5,10 +5,11 @@ use Rattle.std.specs.List.{flat_map}
 use Rattle.std.specs.Fmt.{decimal}
 use Rattle.std.specs.Ordering.{is_eq}
 use Rattle.fst_semiring.specs.declared.arc_type.ArcType.{ArcType}
-use Rattle.fst_semiring.specs.Cost.{Cost, class_of, cost_cmp}
+use Rattle.fst_semiring.specs.Cost.{Cost, cost_cmp, is_infinite}
 use Rattle.fst_semiring.specs.Semiring.{one_of}
 use Rattle.fst_semiring.specs.WeightText.{text_of_cost}
 use Rattle.fst_symbols.specs.Symbols.{Symbol, name_of}
+use Rattle.fst_fields.specs.Reading as reading
 use Rattle.fst_machine.specs.Machine.{Arc, State, Machine}
 use Rattle.fst_text.specs.Entries.{Entry, arc_entry, final_entry}
 use Rattle.fst_text.specs.declared.fault.PrintFault.{PrintFault}
@@ -23,10 +24,6 @@ behind_tabs fields = flat_map (λ field. 9 ∷ field) fields
 abbrev pub text_of_line : List (List ℕ) → List ℕ
 text_of_line [] = 10 ∷ []
 text_of_line (field ∷ fields) = field ++ behind_tabs fields ++ 10 ∷ []
-
--- the value is Zero
-abbrev pub is_zero : Cost → Bool
-is_zero w = class_of w == 2
 
 -- the value is One
 abbrev pub is_one : ArcType → Cost → Bool
@@ -69,7 +66,7 @@ text_of_entries kind options es = flat_map (λ e. text_of_line (fields_of_entry 
 -- a state has a final entry where it is final, and where it has no arcs
 abbrev pub final_entries : ℕ → Cost → List (Arc Cost ℕ) → List Entry
 final_entries state w [] = final_entry state w ∷ []
-final_entries state w (a ∷ arcs) = if is_zero w then [] else final_entry state w ∷ []
+final_entries state w (a ∷ arcs) = if is_infinite w then [] else final_entry state w ∷ []
 
 -- the entries of a state: its arcs in order, then its final entry
 abbrev pub state_entries : ℕ → State Cost → List Entry
@@ -125,21 +122,11 @@ refusal options m = elim (split_machine options m) [ None ↦ option_map Unknown
 abbrev pub text_of_machine : ArcType → Options → Machine Cost → Result (List ℕ) PrintFault
 text_of_machine kind options m = elim (refusal options m) [ None ↦ Ok (text_of_entries kind options (entries_of_machine m)) | Some fault ↦ Err fault ]
 
--- what was returned, seen by view, is this text or this refusal, unless memory ran out
+-- what was returned, seen by view, is this text or this refusal, or memory ran out
 abbrev pub Prints : {X : Type 0} → (X → List ℕ) → Result X PrintFault → Result (List ℕ) PrintFault → Type 0
-Prints view (Ok x) text = text ≡ Ok (view x)
-Prints view (Err Memory) text = Unit {0}
-Prints view (Err (NotAcceptor state place)) text = text ≡ Err (NotAcceptor state place)
-Prints view (Err (UnknownSymbol label)) text = text ≡ Err (UnknownSymbol label)
+Prints view result text = reading.Gives Memory view result text
 
--- a fault is that this label has no name, unless memory ran out
-abbrev pub LacksName : PrintFault → Option ℕ → Type 0
-LacksName Memory unnamed = Unit {0}
-LacksName (UnknownSymbol label) unnamed = unnamed ≡ Some label
-LacksName (NotAcceptor state place) unnamed = ⊥
-
--- a call has printed where every label has a name, and else refuses the first that has none, unless memory
--- ran out
+-- every label that was printed has a name; or a fault tells of the first that has none
 abbrev pub Names : {X : Type 0} → Result X PrintFault → Option ℕ → Type 0
 Names (Ok x) unnamed = unnamed ≡ None
-Names (Err fault) unnamed = LacksName fault unnamed
+Names (Err fault) unnamed = option_map UnknownSymbol unnamed ≡ Some fault

@@ -1,22 +1,24 @@
 //! A machine that is built from the lines of a text.
 
-ghost use Rattle.std.specs.Prelude.{◌≡◌, ◌≢◌, ◌∷◌, ◌<◌, ◌≤◌, ◌+◌, length, nat_lt, true, None, Some, OnOk, IfErr, IfOk};
+ghost use Rattle.std.specs.Prelude.{◌≡◌, ◌≢◌, ◌∷◌, ◌++◌, ◌<◌, ◌≤◌, ◌+◌, [], length, nat_lt, true, None, Some, OnOk, IfOk};
 ghost use Rattle.std.specs.Option.{option_map};
 ghost use Rattle.fst_fields.specs.Lines.{fields_of};
+ghost use Rattle.fst_fields.specs.Texts.{IsRead};
 ghost use Rattle.fst_semiring.specs.Cost.{infinite};
-ghost use Rattle.fst_machine.specs.Machine.{arc_total, greatest_label, most_arcs, most_states};
+ghost use Rattle.fst_machine.specs.Machine.{arc_total, bare_state, changed, greatest_label, most_arcs, most_states, with_arc};
 ghost use Rattle.fst_text.specs.Entries.{arc_entry, final_entry};
-ghost use Rattle.fst_text.specs.Grammar.{Gives, arc_line, final_line, label_of_field, output_label, state_of_field, weight_of_field, acceptor_line, arc_weight_of_field, transducer_line};
-ghost use Rattle.fst_text.specs.Building.{Builds, IsPlaced, after_line, built, nothing_built, or_start, place_of, room_of, with_entry, with_number, with_state, with_read};
+ghost use Rattle.fst_text.specs.Grammar.{acceptor_line, arc_line, arc_weight_of_field, entry_of_fields, final_line, label_of_field, output_label, state_of_field, transducer_line, weight_of_field};
+ghost use Rattle.fst_text.specs.Building.{Fits, IsPlaced, after_line, built, nothing_built, or_start, place_of, room_of, said, with_entry, with_number, with_state};
 
+use crate::entry::LineEntry;
 use crate::fault::TextFault;
 use crate::options::TextOptions;
 use crate::places::Places;
 use fst_fields::{next_field, read_decimal};
-use fst_machine::{Fst, FstArc, MOST_ARCS, MOST_STATES};
-use fst_semiring::Weight;
+use fst_machine::{Fst, FstArc, GrowFault, MOST_ARCS, MOST_STATES};
+use fst_semiring::{Weight, is_zero};
 use fst_symbols::SymbolTable;
-use std::alloc::Global;
+use std::alloc::{AllocError, Global};
 
 /// The machine of the lines so far.
 #[derive(Drop)]
@@ -27,7 +29,7 @@ pub struct Builder<W: Weight> {
 
 /// The label of a field: the number of a name where its side has a symbol table, else a label number.
 fn read_label(symbols: Option<&SymbolTable>, line: u64, field: &[u8]) -> Result<u32, TextFault>
-    ensures read { Gives (λ n. n) result (label_of_field (option_map (λ t. t.now) symbols.entry) line field.now) }
+    ensures read { IsRead (λ n. n) result (label_of_field (option_map (λ t. t.now) symbols.entry) line field.now) }
     ensures small { IfOk result (λ n. n ≤ greatest_label) }
 {
     match symbols {
@@ -50,7 +52,7 @@ fn read_output_label(
     field: Option<&[u8]>,
 ) -> Result<u32, TextFault>
     requires { label ≤ greatest_label }
-    ensures read { Gives (λ n. n) result (output_label (option_map (λ t. t.now) symbols.entry) line label (option_map (λ f. f.now) field.entry)) }
+    ensures read { IsRead (λ n. n) result (output_label (option_map (λ t. t.now) symbols.entry) line label (option_map (λ f. f.now) field.entry)) }
     ensures small { IfOk result (λ n. n ≤ greatest_label) }
 {
     match field {
@@ -61,7 +63,7 @@ fn read_output_label(
 
 /// The weight of a weight field, One where it is missing.
 fn read_weight<W: Weight>(line: u64, field: Option<&[u8]>) -> Result<W, TextFault>
-    ensures { Gives W.value result (weight_of_field W.KIND line (option_map (λ f. f.now) field.entry)) }
+    ensures { IsRead W.value result (weight_of_field W.KIND line (option_map (λ f. f.now) field.entry)) }
 {
     match field {
         None => Ok(W::one()),
@@ -74,11 +76,11 @@ fn read_weight<W: Weight>(line: u64, field: Option<&[u8]>) -> Result<W, TextFaul
 
 /// The weight of an arc's weight field, which is not Zero; One where it is missing.
 fn read_arc_weight<W: Weight>(line: u64, field: Option<&[u8]>) -> Result<W, TextFault>
-    ensures read { Gives W.value result (arc_weight_of_field W.KIND line (option_map (λ f. f.now) field.entry)) }
+    ensures read { IsRead W.value result (arc_weight_of_field W.KIND line (option_map (λ f. f.now) field.entry)) }
     ensures finite { IfOk result (λ w. W.value w ≢ infinite) }
 {
     let weight = read_weight::<W>(line, field)?;
-    if W::key(weight.widen()).class == 2 {
+    if is_zero(weight) {
         return Err(TextFault::BadWeight { line });
     }
     Ok(weight)
@@ -89,6 +91,7 @@ impl<W: Weight> Builder<W> {
     pub fn new(alloc: Global, bound: usize) -> Builder<W>
         ensures nothing { built W.value result ≡ nothing_built }
         ensures placed { IsPlaced (built W.value result) }
+        ensures bound { result.places.bound ≡ bound }
     {
         Builder {
             places: Places::new(alloc, bound),
@@ -141,7 +144,7 @@ impl<W: Weight> Builder<W> {
 
     /// The number of a line's first state field.
     fn read_first(&self, kept: bool, line: u64, field: &[u8]) -> Result<u64, TextFault>
-        ensures read { Gives (λ n. n) result (state_of_field line (room_of kept (built W.value self.now)).state field.now) }
+        ensures read { IsRead (λ n. n) result (state_of_field line (room_of kept (built W.value self.now)).state field.now) }
         ensures room { IfOk result (λ n. (room_of kept (built W.value self.now)).state n ≡ true) }
     {
         let Some(number) = read_decimal(field, 18) else {
@@ -157,7 +160,7 @@ impl<W: Weight> Builder<W> {
     /// The number of a line's second state field.
     fn read_second(&self, kept: bool, line: u64, first: u64, field: &[u8]) -> Result<u64, TextFault>
         requires { (room_of kept (built W.value self.now)).state first ≡ true }
-        ensures read { Gives (λ n. n) result (state_of_field line ((room_of kept (built W.value self.now)).states first) field.now) }
+        ensures read { IsRead (λ n. n) result (state_of_field line ((room_of kept (built W.value self.now)).states first) field.now) }
         ensures room { IfOk result (λ n. (room_of kept (built W.value self.now)).states first n ≡ true) }
     {
         let Some(number) = read_decimal(field, 18) else {
@@ -183,7 +186,7 @@ impl<W: Weight> Builder<W> {
     }
 
     /// The state of a number for which there is room; it is added where it is not known.
-    fn state(&mut self, kept: bool, number: u64, again: bool) -> Result<u32, TextFault>
+    fn state(&mut self, kept: bool, number: u64, again: bool) -> Result<u32, AllocError>
         requires placed { IsPlaced (built W.value self.old) }
         requires room { (room_of kept (built W.value self.old)).state number ≡ true }
         ensures place { IfOk result (λ place. place ≡ place_of kept (built W.value self.old) number) }
@@ -191,7 +194,7 @@ impl<W: Weight> Builder<W> {
         ensures added { OnOk result (built W.value self.new ≡ with_number kept (built W.value self.old) number) }
         ensures placed { OnOk result (IsPlaced (built W.value self.new)) }
         ensures more { OnOk result (length self.old.fst.states ≤ length self.new.fst.states) }
-        ensures err { IfErr result (λ e. e ≡ TextFault.Memory) }
+        ensures arcs { OnOk result (arc_total self.new.fst.states ≡ arc_total self.old.fst.states) }
     {
         if kept {
             self.grow(number)?;
@@ -203,34 +206,49 @@ impl<W: Weight> Builder<W> {
         }
     }
 
+    /// Adds a state with no number, where there is room for one.
+    fn push_state(&mut self) -> Result<u32, AllocError>
+        requires room { length self.old.fst.states < most_states }
+        ensures number { IfOk result (λ n. n ≡ length self.old.fst.states) }
+        ensures zero { IfOk result (λ n. (zero : W) × (W.value zero ≡ infinite) × (self.new.fst ≡ record self.old.fst { states = self.old.fst.states ++ bare_state zero ∷ [] })) }
+        ensures places { self.new.places ≡ self.old.places }
+    {
+        match self.fst.add_state() {
+            Ok(state) => Ok(state),
+            Err(GrowFault::Memory) => Err(AllocError),
+            Err(_) => unreachable!(),
+        }
+    }
+
     /// Adds states until there is one with this place.
-    fn grow(&mut self, place: u64) -> Result<(), TextFault>
+    fn grow(&mut self, place: u64) -> Result<(), AllocError>
         requires placed { IsPlaced (built W.value self.old) }
         requires room { place < most_states }
         ensures added { OnOk result (built W.value self.new ≡ with_number true (built W.value self.old) place) }
         ensures within { OnOk result (place < length self.new.fst.states) }
         ensures placed { OnOk result (IsPlaced (built W.value self.new)) }
         ensures more { OnOk result (length self.old.fst.states ≤ length self.new.fst.states) }
-        ensures err { IfErr result (λ e. e ≡ TextFault.Memory) }
+        ensures arcs { OnOk result (arc_total self.new.fst.states ≡ arc_total self.old.fst.states) }
     {
         while u64::from(self.fst.states()) <= place {
-            self.fst.add_state()?;
+            self.push_state()?;
         }
         Ok(())
     }
 
     /// Adds a state for a number that is not known.
-    fn add(&mut self, number: u64) -> Result<u32, TextFault>
+    fn add(&mut self, number: u64) -> Result<u32, AllocError>
         requires placed { IsPlaced (built W.value self.old) }
         requires absent { (built W.value self.old).found number ≡ None }
+        requires room { length self.old.fst.states < most_states }
         ensures place { IfOk result (λ place. place ≡ length self.old.fst.states) }
         ensures within { IfOk result (λ place. place < length self.new.fst.states) }
         ensures added { OnOk result (built W.value self.new ≡ with_state (built W.value self.old) number) }
         ensures placed { OnOk result (IsPlaced (built W.value self.new)) }
         ensures more { OnOk result (length self.old.fst.states ≤ length self.new.fst.states) }
-        ensures err { IfErr result (λ e. e ≡ TextFault.Memory) }
+        ensures arcs { OnOk result (arc_total self.new.fst.states ≡ arc_total self.old.fst.states) }
     {
-        let place = self.fst.add_state()?;
+        let place = self.push_state()?;
         self.places.add(number, place)?;
         Ok(place)
     }
@@ -246,6 +264,24 @@ impl<W: Weight> Builder<W> {
         }
     }
 
+    /// Adds an arc behind the others of a state, where there is room for one.
+    fn push_arc(&mut self, state: u32, arc: FstArc<W>) -> Result<(), AllocError>
+        requires room { arc_total self.old.fst.states < most_arcs }
+        requires state { state < length self.old.fst.states }
+        requires next { arc.next < length self.old.fst.states }
+        requires ilabel { arc.ilabel ≤ greatest_label }
+        requires olabel { arc.olabel ≤ greatest_label }
+        requires weight { W.value arc.weight ≢ infinite }
+        ensures ok { OnOk result (self.new.fst ≡ record self.old.fst { states = changed (with_arc arc) self.old.fst.states state }) }
+        ensures places { self.new.places ≡ self.old.places }
+    {
+        match self.fst.add_arc(state, arc) {
+            Ok(()) => Ok(()),
+            Err(GrowFault::Memory) => Err(AllocError),
+            Err(_) => unreachable!(),
+        }
+    }
+
     /// Adds an arc between the states of two numbers.
     fn add_arc(
         &mut self,
@@ -255,21 +291,16 @@ impl<W: Weight> Builder<W> {
         ilabel: u32,
         olabel: u32,
         weight: W,
-    ) -> Result<(), TextFault>
+    ) -> Result<(), AllocError>
         requires placed { IsPlaced (built W.value self.old) }
-        requires first { (room_of kept (built W.value self.old)).state source ≡ true }
-        requires second { (room_of kept (built W.value self.old)).states source dest ≡ true }
-        requires ilabel { ilabel ≤ greatest_label }
-        requires olabel { olabel ≤ greatest_label }
-        requires weight { W.value weight ≢ infinite }
+        requires fits { Fits kept (built W.value self.old) (arc_entry source (record { ilabel = ilabel; olabel = olabel; weight = W.value weight; next = dest })) }
         ensures added { OnOk result (built W.value self.new ≡ with_entry kept (built W.value self.old) (arc_entry source (record { ilabel = ilabel; olabel = olabel; weight = W.value weight; next = dest }))) }
         ensures placed { OnOk result (IsPlaced (built W.value self.new)) }
-        ensures err { IfErr result (λ e. e ≡ TextFault.Memory) }
     {
         let from = self.state(kept, source, true)?;
         let next = self.state(kept, dest, false)?;
         self.begin(from);
-        self.fst.add_arc(
+        self.push_arc(
             from,
             FstArc {
                 ilabel,
@@ -282,12 +313,11 @@ impl<W: Weight> Builder<W> {
     }
 
     /// Sets the final weight of the state of a number.
-    fn add_final(&mut self, kept: bool, number: u64, weight: W) -> Result<(), TextFault>
+    fn add_final(&mut self, kept: bool, number: u64, weight: W) -> Result<(), AllocError>
         requires placed { IsPlaced (built W.value self.old) }
         requires room { (room_of kept (built W.value self.old)).state number ≡ true }
         ensures added { OnOk result (built W.value self.new ≡ with_entry kept (built W.value self.old) (final_entry number (W.value weight))) }
         ensures placed { OnOk result (IsPlaced (built W.value self.new)) }
-        ensures err { IfErr result (λ e. e ≡ TextFault.Memory) }
     {
         let state = self.state(kept, number, true)?;
         self.begin(state);
@@ -295,10 +325,29 @@ impl<W: Weight> Builder<W> {
         Ok(())
     }
 
-    /// Adds an arc line.
+    /// Adds what a line says, for which there is room.
+    fn add_entry(&mut self, kept: bool, entry: LineEntry<W>) -> Result<(), AllocError>
+        requires placed { IsPlaced (built W.value self.old) }
+        requires fits { Fits kept (built W.value self.old) (said W.value entry) }
+        ensures added { OnOk result (built W.value self.new ≡ with_entry kept (built W.value self.old) (said W.value entry)) }
+        ensures placed { OnOk result (IsPlaced (built W.value self.new)) }
+    {
+        match entry {
+            LineEntry::Arc {
+                source,
+                dest,
+                ilabel,
+                olabel,
+                weight,
+            } => self.add_arc(kept, source, dest, ilabel, olabel, weight),
+            LineEntry::Final { state, weight } => self.add_final(kept, state, weight),
+        }
+    }
+
+    /// What an arc line says. Takes no memory.
     #[tactic(auto, unfolding(crate::specs::Grammar::arc_line))]
-    fn arc_line(
-        &mut self,
+    fn read_arc(
+        &self,
         options: &TextOptions,
         line: u64,
         source: &[u8],
@@ -306,10 +355,9 @@ impl<W: Weight> Builder<W> {
         ilabel: &[u8],
         olabel: Option<&[u8]>,
         weight: Option<&[u8]>,
-    ) -> Result<(), TextFault>
-        requires { IsPlaced (built W.value self.old) }
-        ensures read { Builds (built W.value self.new) result (with_read options.now.keep_state_numbering (built W.value self.old) (arc_line W.KIND options.now line (room_of options.now.keep_state_numbering (built W.value self.old)) source.now dest.now ilabel.now (option_map (λ f. f.now) olabel.entry) (option_map (λ f. f.now) weight.entry))) }
-        ensures placed { OnOk result (IsPlaced (built W.value self.new)) }
+    ) -> Result<LineEntry<W>, TextFault>
+        ensures read { IsRead (said W.value) result (arc_line W.KIND options.now line (room_of options.now.keep_state_numbering (built W.value self.now)) source.now dest.now ilabel.now (option_map (λ f. f.now) olabel.entry) (option_map (λ f. f.now) weight.entry)) }
+        ensures fits { IfOk result (λ e. Fits options.now.keep_state_numbering (built W.value self.now) (said W.value e)) }
     {
         let kept = options.keep_state_numbering;
         let source = self.read_first(kept, line, source)?;
@@ -320,96 +368,100 @@ impl<W: Weight> Builder<W> {
         if !self.has_room_for_arc() {
             return Err(TextFault::TooManyArcs { line });
         }
-        self.add_arc(kept, source, dest, ilabel, olabel, weight)
+        Ok(LineEntry::Arc {
+            source,
+            dest,
+            ilabel,
+            olabel,
+            weight,
+        })
     }
 
-    /// Adds a final line.
+    /// What a final line says. Takes no memory.
     #[tactic(auto, unfolding(crate::specs::Grammar::final_line))]
-    fn final_line(
-        &mut self,
+    fn read_final(
+        &self,
         options: &TextOptions,
         line: u64,
         state: &[u8],
         weight: Option<&[u8]>,
-    ) -> Result<(), TextFault>
-        requires { IsPlaced (built W.value self.old) }
-        ensures read { Builds (built W.value self.new) result (with_read options.now.keep_state_numbering (built W.value self.old) (final_line W.KIND line (room_of options.now.keep_state_numbering (built W.value self.old)) state.now (option_map (λ f. f.now) weight.entry))) }
-        ensures placed { OnOk result (IsPlaced (built W.value self.new)) }
+    ) -> Result<LineEntry<W>, TextFault>
+        ensures read { IsRead (said W.value) result (final_line W.KIND line (room_of options.now.keep_state_numbering (built W.value self.now)) state.now (option_map (λ f. f.now) weight.entry)) }
+        ensures fits { IfOk result (λ e. Fits options.now.keep_state_numbering (built W.value self.now) (said W.value e)) }
     {
-        let kept = options.keep_state_numbering;
-        let state = self.read_first(kept, line, state)?;
+        let state = self.read_first(options.keep_state_numbering, line, state)?;
         let weight = read_weight::<W>(line, weight)?;
-        self.add_final(kept, state, weight)
+        Ok(LineEntry::Final { state, weight })
     }
 
-    /// Adds a line, which has this number. After an error what is built stands for no text.
-    pub fn line(&mut self, options: &TextOptions, line: u64, text: &[u8]) -> Result<(), TextFault>
-        requires { IsPlaced (built W.value self.old) }
-        ensures read { Builds (built W.value self.new) result (after_line W.KIND options.now line (built W.value self.old) (fields_of text.now)) }
-        ensures placed { OnOk result (IsPlaced (built W.value self.new)) }
+    /// What a line with this first field says, with what stands after it. Takes no memory.
+    fn read_entry(
+        &self,
+        options: &TextOptions,
+        line: u64,
+        first: &[u8],
+        rest: &[u8],
+    ) -> Result<LineEntry<W>, TextFault>
+        ensures read { IsRead (said W.value) result (entry_of_fields W.KIND options.now line (room_of options.now.keep_state_numbering (built W.value self.now)) (first.now ∷ fields_of rest.now)) }
+        ensures fits { IfOk result (λ e. Fits options.now.keep_state_numbering (built W.value self.now) (said W.value e)) }
     {
-        let Some((first, rest)) = next_field(text) else {
-            return Ok(());
-        };
         let Some((second, rest)) = next_field(rest) else {
-            return self.final_line(options, line, first, None);
+            return self.read_final(options, line, first, None);
         };
         let Some((third, rest)) = next_field(rest) else {
-            return self.final_line(options, line, first, Some(second));
+            return self.read_final(options, line, first, Some(second));
         };
         if options.acceptor {
-            return self.acceptor_arc(options, line, first, second, third, rest);
+            return self.read_acceptor(options, line, first, second, third, rest);
         }
-        self.transducer_arc(options, line, first, second, third, rest)
+        self.read_transducer(options, line, first, second, third, rest)
     }
 
-    /// Adds an arc line of an acceptor, with what stands behind its label.
-    fn acceptor_arc(
-        &mut self,
+    /// What an arc line of an acceptor says, with what stands after its label. Takes no memory.
+    fn read_acceptor(
+        &self,
         options: &TextOptions,
         line: u64,
         source: &[u8],
         dest: &[u8],
         label: &[u8],
         rest: &[u8],
-    ) -> Result<(), TextFault>
-        requires { IsPlaced (built W.value self.old) }
-        ensures read { Builds (built W.value self.new) result (with_read options.now.keep_state_numbering (built W.value self.old) (acceptor_line W.KIND options.now line (room_of options.now.keep_state_numbering (built W.value self.old)) (source.now ∷ dest.now ∷ label.now ∷ fields_of rest.now))) }
-        ensures placed { OnOk result (IsPlaced (built W.value self.new)) }
+    ) -> Result<LineEntry<W>, TextFault>
+        ensures read { IsRead (said W.value) result (acceptor_line W.KIND options.now line (room_of options.now.keep_state_numbering (built W.value self.now)) (source.now ∷ dest.now ∷ label.now ∷ fields_of rest.now)) }
+        ensures fits { IfOk result (λ e. Fits options.now.keep_state_numbering (built W.value self.now) (said W.value e)) }
     {
         let Some((weight, rest)) = next_field(rest) else {
-            return self.arc_line(options, line, source, dest, label, None, None);
+            return self.read_arc(options, line, source, dest, label, None, None);
         };
         if next_field(rest).is_some() {
             return Err(TextFault::BadColumns { line });
         }
-        self.arc_line(options, line, source, dest, label, None, Some(weight))
+        self.read_arc(options, line, source, dest, label, None, Some(weight))
     }
 
-    /// Adds an arc line of a transducer, with what stands behind its input label.
-    fn transducer_arc(
-        &mut self,
+    /// What an arc line of a transducer says, with what stands after its input label. Takes no memory.
+    fn read_transducer(
+        &self,
         options: &TextOptions,
         line: u64,
         source: &[u8],
         dest: &[u8],
         ilabel: &[u8],
         rest: &[u8],
-    ) -> Result<(), TextFault>
-        requires { IsPlaced (built W.value self.old) }
-        ensures read { Builds (built W.value self.new) result (with_read options.now.keep_state_numbering (built W.value self.old) (transducer_line W.KIND options.now line (room_of options.now.keep_state_numbering (built W.value self.old)) (source.now ∷ dest.now ∷ ilabel.now ∷ fields_of rest.now))) }
-        ensures placed { OnOk result (IsPlaced (built W.value self.new)) }
+    ) -> Result<LineEntry<W>, TextFault>
+        ensures read { IsRead (said W.value) result (transducer_line W.KIND options.now line (room_of options.now.keep_state_numbering (built W.value self.now)) (source.now ∷ dest.now ∷ ilabel.now ∷ fields_of rest.now)) }
+        ensures fits { IfOk result (λ e. Fits options.now.keep_state_numbering (built W.value self.now) (said W.value e)) }
     {
         let Some((olabel, rest)) = next_field(rest) else {
             return Err(TextFault::BadColumns { line });
         };
         let Some((weight, rest)) = next_field(rest) else {
-            return self.arc_line(options, line, source, dest, ilabel, Some(olabel), None);
+            return self.read_arc(options, line, source, dest, ilabel, Some(olabel), None);
         };
         if next_field(rest).is_some() {
             return Err(TextFault::BadColumns { line });
         }
-        self.arc_line(
+        self.read_arc(
             options,
             line,
             source,
@@ -418,5 +470,28 @@ impl<W: Weight> Builder<W> {
             Some(olabel),
             Some(weight),
         )
+    }
+
+    /// Adds a line, which has this number. After an error what is built stands for no text.
+    pub fn line(
+        &mut self,
+        options: &TextOptions,
+        line: u64,
+        text: &[u8],
+    ) -> Result<Result<(), TextFault>, AllocError>
+        requires { IsPlaced (built W.value self.old) }
+        ensures read { IfOk result (λ r. IsRead (λ x. built W.value self.new) r (after_line W.KIND options.now line (built W.value self.old) (fields_of text.now))) }
+        ensures placed { IfOk result (λ r. OnOk r (IsPlaced (built W.value self.new))) }
+    {
+        let Some((first, rest)) = next_field(text) else {
+            return Ok(Ok(()));
+        };
+        match self.read_entry(options, line, first, rest) {
+            Ok(entry) => {
+                self.add_entry(options.keep_state_numbering, entry)?;
+                Ok(Ok(()))
+            }
+            Err(fault) => Ok(Err(fault)),
+        }
     }
 }

@@ -1,10 +1,10 @@
 //! The machine of a text.
 
-ghost use Rattle.std.specs.Prelude.{map};
-ghost use Rattle.fst_fields.specs.Lines.{fields_of, lines_of};
+ghost use Rattle.std.specs.Prelude.{◌≡◌, ◌/◌, IfOk};
+ghost use Rattle.fst_fields.specs.Texts.{IsRead};
 ghost use Rattle.fst_machine.specs.Machine.{valued};
 ghost use Rattle.fst_text.specs.Grammar.{Gives, machine_of_text};
-ghost use Rattle.fst_text.specs.Building.{after_lines, built, nothing_built};
+ghost use Rattle.fst_text.specs.Building.{built, built_of_text};
 
 use crate::builder::Builder;
 use crate::fault::TextFault;
@@ -12,29 +12,36 @@ use crate::options::TextOptions;
 use fst_fields::next_line;
 use fst_machine::Fst;
 use fst_semiring::Weight;
-use std::alloc::Global;
+use std::alloc::{AllocError, Global};
 
-/// What the lines of a text build.
+/// The written numbers below this are looked up in a table by number: most are, since a line of an arc has at least
+/// eight bytes. The table takes at most a quarter as much memory as the text.
+fn table_bound(bytes: usize) -> usize
+    ensures { result ≡ bytes / 16 }
+{
+    bytes / 16
+}
+
+/// What the lines of a text build, or the first fault of the first faulty line.
 fn read_lines<W: Weight>(
     alloc: Global,
     text: &[u8],
     options: &TextOptions,
-) -> Result<Builder<W>, TextFault>
-    ensures { Gives (built W.value) result (after_lines W.KIND options.now 1 nothing_built (map fields_of (lines_of text.now))) }
+) -> Result<Result<Builder<W>, TextFault>, AllocError>
+    ensures { IfOk result (λ r. IsRead (built W.value) r (built_of_text W.KIND options.now text.now)) }
 {
-    // The numbers of most machines are below this: a line of an arc has at least eight bytes.
-    let mut builder = Builder::new(alloc, text.len() / 16);
+    let mut builder = Builder::new(alloc, table_bound(text.len()));
     let mut rest = text;
     let mut line: u64 = 0;
     while let Some((first, behind)) = next_line(rest) {
         line += 1;
-        match builder.line(options, line, first) {
+        match builder.line(options, line, first)? {
             Ok(()) => {}
-            Err(fault) => return Err(fault),
+            Err(fault) => return Ok(Err(fault)),
         }
         rest = behind;
     }
-    Ok(builder)
+    Ok(Ok(builder))
 }
 
 /// The machine of a text, with states numbered in the order of first appearance, the source of an arc
@@ -50,7 +57,8 @@ pub fn compile<W: Weight>(
     ensures { Gives (valued W.value) result (machine_of_text W.KIND options.now bytes.now) }
 {
     match read_lines::<W>(alloc, bytes, options) {
-        Ok(builder) => Ok(builder.into_machine()),
-        Err(fault) => Err(fault),
+        Ok(Ok(builder)) => Ok(builder.into_machine()),
+        Ok(Err(fault)) => Err(fault),
+        Err(_) => Err(TextFault::Memory),
     }
 }

@@ -1,8 +1,5 @@
 //! Why a text is not read, or a machine not printed.
 
-use fst_machine::GrowFault;
-use std::alloc::AllocError;
-
 /// Why a text is no machine: the first fault of the first faulty line. Lines count from 1, blank ones
 /// included. In a line the number of fields comes first, then the fields from left to right, then the
 /// number of arcs.
@@ -26,29 +23,6 @@ pub enum TextFault {
     Memory,
 }
 
-impl From<AllocError> for TextFault {
-    ghost use Rattle.std.specs.Prelude.{◌≡◌};
-    ghost use Rattle.fst_text.specs.declared.fault.TextFault.TheVariants as faults;
-
-    ghost from_gives = { λ _ e. e ≡ faults.Memory };
-
-    fn from(_e: AllocError) -> TextFault {
-        TextFault::Memory
-    }
-}
-
-impl From<GrowFault> for TextFault {
-    ghost use Rattle.std.specs.Prelude.{◌≡◌};
-    ghost use Rattle.fst_text.specs.declared.fault.TextFault.TheVariants as faults;
-
-    ghost from_gives = { λ _ e. e ≡ faults.Memory };
-
-    // Both limits are asked before a machine is made to grow, since their faults want the line.
-    fn from(_e: GrowFault) -> TextFault {
-        TextFault::Memory
-    }
-}
-
 /// Why a machine is not printed.
 #[derive(Clone, Copy, Debug, PartialEq, Eq)]
 pub enum PrintFault {
@@ -59,15 +33,4 @@ pub enum PrintFault {
     UnknownSymbol { label: u32 },
     /// There is no memory.
     Memory,
-}
-
-impl From<AllocError> for PrintFault {
-    ghost use Rattle.std.specs.Prelude.{◌≡◌};
-    ghost use Rattle.fst_text.specs.declared.fault.PrintFault.TheVariants as faults;
-
-    ghost from_gives = { λ _ e. e ≡ faults.Memory };
-
-    fn from(_e: AllocError) -> PrintFault {
-        PrintFault::Memory
-    }
 }

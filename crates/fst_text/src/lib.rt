@@ -6,6 +6,7 @@
 
 mod builder;
 mod compiling;
+mod entry;
 mod fault;
 mod laws;
 mod options;

@@ -1,6 +1,6 @@
 //! Where the state of each written number stands.
 
-ghost use Rattle.std.specs.Prelude.{◌≡◌, ◌<◌, ℕ, None, Some, OnOk, length};
+ghost use Rattle.std.specs.Prelude.{◌≡◌, ◌<◌, ◌≤◌, ℕ, None, Some, OnOk, length};
 ghost use Rattle.std.specs.Option.{ForSome};
 ghost use Rattle.fst_text.specs.Slots.{found_among};
 
@@ -20,6 +20,7 @@ pub struct Places {
     sparse: FlatTable,
     // The source of the line before, since the arcs of a state mostly come one after another.
     recent: Option<(u64, u32)>,
+    ghost room: { length dense.items ≤ bound },
     ghost remembered: { ForSome recent (λ r. found_among bound dense.items sparse.slots.items r.0 ≡ Some r.1) },
 }
 
@@ -28,7 +29,8 @@ impl Places {
 
     /// No number is known. The table takes no more than `bound` slots. Takes no memory.
     pub fn new(alloc: Global, bound: usize) -> Places
-        ensures { (n : ℕ) → found_in result n ≡ None }
+        ensures none { (n : ℕ) → found_in result n ≡ None }
+        ensures bound { result.bound ≡ bound }
     {
         Places {
             bound,
@@ -68,7 +70,7 @@ impl Places {
         found
     }
 
-    /// Makes the table long enough for a slot, at least doubling it.
+    /// Makes the table long enough for a slot: at least twice as long, but no longer than the bound.
     fn grow(&mut self, slot: usize) -> Result<(), AllocError>
         requires { slot < self.old.bound }
         ensures ok { OnOk result (slot < length self.new.dense.items) }
@@ -76,11 +78,9 @@ impl Places {
         ensures same { (n : ℕ) → found_in self.new n ≡ found_in self.old n }
     {
         let len = self.dense.len();
+        let bound = self.bound;
         if slot >= len {
-            let mut wanted = slot + 1;
-            if wanted < 2 * len {
-                wanted = 2 * len;
-            }
+            let wanted = (2 * len).min(bound).max(slot + 1);
             self.dense.resize(wanted, ABSENT)?;
         }
         Ok(())

@@ -1,16 +1,16 @@
 //! The text of a machine.
 
-ghost use Rattle.std.specs.Prelude.{◌≡◌, ◌<◌, ◌≤◌, ◌==◌, ◌∷◌, ◌++◌, if◌then◌else◌, [], length, map, None, Some, IfOk, OnOk};
+ghost use Rattle.std.specs.Prelude.{◌≡◌, ◌<◌, ◌≤◌, ◌+◌, ◌*◌, ◌==◌, ◌∷◌, ◌++◌, if◌then◌else◌, [], length, map, None, Some, IfOk, OnOk};
 ghost use Rattle.std.specs.Fmt.{decimal};
 ghost use Rattle.std.specs.Option.{option_map};
-ghost use Rattle.fst_machine.specs.Machine.{most_arcs, valued, valued_arc, valued_state};
+ghost use Rattle.fst_machine.specs.Machine.{arc_total, most_arcs, valued, valued_arc, valued_state};
 ghost use Rattle.fst_text.specs.Entries.{arc_entry};
 ghost use Rattle.fst_text.specs.Printed.{Names, Prints, behind_tabs, entries_at, field_of_label, final_entries, first_unnamed, is_one, label_fields, labels_of_arc, other_entries, split_arc, split_state, text_of_entries, text_of_machine, unnamed_label, weight_fields};
 
 use crate::fault::PrintFault;
 use crate::options::TextOptions;
 use fst_machine::{Fst, FstArc};
-use fst_semiring::Weight;
+use fst_semiring::{Weight, is_zero};
 use fst_symbols::SymbolTable;
 use itoa::Buffer;
 use std::alloc::{AllocError, Global};
@@ -69,24 +69,25 @@ fn push_weight<W: Weight>(
     Ok(())
 }
 
-/// Appends the field of a label: its name where its side has a symbol table, else its number.
+/// Appends the field of a label: its name where its side has a symbol table, else its number. The fault, where the
+/// label has no name.
 fn push_label(
     out: &mut Vec<u8>,
     symbols: Option<&SymbolTable>,
     label: u32,
-) -> Result<(), PrintFault>
-    ensures text { OnOk result (out.new.items ≡ out.old.items ++ behind_tabs (field_of_label (record { symbols = option_map (λ t. t.now) symbols.entry; number = label }) ∷ [])) }
-    ensures named { Names result (first_unnamed (record { symbols = option_map (λ t. t.now) symbols.entry; number = label } ∷ [])) }
+) -> Result<Result<(), PrintFault>, AllocError>
+    ensures text { IfOk result (λ r. OnOk r (out.new.items ≡ out.old.items ++ behind_tabs (field_of_label (record { symbols = option_map (λ t. t.now) symbols.entry; number = label }) ∷ []))) }
+    ensures named { IfOk result (λ r. Names r (first_unnamed (record { symbols = option_map (λ t. t.now) symbols.entry; number = label } ∷ []))) }
 {
     let Some(symbols) = symbols else {
         push_number_field(out, label)?;
-        return Ok(());
+        return Ok(Ok(()));
     };
     let Some(name) = symbols.name(label) else {
-        return Err(PrintFault::UnknownSymbol { label });
+        return Ok(Err(PrintFault::UnknownSymbol { label }));
     };
     push_name_field(out, name)?;
-    Ok(())
+    Ok(Ok(()))
 }
 
 /// Appends the fields of the labels of an arc.
@@ -94,15 +95,17 @@ fn push_labels<W: Weight>(
     out: &mut Vec<u8>,
     options: &TextOptions,
     arc: &FstArc<W>,
-) -> Result<(), PrintFault>
-    ensures text { OnOk result (out.new.items ≡ out.old.items ++ behind_tabs (label_fields options.now (valued_arc W.value arc.now))) }
-    ensures named { Names result (first_unnamed (labels_of_arc options.now (valued_arc W.value arc.now))) }
+) -> Result<Result<(), PrintFault>, AllocError>
+    ensures text { IfOk result (λ r. OnOk r (out.new.items ≡ out.old.items ++ behind_tabs (label_fields options.now (valued_arc W.value arc.now)))) }
+    ensures named { IfOk result (λ r. Names r (first_unnamed (labels_of_arc options.now (valued_arc W.value arc.now)))) }
 {
-    push_label(out, options.isymbols, arc.ilabel)?;
-    if !options.acceptor {
-        push_label(out, options.osymbols, arc.olabel)?;
+    if let Err(fault) = push_label(out, options.isymbols, arc.ilabel)? {
+        return Ok(Err(fault));
     }
-    Ok(())
+    if options.acceptor {
+        return Ok(Ok(()));
+    }
+    push_label(out, options.osymbols, arc.olabel)
 }
 
 /// Appends the line of an arc.
@@ -111,15 +114,17 @@ fn push_arc<W: Weight>(
     options: &TextOptions,
     state: u32,
     arc: &FstArc<W>,
-) -> Result<(), PrintFault>
-    ensures text { OnOk result (out.new.items ≡ out.old.items ++ text_of_entries W.KIND options.now (arc_entry state (valued_arc W.value arc.now) ∷ [])) }
-    ensures named { Names result (first_unnamed (labels_of_arc options.now (valued_arc W.value arc.now))) }
+) -> Result<Result<(), PrintFault>, AllocError>
+    ensures text { IfOk result (λ r. OnOk r (out.new.items ≡ out.old.items ++ text_of_entries W.KIND options.now (arc_entry state (valued_arc W.value arc.now) ∷ []))) }
+    ensures named { IfOk result (λ r. Names r (first_unnamed (labels_of_arc options.now (valued_arc W.value arc.now)))) }
 {
     push_number(out, state)?;
     push_number_field(out, arc.next)?;
-    push_labels::<W>(out, options, arc)?;
+    if let Err(fault) = push_labels::<W>(out, options, arc)? {
+        return Ok(Err(fault));
+    }
     push_weight::<W>(out, options, arc.weight)?;
-    Ok(())
+    Ok(Ok(()))
 }
 
 /// Appends the lines of arcs of a state.
@@ -128,14 +133,16 @@ fn push_arcs<W: Weight>(
     options: &TextOptions,
     state: u32,
     arcs: &[FstArc<W>],
-) -> Result<(), PrintFault>
-    ensures text { OnOk result (out.new.items ≡ out.old.items ++ text_of_entries W.KIND options.now (map (arc_entry state) (map (valued_arc W.value) arcs.now))) }
-    ensures named { Names result (unnamed_label options.now (map (arc_entry state) (map (valued_arc W.value) arcs.now))) }
+) -> Result<Result<(), PrintFault>, AllocError>
+    ensures text { IfOk result (λ r. OnOk r (out.new.items ≡ out.old.items ++ text_of_entries W.KIND options.now (map (arc_entry state) (map (valued_arc W.value) arcs.now)))) }
+    ensures named { IfOk result (λ r. Names r (unnamed_label options.now (map (arc_entry state) (map (valued_arc W.value) arcs.now)))) }
 {
     for arc in arcs {
-        push_arc::<W>(out, options, state, arc)?;
+        if let Err(fault) = push_arc::<W>(out, options, state, arc)? {
+            return Ok(Err(fault));
+        }
     }
-    Ok(())
+    Ok(Ok(()))
 }
 
 /// Appends the final line of a state.
@@ -148,7 +155,7 @@ fn push_final<W: Weight>(
 ) -> Result<(), AllocError>
     ensures { OnOk result (out.new.items ≡ out.old.items ++ text_of_entries W.KIND options.now (final_entries state (W.value weight) (map (valued_arc W.value) arcs.now))) }
 {
-    if !arcs.is_empty() && W::key(weight.widen()).class == 2 {
+    if !arcs.is_empty() && is_zero(weight) {
         return Ok(());
     }
     push_number(out, state)?;
@@ -161,15 +168,18 @@ fn push_state<W: Weight>(
     options: &TextOptions,
     fst: &Fst<W>,
     state: u32,
-) -> Result<(), PrintFault>
+) -> Result<Result<(), PrintFault>, AllocError>
     requires { state < length fst.now.states }
-    ensures text { OnOk result (out.new.items ≡ out.old.items ++ text_of_entries W.KIND options.now (entries_at state (map (valued_state W.value) fst.now.states))) }
-    ensures named { Names result (unnamed_label options.now (entries_at state (map (valued_state W.value) fst.now.states))) }
+    ensures text { IfOk result (λ r. OnOk r (out.new.items ≡ out.old.items ++ text_of_entries W.KIND options.now (entries_at state (map (valued_state W.value) fst.now.states)))) }
+    ensures named { IfOk result (λ r. Names r (unnamed_label options.now (entries_at state (map (valued_state W.value) fst.now.states)))) }
 {
     let arcs = fst.arcs(state);
-    push_arcs::<W>(out, options, state, arcs)?;
+    match push_arcs::<W>(out, options, state, arcs)? {
+        Ok(()) => {}
+        Err(fault) => return Ok(Err(fault)),
+    }
     push_final::<W>(out, options, state, fst.final_weight(state), arcs)?;
-    Ok(())
+    Ok(Ok(()))
 }
 
 /// Appends the lines of a state that is not the start.
@@ -179,13 +189,13 @@ fn push_other<W: Weight>(
     fst: &Fst<W>,
     start: u32,
     state: u32,
-) -> Result<(), PrintFault>
+) -> Result<Result<(), PrintFault>, AllocError>
     requires { state < length fst.now.states }
-    ensures text { OnOk result (out.new.items ≡ out.old.items ++ text_of_entries W.KIND options.now (if state == start then [] else entries_at state (map (valued_state W.value) fst.now.states))) }
-    ensures named { Names result (unnamed_label options.now (if state == start then [] else entries_at state (map (valued_state W.value) fst.now.states))) }
+    ensures text { IfOk result (λ r. OnOk r (out.new.items ≡ out.old.items ++ text_of_entries W.KIND options.now (if state == start then [] else entries_at state (map (valued_state W.value) fst.now.states)))) }
+    ensures named { IfOk result (λ r. Names r (unnamed_label options.now (if state == start then [] else entries_at state (map (valued_state W.value) fst.now.states)))) }
 {
     if state == start {
-        return Ok(());
+        return Ok(Ok(()));
     }
     push_state::<W>(out, options, fst, state)
 }
@@ -196,14 +206,17 @@ fn push_others<W: Weight>(
     options: &TextOptions,
     fst: &Fst<W>,
     start: u32,
-) -> Result<(), PrintFault>
-    ensures text { OnOk result (out.new.items ≡ out.old.items ++ text_of_entries W.KIND options.now (other_entries start 0 (map (valued_state W.value) fst.now.states))) }
-    ensures named { Names result (unnamed_label options.now (other_entries start 0 (map (valued_state W.value) fst.now.states))) }
+) -> Result<Result<(), PrintFault>, AllocError>
+    ensures text { IfOk result (λ r. OnOk r (out.new.items ≡ out.old.items ++ text_of_entries W.KIND options.now (other_entries start 0 (map (valued_state W.value) fst.now.states)))) }
+    ensures named { IfOk result (λ r. Names r (unnamed_label options.now (other_entries start 0 (map (valued_state W.value) fst.now.states)))) }
 {
     for state in 0..fst.states() {
-        push_other::<W>(out, options, fst, start, state)?;
+        match push_other::<W>(out, options, fst, start, state)? {
+            Ok(()) => {}
+            Err(fault) => return Ok(Err(fault)),
+        }
     }
-    Ok(())
+    Ok(Ok(()))
 }
 
 /// The first of the arcs of a state with two different labels.
@@ -236,25 +249,33 @@ fn split_state<W: Weight>(fst: &Fst<W>) -> Option<PrintFault>
 }
 
 /// The bytes that are reserved for a text: most machines fit, and room that stays empty costs no memory.
-fn room<W: Weight>(fst: &Fst<W>) -> usize {
+fn room<W: Weight>(fst: &Fst<W>) -> usize
+    ensures { result ≡ arc_total fst.now.states * 32 + length fst.now.states * 16 }
+{
     fst.arc_count() as usize * ARC_ROOM + fst.states() as usize * STATE_ROOM
 }
 
-/// The text of a machine with a start.
+/// The text of a machine with a start; the fault, where a label has no name.
 fn print_from<W: Weight>(
     alloc: Global,
     fst: &Fst<W>,
     options: &TextOptions,
     start: u32,
-) -> Result<Vec<u8>, PrintFault>
+) -> Result<Result<Vec<u8>, PrintFault>, AllocError>
     requires { start < length fst.now.states }
-    ensures text { IfOk result (λ text. text.items ≡ text_of_entries W.KIND options.now (entries_at start (map (valued_state W.value) fst.now.states) ++ other_entries start 0 (map (valued_state W.value) fst.now.states))) }
-    ensures named { Names result (unnamed_label options.now (entries_at start (map (valued_state W.value) fst.now.states) ++ other_entries start 0 (map (valued_state W.value) fst.now.states))) }
+    ensures text { IfOk result (λ r. IfOk r (λ text. text.items ≡ text_of_entries W.KIND options.now (entries_at start (map (valued_state W.value) fst.now.states) ++ other_entries start 0 (map (valued_state W.value) fst.now.states)))) }
+    ensures named { IfOk result (λ r. Names r (unnamed_label options.now (entries_at start (map (valued_state W.value) fst.now.states) ++ other_entries start 0 (map (valued_state W.value) fst.now.states)))) }
 {
     let mut out = Vec::with_capacity(alloc, room::<W>(fst))?;
-    push_state::<W>(&mut out, options, fst, start)?;
-    push_others::<W>(&mut out, options, fst, start)?;
-    Ok(out)
+    match push_state::<W>(&mut out, options, fst, start)? {
+        Ok(()) => {}
+        Err(fault) => return Ok(Err(fault)),
+    }
+    match push_others::<W>(&mut out, options, fst, start)? {
+        Ok(()) => {}
+        Err(fault) => return Ok(Err(fault)),
+    }
+    Ok(Ok(out))
 }
 
 /// The text of a machine: the lines of the start, then those of the other states by number. A state's lines
@@ -282,7 +303,8 @@ pub fn print<W: Weight>(
         return Ok(Vec::new(alloc));
     };
     match print_from::<W>(alloc, fst, options, start) {
-        Ok(text) => Ok(text),
-        Err(fault) => Err(fault),
+        Ok(Ok(text)) => Ok(text),
+        Ok(Err(fault)) => Err(fault),
+        Err(_) => Err(PrintFault::Memory),
     }
 }

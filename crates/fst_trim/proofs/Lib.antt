@@ -6,7 +6,12 @@ pub mod Backward
 pub mod Marking
 pub mod Trimming
 pub mod Epsilons
-pub mod Alongside
+pub mod OneToOne
+pub mod KeptPaths
+pub mod Ranks
 pub mod Rearranged
 pub mod Valued
+pub mod SortedPaths
 pub mod Joined
+pub mod Placing
+pub mod LinkLists

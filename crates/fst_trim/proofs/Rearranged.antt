@@ -18,10 +18,8 @@ use Rattle.fst_machine.specs.Serving.{Serves}
 use Rattle.fst_machine.proofs.Arcs.{mapped_some, append_at}
 use Rattle.fst_machine.proofs.Serving.{served-Rel}
 use Rattle.fst_trim.specs.declared.side.Side.{Side}
-use Rattle.fst_trim.specs.Beside.{SamePaths}
 use Rattle.fst_trim.specs.Sorting.{IsArcSorted, IsStableSort}
 use Rattle.fst_trim.proofs.Looking.{look, look_past, arc_from, arc_there}
-use Rattle.fst_trim.proofs.Alongside.{same_paths}
 
 -- an element of a list that is put in another order
 moved_to : {X : Type 0} (xs ys : List X) (k : ℕ) (x : X) → IsPermutation xs ys → slice_get xs k ≡ Some x → (j : ℕ) × (slice_get ys j ≡ Some x)
@@ -30,7 +28,7 @@ moved_to xs ys k x same there =
     (at.0, slice_get-get_or ys at.0 x at.1 ∙ ap Some at.2)
 
 -- what is read inside a list
-read_inside : {X : Type 0} (xs : List X) (p : ℕ) → p < length xs → (x : X) × (slice_get xs p ≡ Some x)
+pub read_inside : {X : Type 0} (xs : List X) (p : ℕ) → p < length xs → (x : X) × (slice_get xs p ≡ Some x)
 read_inside {X} xs p low = by_case (slice_get_cases xs p).1
   where
     by_case : ((x : X) × (p < length xs) × (slice_get xs p ≡ Some x) × (get_or xs p x ≡ x)) ⊎ ((length xs ≤ p) × (slice_get xs p ≡ None)) → (x : X) × (slice_get xs p ≡ Some x)
@@ -44,7 +42,7 @@ pub record IsRearranged {V : Type 0} (m c : Machine V) : Type 0 where
   pub final : (p : ℕ) (s t : State V) → slice_get m.states p ≡ Some s → slice_get c.states p ≡ Some t → t.final ≡ s.final
   pub arcs : (p : ℕ) (s t : State V) → slice_get m.states p ≡ Some s → slice_get c.states p ≡ Some t → IsPermutation s.arcs t.arcs
 
-turned : {V : Type 0} (m c : Machine V) → IsRearranged m c → IsRearranged c m
+pub turned : {V : Type 0} (m c : Machine V) → IsRearranged m c → IsRearranged c m
 turned m c r = record {
   start = sym r.start;
   size = sym r.size;
@@ -53,7 +51,7 @@ turned m c r = record {
 }
 
 module _ {V : Type 0} (value : V → Cost) where
-  rearranged_serves : (m c : Machine V) → IsRearranged m c → Serves (λ (p q : ℕ). p ≡ q) (graph_of (valued value m)) (graph_of (valued value c))
+  pub rearranged_serves : (m c : Machine V) → IsRearranged m c → Serves (λ (p q : ℕ). p ≡ q) (graph_of (valued value m)) (graph_of (valued value c))
   rearranged_serves m c r = record {
     start = λ n starts reaches. (n, r.start ∙ starts, refl);
     arcs = λ n n' k a tied has reaches.
@@ -72,16 +70,6 @@ module _ {V : Type 0} (value : V → Cost) where
           let t = read_inside c.states n (omega (arith, r.size)) in
           (look value c n t.0 t.1).1 ∙ (ap value (r.final n s.0 t.0 s.1 t.1) ∙ sym (look value m n s.0 s.1).1)
       finals n (inr past) = (look_past value c n (omega (arith, r.size))).1 ∙ sym (look_past value m n past).1
-
-  swap_tied : (m c : Machine V) → Serves (λ (p q : ℕ). p ≡ q) (graph_of (valued value c)) (graph_of (valued value m)) → Serves (λ (q p : ℕ). p ≡ q) (graph_of (valued value c)) (graph_of (valued value m))
-  swap_tied m c s = record {
-    start = λ n starts reaches. let f = s.start n starts reaches in (f.0, f.1, sym f.2);
-    arcs = λ n n' k a tied has reaches. let f = s.arcs n n' k a (sym tied) has reaches in (f.0, f.1, f.2, f.3, sym f.4);
-    final = λ n n' tied. s.final n n' (sym tied);
-  }
-
-  pub rearranged_paths : (m c : Machine V) → IsRearranged m c → (kind : ArcType) → SamePaths kind (λ (p q : ℕ). p ≡ q) (graph_of (valued value m)) (graph_of (valued value c))
-  rearranged_paths m c r kind = same_paths (λ (p q : ℕ). p ≡ q) (graph_of (valued value m)) (graph_of (valued value c)) (rearranged_serves m c r) (swap_tied m c (rearranged_serves c m (turned m c r))) kind
 
   pub rearranged-Rel : (m c : Machine V) → IsRearranged m c → (kind : ArcType) (x y : List ℕ) (w : Cost) → Rel kind (graph_of (valued value m)) x y w ↔ Rel kind (graph_of (valued value c)) x y w
   rearranged-Rel m c r kind x y w = (served-Rel _ (graph_of (valued value m)) (graph_of (valued value c)) (rearranged_serves m c r) kind x y w, served-Rel _ (graph_of (valued value c)) (graph_of (valued value m)) (rearranged_serves c m (turned m c r)) kind x y w)

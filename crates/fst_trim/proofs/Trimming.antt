@@ -12,10 +12,11 @@ use Rattle.fst_machine.specs.Machine.{Arc, State, Machine, IsArc, IsMachine, arc
 use Rattle.fst_machine.specs.Graph.{graph_of}
 use Rattle.fst_machine.specs.Cycles.{IsUseful}
 use Rattle.fst_machine.specs.BreadthFirst.{Has}
-use Rattle.fst_machine.specs.Connected.{Kept, IsConnected}
+use Rattle.fst_machine.specs.Connected.{Kept}
 use Rattle.fst_machine.proofs.Arcs.{mapped_some}
 use Rattle.fst_machine.proofs.Elements.{at_Has}
 use Rattle.fst_trim.specs.Renumbered.{IsNumbering, kept_arcs, kept_machine, kept_states, marked, new_start, renumbered}
+use Rattle.fst_trim.specs.KeptPaths.{IsConnectedOn}
 use Rattle.fst_trim.proofs.Looking.{look}
 use Rattle.fst_trim.proofs.Marking.{marked_is, marked-ascends, marked-few, marked-once, number_at}
 use Rattle.fst_trim.proofs.Pairs.{drop_here}
@@ -146,16 +147,19 @@ module _ {V : Type 0} (value : V → Cost) (marks : List Bool) (numbers : List �
         start_within (Some i) e count = let p = (start_is m.start i).0 e in omega (arith, slice_get_within (marked 0 marks) i p.0 p.2)
 
     -- and where the marks are those of the useful states, it is the connected machine
-    pub kept_is_connected : ((p : ℕ) → Decides (get_or marks p false) (IsUseful (graph_of (valued value m)) p)) → IsConnected (valued value m) (valued value (kept_machine marks numbers m))
-    kept_is_connected useful = record {
-      kept = marked 0 marks;
-      ascending = λ i j p q low there behind. marked-ascends 0 marks i j p q low there behind;
-      useful = λ p. ((λ has. (useful p).0 ((marked_is marks p).0 has)), (λ u. (marked_is marks p).1 ((useful p).1 u)));
-      states = length-map (kept_states marks numbers 0 m.states) (valued_state value) ∙ kept_states-length marks numbers 0 m.states marks size agree;
-      start = λ i. start_is m.start i;
-      final = λ i p there. (places i p there).1;
-      arcs = λ i p there. (places i p there).0;
-    }
+    pub kept_is_connected : ((p : ℕ) → Decides (get_or marks p false) (IsUseful (graph_of (valued value m)) p)) → IsConnectedOn (valued value m) (valued value (kept_machine marks numbers m)) (marked 0 marks)
+    kept_is_connected useful = (
+      record {
+        kept = marked 0 marks;
+        ascending = λ i j p q low there behind. marked-ascends 0 marks i j p q low there behind;
+        useful = λ p. ((λ has. (useful p).0 ((marked_is marks p).0 has)), (λ u. (marked_is marks p).1 ((useful p).1 u)));
+        states = length-map (kept_states marks numbers 0 m.states) (valued_state value) ∙ kept_states-length marks numbers 0 m.states marks size agree;
+        start = λ i. start_is m.start i;
+        final = λ i p there. (places i p there).1;
+        arcs = λ i p there. (places i p there).0;
+      },
+      refl,
+    )
       where
         places : (i p : ℕ) → slice_get (marked 0 marks) i ≡ Some p → Kept (marked 0 marks) ((graph_of (valued value m)).arcs p) ((graph_of (valued value (kept_machine marks numbers m))).arcs i) × ((graph_of (valued value (kept_machine marks numbers m))).final i ≡ (graph_of (valued value m)).final p)
         places i p there =
@@ -166,19 +170,19 @@ module _ {V : Type 0} (value : V → Cost) (marks : List Bool) (numbers : List �
             (subst (λ (zs : List (Arc Cost ℕ)). Kept (marked 0 marks) zs ((graph_of (valued value (kept_machine marks numbers m))).arcs i)) (sym old.0) (subst (λ (zs : List (Arc Cost ℕ)). Kept (marked 0 marks) (map (valued_arc value) at.1.arcs) zs) (sym new.0) (kept_is at.1.arcs)), new.1 ∙ sym old.1)
 
 -- the finished machine
-pub record Finished {V : Type 0} (value : V → Cost) (m new : Machine V) : Type 0 where
+pub record Finished {V : Type 0} (value : V → Cost) (m new : Machine V) (kept : List ℕ) : Type 0 where
   pub machine : IsMachine value new
-  pub connected : IsConnected (valued value m) (valued value new)
+  pub connected : IsConnectedOn (valued value m) (valued value new) kept
 
-pub finished : {V : Type 0} (value : V → Cost) (m new : Machine V) (items marks : List Bool) (numbers one two : List ℕ) (start : Option ℕ) → IsMachine value m → marks ≡ items → length items ≡ length m.states → ((p : ℕ) → Decides (get_or items p false) (IsUseful (graph_of (valued value m)) p)) → IsNumbering marks numbers → one ≡ numbers → two ≡ numbers → start ≡ m.start → new.start ≡ new_start marks two start → new.states ≡ kept_states marks one 0 m.states → Finished value m new
+pub finished : {V : Type 0} (value : V → Cost) (m new : Machine V) (items marks : List Bool) (numbers one two : List ℕ) (start : Option ℕ) → IsMachine value m → marks ≡ items → length items ≡ length m.states → ((p : ℕ) → Decides (get_or items p false) (IsUseful (graph_of (valued value m)) p)) → IsNumbering marks numbers → one ≡ numbers → two ≡ numbers → start ≡ m.start → new.start ≡ new_start marks two start → new.states ≡ kept_states marks one 0 m.states → Finished value m new (marked 0 marks)
 finished {V} value m new items marks numbers one two start h same size useful numbering first second starts begins states =
     let count : length marks ≡ length m.states = ap length same ∙ size in
     let decides : (p : ℕ) → Decides (get_or marks p false) (IsUseful (graph_of (valued value m)) p) = subst (λ (ms : List Bool). (p : ℕ) → Decides (get_or ms p false) (IsUseful (graph_of (valued value m)) p)) (sym same) useful in
-    let whole : Finished value m (kept_machine marks numbers m) = record { machine = kept_is_machine value marks numbers numbering m count h; connected = kept_is_connected value marks numbers numbering m count decides } in
+    let whole : Finished value m (kept_machine marks numbers m) (marked 0 marks) = record { machine = kept_is_machine value marks numbers numbering m count h; connected = kept_is_connected value marks numbers numbering m count decides } in
     let start_same : new.start ≡ new_start marks numbers m.start = begins ∙ (ap (λ (ns : List ℕ). new_start marks ns start) second ∙ ap (new_start marks numbers) starts) in
     let states_same : new.states ≡ kept_states marks numbers 0 m.states = states ∙ ap (λ (ns : List ℕ). kept_states marks ns 0 m.states) first in
     let machine : ◌≡◌ {A = Machine V} new (kept_machine marks numbers m) = ap (λ (s : Option ℕ). record { start = s; states = new.states }) start_same ∙ ap (λ (ss : List (State V)). record { start = new_start marks numbers m.start; states = ss }) states_same in
-    subst (λ (n : Machine V). Finished value m n) (sym machine) whole
+    subst (λ (n : Machine V). Finished value m n (marked 0 marks)) (sym machine) whole
 
 module _ {V : Type 0} (marks : List Bool) (numbers : List ℕ) (states old : List (State V)) (k : ℕ) (low : k < length states) where
   -- the states that are left, and the next of them

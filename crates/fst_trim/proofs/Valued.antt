@@ -134,7 +134,7 @@ module _ {V : Type 0} (value : V → Cost) where
       mapped new ∙ (ap (map (valued_arc value)) (stable (weighing a.weight x)) ∙ sym (mapped (a ∷ arcs)))
 
   -- so the values are the stable sort of the values
-  stable_sort_valued : (side : Side) (arcs new : List (Arc V ℕ)) → IsStableSort side arcs new → IsStableSort side (map (valued_arc value) arcs) (map (valued_arc value) new)
+  pub stable_sort_valued : (side : Side) (arcs new : List (Arc V ℕ)) → IsStableSort side arcs new → IsStableSort side (map (valued_arc value) arcs) (map (valued_arc value) new)
   stable_sort_valued side arcs new h = record {
     same = IsPermutation-map (valued_arc value) arcs new h.same;
     stands = like_stands (values_labelled new) side h.stands;

@@ -4,6 +4,9 @@ pub mod Sources
 pub mod Finals
 pub mod Renumbered
 pub mod Counted
+pub mod Links
+pub mod Taken
+pub mod OneToOne
+pub mod KeptPaths
 pub mod Sorting
-pub mod Beside
 pub mod Targets

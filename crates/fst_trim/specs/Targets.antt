@@ -7,12 +7,12 @@ use Rattle.fst_machine.specs.Machine.{State}
 abbrev pub targets_from : {V : Type 0} → List (State V) → List (List ℕ)
 targets_from states = map (λ s. map (λ a. a.next) s.arcs) states
 
--- one list behind the other
-abbrev pub joined : List (List ℕ) → List ℕ
+-- one list after the other
+abbrev pub joined : {X : Type 0} → List (List X) → List X
 joined lists = flat_map (λ list. list) lists
 
 -- The lists stand side by side, and it is known where each begins, and where the last ends.
-pub record IsJoined (lists : List (List ℕ)) (firsts whole : List ℕ) : Type 0 where
+pub record IsJoined {X : Type 0} (lists : List (List X)) (firsts : List ℕ) (whole : List X) : Type 0 where
   pub size : length firsts ≡ length lists + 1
   pub all : whole ≡ joined lists
   pub places : (q : ℕ) → q ≤ length lists → get_or firsts q 0 ≡ length (joined (take q lists))

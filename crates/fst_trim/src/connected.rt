@@ -1,6 +1,6 @@
 //! The machine with its useful states alone.
 
-ghost use Rattle.std.specs.Prelude.{◌≡◌, ◌<◌, ◌≤◌, ◌↔◌, ◌++◌, ℕ, All, [], false, length, get_or, slice_get, List, Some, IfSome, IfOk, OnOk};
+ghost use Rattle.std.specs.Prelude.{◌≡◌, ◌<◌, ◌≤◌, ◌↔◌, ◌++◌, ℕ, All, [], false, length, get_or, List, IfSome, IfOk, OnOk};
 ghost use Rattle.std.specs.Bool.{Decides};
 ghost use Rattle.fst_semiring.specs.Cost.{Cost};
 ghost use Rattle.fst_machine.specs.Connected.{IsConnected, IsTrim};
@@ -8,7 +8,7 @@ ghost use Rattle.fst_machine.specs.Cycles.{IsUseful};
 ghost use Rattle.fst_machine.specs.Graph.{graph_of};
 ghost use Rattle.fst_machine.specs.Machine.{IsMachine, valued};
 ghost use Rattle.fst_machine.specs.Relation.{Rel};
-ghost use Rattle.fst_trim.specs.Beside.{SamePaths};
+ghost use Rattle.fst_trim.specs.KeptPaths.{IsConnectedOn, KeepsPaths};
 ghost use Rattle.fst_trim.specs.Renumbered.{IsNumbering, kept_arcs, kept_machine, kept_states, marked, new_start};
 
 use crate::useful::useful;
@@ -30,7 +30,7 @@ fn numbers_of(alloc: Global, marks: &[bool]) -> Result<Vec<u32>, AllocError>
     Ok(numbers)
 }
 
-/// Puts behind the others those arcs that lead to marked states, by the numbers of these.
+/// Puts after the others those arcs that lead to marked states, by the numbers of these.
 fn keep_arcs<W: Copy>(
     kept: &mut Vec<FstArc<W>>,
     arcs: &[FstArc<W>],
@@ -95,24 +95,64 @@ fn number_of_start(start: Option<u32>, marks: &[bool], numbers: &[u32]) -> Optio
     Some(numbers[start as usize])
 }
 
+/// The places of the marks, in order.
+fn list_marked(alloc: Global, marks: &[bool]) -> Result<Vec<u32>, AllocError>
+    requires { length marks.now ≤ 4294967295 }
+    ensures { IfOk result (λ kept. kept.items ≡ marked 0 marks.now) }
+{
+    let mut kept = Vec::new(alloc);
+    for (place, mark) in marks.iter().enumerate() {
+        if *mark {
+            kept.push(place as u32)?;
+        }
+    }
+    Ok(kept)
+}
+
+/// A connected machine, and which states of the given one it has.
+#[derive(Drop)]
+pub struct Connected<W: Weight> {
+    /// The machine.
+    pub machine: Fst<W>,
+    /// The states of the given machine that were kept, in order: state i of the machine is the i-th of these.
+    pub kept: Vec<u32>,
+}
+
+/// The connected machine, as `connect` gives it, with the list of the states that were kept. So a path of the
+/// connected machine can be told in the states and places of the given one: state i is the i-th kept state, and its
+/// arcs are the arcs between kept states, in their order (`IsKeptAt` says of each which it is).
+///
+/// Time and space: as `connect`.
+pub fn connect_kept<W: Weight>(alloc: Global, a: &Fst<W>) -> Result<Connected<W>, AllocError>
+    ensures machine { IfOk result (λ c. IsConnectedOn (valued W.value a.now) (valued W.value c.machine) c.kept.items) }
+    ensures paths { IfOk result (λ c. KeepsPaths W.KIND (valued W.value a.now) (valued W.value c.machine) c.kept.items) }
+    ensures relation { IfOk result (λ c. (x y : List ℕ) (w : Cost) → Rel W.KIND (graph_of (valued W.value a.now)) x y w ↔ Rel W.KIND (graph_of (valued W.value c.machine)) x y w) }
+{
+    let _states = a.states();
+    let marks = useful(alloc, a)?;
+    let marked = marks.as_slice();
+    let numbers = numbers_of(alloc, marked)?;
+    let states = keep_states(alloc, a, marked, numbers.as_slice())?;
+    let start = number_of_start(a.start(), marked, numbers.as_slice());
+    let kept = list_marked(alloc, marked)?;
+    let machine = states.into_machine(start);
+    Ok(Connected { machine, kept })
+}
+
 /// The machine with just the states of `a` that some successful path meets, in their order, and the arcs between
 /// them in order. The start stays where it is one of them; where no state stays, there is no start. (OpenFst
 /// manual, "Connect".)
 ///
-/// The successful paths are those of `a`, up to the numbers of the states and the places of the arcs, so both
-/// relate the same.
+/// The successful paths are those of `a`, one to one, up to the numbers of the states and the places of the arcs, so
+/// both relate the same.
 ///
 /// Time and space: linear in the states and the arcs, on any depth of the machine.
 pub fn connect<W: Weight>(alloc: Global, a: &Fst<W>) -> Result<Fst<W>, AllocError>
     ensures machine { IfOk result (λ c. IsConnected (valued W.value a.now) (valued W.value c)) }
-    ensures paths { IfOk result (λ c. (h : IsConnected (valued W.value a.now) (valued W.value c)) → SamePaths W.KIND (λ p i. slice_get h.kept i ≡ Some p) (graph_of (valued W.value a.now)) (graph_of (valued W.value c))) }
+    ensures paths { IfOk result (λ c. (h : IsConnected (valued W.value a.now) (valued W.value c)) → KeepsPaths W.KIND (valued W.value a.now) (valued W.value c) h.kept) }
     ensures relation { IfOk result (λ c. (x y : List ℕ) (w : Cost) → Rel W.KIND (graph_of (valued W.value a.now)) x y w ↔ Rel W.KIND (graph_of (valued W.value c)) x y w) }
 {
-    let _states = a.states();
-    let marks = useful(alloc, a)?;
-    let kept = marks.as_slice();
-    let numbers = numbers_of(alloc, kept)?;
-    let states = keep_states(alloc, a, kept, numbers.as_slice())?;
-    let start = number_of_start(a.start(), kept, numbers.as_slice());
-    Ok(states.into_machine(start))
+    let connected = connect_kept(alloc, a)?;
+    let Connected { machine, kept: _ } = connected;
+    Ok(machine)
 }

@@ -4,9 +4,11 @@
 //! being an acceptor or deterministic. The definitions stand in `specs`, and each contract is one of them.
 #![tactic(auto)]
 
+mod as_machine;
 mod connected;
 mod describing;
 mod first_arc;
+mod links;
 mod repeat;
 mod side;
 mod sorted;
@@ -16,9 +18,11 @@ mod summary;
 mod targets;
 mod useful;
 
-pub use connected::connect;
+pub use as_machine::AsMachine;
+pub use connected::{Connected, connect, connect_kept};
 pub use describing::info;
 pub use first_arc::{is_acceptor, is_deterministic, not_acceptor_at, not_deterministic_at};
+pub use links::{Link, Links};
 pub use side::Side;
 pub use sorted::is_sorted;
 pub use sorting::arcsort;

@@ -5,8 +5,7 @@ ghost use Rattle.fst_semiring.specs.Cost.{Cost};
 ghost use Rattle.fst_machine.specs.Graph.{graph_of};
 ghost use Rattle.fst_machine.specs.Machine.{valued};
 ghost use Rattle.fst_machine.specs.Relation.{Rel};
-ghost use Rattle.fst_trim.specs.Beside.{SamePaths};
-ghost use Rattle.fst_trim.specs.Sorting.{IsArcSorted, IsStableSort};
+ghost use Rattle.fst_trim.specs.Sorting.{IsArcSorted, IsStableSort, SortsPaths};
 
 use crate::side::Side;
 use fst_machine::{Fst, FstArc, StateList};
@@ -38,12 +37,12 @@ fn sort_arcs<W: Copy>(
 /// The machine with the arcs of each state by their labels on a side; equal labels keep their order. (OpenFst
 /// manual, "ArcSort".)
 ///
-/// The successful paths are those of `a`, up to the places of the arcs, so both relate the same.
+/// The successful paths are those of `a`, one to one, up to the places of the arcs, so both relate the same.
 ///
 /// Time: n log n in the arcs of each state. Space: linear.
 pub fn arcsort<W: Weight>(alloc: Global, a: &Fst<W>, side: Side) -> Result<Fst<W>, AllocError>
     ensures machine { IfOk result (λ c. IsArcSorted side a.now c) }
-    ensures paths { IfOk result (λ c. SamePaths W.KIND (λ p q. p ≡ q) (graph_of (valued W.value a.now)) (graph_of (valued W.value c))) }
+    ensures paths { IfOk result (λ c. SortsPaths W.KIND side (valued W.value a.now) (valued W.value c)) }
     ensures relation { IfOk result (λ c. (x y : List ℕ) (w : Cost) → Rel W.KIND (graph_of (valued W.value a.now)) x y w ↔ Rel W.KIND (graph_of (valued W.value c)) x y w) }
 {
     let mut states = StateList::with_capacity(alloc, a.states() as usize, a.arc_count() as usize)?;

@@ -1,8 +1,10 @@
 -- Lemmas: what `clap` takes, loops over lists, the rules on names, numbers of twenty digits.
+mod KnownVerbs
 mod Parsing
 mod Loops
 mod Pairs
 mod Labels
 mod Digits
+mod PlannedFiles
 pub mod PlanLemmas
 pub mod PrefixLemmas

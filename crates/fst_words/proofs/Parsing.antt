@@ -5,40 +5,12 @@ use Rattle.clap.specs.Kinds.{IsAmong, Kinds}
 use Rattle.clap.specs.Simple.{App, is_simple, matches_of}
 use Rattle.clap.specs.Walk.{Row, is_empty}
 use Rattle.clap.specs.declared.error.kind.ErrorKind.{ErrorKind}
-use Rattle.clap.proofs.OnLiterals.{clap_on_literals}
 use Rattle.fst_words.specs.Commands.{app_of_verb, found_in}
 use Rattle.fst_words.specs.declared.verb.Verb.{Verb}
-use Rattle.fst_words.specs.declared.verb.Verb.TheVariants.{Compile, Print, Info, Invert, Reverse, Connect, Union, Concat, Closure, Project, Replace, Relabel, Arcsort, Compose, Rmepsilon, Shortestdistance, Shortestpath, Push, Encode, Determinize, Minimize, Batch, Make}
-
--- the command of each verb is one of those of which `clap` states what it takes
-pub app_is_simple : (verb : Verb) → is_simple_and_free (app_of_verb verb) ≡ true
-unfolding app_of_verb clap_on_literals
-app_is_simple Compile = refl
-app_is_simple Print = refl
-app_is_simple Info = refl
-app_is_simple Invert = refl
-app_is_simple Reverse = refl
-app_is_simple Connect = refl
-app_is_simple Union = refl
-app_is_simple Concat = refl
-app_is_simple Closure = refl
-app_is_simple Project = refl
-app_is_simple Replace = refl
-app_is_simple Relabel = refl
-app_is_simple Arcsort = refl
-app_is_simple Compose = refl
-app_is_simple Rmepsilon = refl
-app_is_simple Shortestdistance = refl
-app_is_simple Shortestpath = refl
-app_is_simple Push = refl
-app_is_simple Encode = refl
-app_is_simple Determinize = refl
-app_is_simple Minimize = refl
-app_is_simple Batch = refl
-app_is_simple Make = refl
+use Rattle.fst_words.proofs.KnownVerbs.{is_known}
 
 pub free_at : (verb : Verb) (app : App) → app ≡ app_of_verb verb → is_simple_and_free app ≡ true
-free_at verb app is = ap is_simple_and_free is ∙ app_is_simple verb
+free_at verb app is = ap is_simple_and_free is ∙ (is_known verb).is_simple
 
 simple_first : (a b : Bool) → (a && b) ≡ true → a ≡ true
 simple_first true b e = refl

@@ -7,7 +7,9 @@ use Rattle.fst_fields.specs.Decimal.{natural_of_text}
 use Rattle.fst_words.specs.declared.fault.WordsFault.{WordsFault}
 use Rattle.fst_words.specs.declared.plan.Plan.{Plan}
 use Rattle.fst_words.specs.declared.verb.Verb.{Verb}
-use Rattle.fst_words.specs.declared.verb.Verb.TheVariants.{Compile, Print, Info, Invert, Reverse, Connect, Union, Concat, Closure, Project, Replace, Relabel, Arcsort, Compose, Rmepsilon, Shortestdistance, Shortestpath, Push, Encode, Determinize, Minimize, Batch, Make}
+use Rattle.fst_words.specs.declared.form.Shape.{Shape}
+use Rattle.fst_words.specs.declared.form.Shape.TheVariants.{NoInput, One, Two, Three, Rules, Codex}
+use Rattle.fst_words.specs.Forms.{all_of, form_of}
 use Rattle.fst_words.specs.Commands.{all_names, found_in, least_names, takes_names}
 use Rattle.fst_words.specs.Plans.{Answers, filled, is_allowed, plan_by, plan_found, plan_of, plan_with}
 use Rattle.fst_words.specs.PlanLaws.{HasNumbersInRange, IsWhole, LiesIn}
@@ -54,31 +56,14 @@ length_filled verb names few =
       length-replicate (all_names verb (length names) - length names) (codes "-"),
     )
 
--- nothing is missing behind all the names
-all_of_all : (verb : Verb) (n : ℕ) → all_names verb (all_names verb n) ≡ all_names verb n
-all_of_all Compile n = refl
-all_of_all Print n = refl
-all_of_all Info n = refl
-all_of_all Invert n = refl
-all_of_all Reverse n = refl
-all_of_all Connect n = refl
-all_of_all Union n = refl
-all_of_all Concat n = refl
-all_of_all Closure n = refl
-all_of_all Project n = refl
-all_of_all Replace n = omega arith
-all_of_all Relabel n = refl
-all_of_all Arcsort n = refl
-all_of_all Compose n = refl
-all_of_all Rmepsilon n = refl
-all_of_all Shortestdistance n = refl
-all_of_all Shortestpath n = refl
-all_of_all Push n = refl
-all_of_all Encode n = refl
-all_of_all Determinize n = refl
-all_of_all Minimize n = refl
-all_of_all Batch n = refl
-all_of_all Make n = refl
+-- nothing is missing after all the names
+all_of_all : (shape : Shape) (n : ℕ) → all_of shape (all_of shape n) ≡ all_of shape n
+all_of_all NoInput n = refl
+all_of_all One n = refl
+all_of_all Two n = refl
+all_of_all Three n = refl
+all_of_all Rules n = omega arith
+all_of_all Codex n = refl
 
 -- ---- the plan
 
@@ -99,7 +84,7 @@ whole_found verb rows plan e = go (takes_names verb (length (names_in rows)) && 
         let count = length_filled verb (names_in rows) most in
         record {
           least = omega arith;
-          all = count ∙ (sym (all_of_all verb (length (names_in rows))) ∙ ap (all_names verb) (sym count));
+          all = count ∙ (sym (all_of_all (form_of verb).shape (length (names_in rows))) ∙ ap (all_names verb) (sym count));
           numbers = numbers_lie rows;
           rules = rules;
         }

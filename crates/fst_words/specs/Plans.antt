@@ -8,7 +8,8 @@ use Rattle.fst_words.specs.declared.plan.Plan.{Plan}
 use Rattle.fst_words.specs.declared.fault.WordsFault.{WordsFault}
 use Rattle.fst_words.specs.declared.fault.WordsFault.TheVariants.{Usage, Memory}
 use Rattle.fst_words.specs.declared.verb.Verb.{Verb}
-use Rattle.fst_words.specs.declared.verb.Verb.TheVariants.{Compile, Print, Info, Invert, Reverse, Connect, Union, Concat, Closure, Project, Replace, Relabel, Arcsort, Compose, Rmepsilon, Shortestdistance, Shortestpath, Push, Encode, Determinize, Minimize, Batch, Make}
+use Rattle.fst_words.specs.declared.verb.Verb.TheVariants.{Push, Encode}
+use Rattle.fst_words.specs.Forms.{form_of, has_rules, place_of}
 use Rattle.fst_words.specs.Verbs.{verb_of}
 use Rattle.fst_words.specs.Commands.{all_names, found_in, takes_names}
 use Rattle.fst_words.specs.Values.{label_of, names_in, options_in, values_stand}
@@ -27,36 +28,13 @@ pair_labels [] = []
 pair_labels (machine ∷ []) = []
 pair_labels (machine ∷ label ∷ rest) = label ∷ pair_labels rest
 
--- the place of the first name that is stored, of n names: in front of it stand the inputs, or the pairs of
--- `replace`
-abbrev pub output_place : Verb → Bool → ℕ → ℕ
-output_place Compile decode n = 1
-output_place Print decode n = 1
-output_place Info decode n = 1
-output_place Invert decode n = 1
-output_place Reverse decode n = 1
-output_place Connect decode n = 1
-output_place Union decode n = 2
-output_place Concat decode n = 2
-output_place Closure decode n = 1
-output_place Project decode n = 1
-output_place Replace decode n = n - 1
-output_place Relabel decode n = 1
-output_place Arcsort decode n = 1
-output_place Compose decode n = 2
-output_place Rmepsilon decode n = 1
-output_place Shortestdistance decode n = 1
-output_place Shortestpath decode n = 1
-output_place Push decode n = 1
-output_place Encode decode n = if decode then 2 else 1
-output_place Determinize decode n = 1
-output_place Minimize decode n = 1
-output_place Batch decode n = 3
-output_place Make decode n = 0
+-- the place of the first name that is stored, of n names: in front of it stand the inputs, or the rules
+abbrev pub output_place : Verb → (decode : Bool) → (n : ℕ) → ℕ
+output_place verb decode n = place_of (form_of verb).shape decode n
 
+-- the names are rules, each a machine and a label, and then an output
 abbrev pub is_replace : Verb → Bool
-is_replace Replace = true
-is_replace _ = false
+is_replace verb = has_rules (form_of verb).shape
 
 abbrev pub output_place_of : Plan → ℕ
 output_place_of plan = output_place plan.command plan.options.decode (length plan.names)
@@ -77,6 +55,10 @@ option_files o = option_to_list o.isymbols ++ (option_to_list o.osymbols ++ (opt
 -- the names of the files that are fetched, in order
 unfoldable pub inputs_of : Plan → List (List ℕ)
 inputs_of plan = option_files plan.options ++ input_files plan
+
+-- the labels of the rules of `replace`, in order; other commands have none
+abbrev pub rule_labels : Plan → List ℕ
+rule_labels plan = if is_replace plan.command then filter_map label_of (pair_labels plan.names) else []
 
 -- ---- the rules
 

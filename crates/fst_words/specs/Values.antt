@@ -6,7 +6,7 @@ use Rattle.std.specs.Str.{bytes_eq}
 use Rattle.clap.specs.Walk.{Row, all_of, first_of}
 use Rattle.fst_fields.specs.Decimal.{natural_of_text}
 use Rattle.fst_semiring.specs.declared.arc_type.ArcType.{ArcType}
-use Rattle.fst_semiring.specs.declared.arc_type.ArcType.TheVariants.{Boolean, Tropical, MinMax, Lexicographic}
+use Rattle.fst_semiring.specs.Names.{named}
 use Rattle.fst_words.specs.declared.options.Options.{Options}
 
 -- the number, where it lies in the range
@@ -37,24 +37,20 @@ unfoldable pub label_of : List ℕ → Option ℕ
 label_of text = option_and_then (within 1 2147483647) (natural_of_text 18 text)
 
 -- the arc type of this name
-unfoldable pub arc_type_of : List ℕ → Option ArcType
-arc_type_of text =
-    if bytes_eq text (codes "boolean") then Some Boolean
-    else (if bytes_eq text (codes "tropical") then Some Tropical
-    else (if bytes_eq text (codes "minmax") then Some MinMax
-    else (if bytes_eq text (codes "lexicographic") then Some Lexicographic else None)))
+abbrev pub arc_type_of : List ℕ → Option ArcType
+arc_type_of = named
 
 -- the text is one of these words
 abbrev pub is_among : List (List ℕ) → List ℕ → Bool
-is_among words text = list_any (λ word. bytes_eq text word) words
+is_among words text = list_any (λ word. bytes_eq word text) words
 
-unfoldable pub is_sort_type : List ℕ → Bool
+abbrev pub is_sort_type : List ℕ → Bool
 is_sort_type = is_among (codes "ilabel" ∷ codes "olabel" ∷ [])
 
-unfoldable pub is_truth_value : List ℕ → Bool
+abbrev pub is_truth_value : List ℕ → Bool
 is_truth_value = is_among (codes "true" ∷ codes "false" ∷ [])
 
-unfoldable pub is_queue_type : List ℕ → Bool
+abbrev pub is_queue_type : List ℕ → Bool
 is_queue_type = is_among (codes "auto" ∷ codes "fifo" ∷ codes "lifo" ∷ codes "shortest" ∷ [])
 
 -- ---- the options that were found

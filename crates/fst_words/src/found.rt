@@ -5,11 +5,11 @@ ghost use Rattle.std.specs.Result.{result_map_both};
 ghost use Rattle.clap.specs.Matches.{found_of};
 ghost use Rattle.clap.specs.Simple.{app_of};
 ghost use Rattle.clap.specs.Walk.{rows_of, rule_of};
-ghost use Rattle.fst_words.specs.Commands.{app_of_verb, bare_app, flag_rule, found_in, names_rule, option_rule, with_flags, with_options};
+ghost use Rattle.fst_words.specs.Commands.{app_of_verb, argument_rule, bare_app, found_in, names_rule, with_arguments};
 ghost use Rattle.fst_words.specs.Plans.{Answers};
 
-use crate::data::{flags_of, options_of};
 use crate::fault::WordsFault;
+use crate::form::form_of;
 use crate::verb::Verb;
 use clap::error::ErrorKind;
 use clap::{Arg, ArgAction, ArgMatches, Command};
@@ -22,20 +22,17 @@ fn bare<'a>(alloc: Global) -> Command<'a>
     Command::new(alloc, "fst").disable_help_flag(true)
 }
 
-/// An option with a value.
-fn option_arg<'a>(alloc: Global, name: &'a str) -> Arg<'a>
-    ensures rule { rule_of result ≡ option_rule name.entry.now }
+/// An option with a value, or a flag.
+fn argument<'a>(alloc: Global, name: &'a str, valued: bool) -> Arg<'a>
+    ensures rule { rule_of result ≡ argument_rule valued name.entry.now }
     ensures local { result.global ≡ false }
 {
-    Arg::new(alloc, name).long(name).action(ArgAction::Set)
-}
-
-/// A flag.
-fn flag_arg<'a>(alloc: Global, name: &'a str) -> Arg<'a>
-    ensures rule { rule_of result ≡ flag_rule name.entry.now }
-    ensures local { result.global ≡ false }
-{
-    Arg::new(alloc, name).long(name).action(ArgAction::SetTrue)
+    let argument = Arg::new(alloc, name).long(name);
+    if valued {
+        argument.action(ArgAction::Set)
+    } else {
+        argument.action(ArgAction::SetTrue)
+    }
 }
 
 /// The positional argument, which takes several values.
@@ -46,32 +43,18 @@ fn names_arg<'a>(alloc: Global) -> Arg<'a>
     Arg::new(alloc, "names").action(ArgAction::Append)
 }
 
-/// The command with these options more.
-fn with_options<'a>(
+/// The command with these options, or flags, more.
+fn with_arguments<'a>(
     alloc: Global,
     command: Command<'a>,
     names: &'static [&'static str],
+    valued: bool,
 ) -> Result<Command<'a>, AllocError>
-    ensures { IfOk result (λ c. app_of c ≡ with_options (app_of command.entry) (map (λ s. s.now) names.entry.now)) }
+    ensures { IfOk result (λ c. app_of c ≡ with_arguments valued (app_of command.entry) (map (λ s. s.now) names.entry.now)) }
 {
     let mut grown = command;
     for name in names {
-        grown = grown.arg(option_arg(alloc, name))?;
-    }
-    Ok(grown)
-}
-
-/// The command with these flags more.
-fn with_flags<'a>(
-    alloc: Global,
-    command: Command<'a>,
-    names: &'static [&'static str],
-) -> Result<Command<'a>, AllocError>
-    ensures { IfOk result (λ c. app_of c ≡ with_flags (app_of command.entry) (map (λ s. s.now) names.entry.now)) }
-{
-    let mut grown = command;
-    for name in names {
-        grown = grown.arg(flag_arg(alloc, name))?;
+        grown = grown.arg(argument(alloc, name, valued))?;
     }
     Ok(grown)
 }
@@ -81,13 +64,14 @@ fn with_flags<'a>(
 fn command_of<'a>(alloc: Global, verb: Verb) -> Result<Command<'a>, AllocError>
     ensures { IfOk result (λ c. app_of c ≡ app_of_verb verb) }
 {
-    let command = with_options(alloc, bare(alloc), options_of(verb))?;
-    let command = with_flags(alloc, command, flags_of(verb))?;
+    let form = form_of(verb);
+    let command = with_arguments(alloc, bare(alloc), form.options, true)?;
+    let command = with_arguments(alloc, command, form.flags, false)?;
     command.arg(names_arg(alloc))
 }
 
 /// What is found in the words, the first of which is the command's name. A parse that is refused for another
-/// cause than want of memory is `Usage`.
+/// cause than that memory ran out is `Usage`.
 #[tactic(auto, unfolding(crate::specs::Commands::found_in))]
 pub(crate) fn found_in<'a>(
     alloc: Global,

@@ -4,13 +4,13 @@ ghost use Rattle.std.specs.Prelude.{◌≡◌, IfOk, codes, map};
 ghost use Rattle.std.specs.Option.{option_map};
 ghost use Rattle.clap.specs.Matches.{found_of};
 ghost use Rattle.clap.specs.Walk.{rows_of};
-ghost use Rattle.fst_words.specs.Values.{arc_type_of, flag_in, is_queue_type, is_sort_type, is_truth_value, names_in, number_in, numbers_stand, options_in, passes_at, reads_at, text_in, value_in, values_stand, words_stand};
+ghost use Rattle.fst_words.specs.Values.{arc_type_of, flag_in, is_among, names_in, number_in, numbers_stand, options_in, passes_at, reads_at, text_in, value_in, values_stand, words_stand};
 
 use crate::name::{Name, Names};
 use crate::options::Options;
 use crate::values::{
-    LINES, MAX_STATES, NSHORTEST, NumberRange, SEED, WORKERS, arc_type_of, is_queue_type,
-    is_sort_type, is_truth_value, number_in,
+    LINES, MAX_STATES, NSHORTEST, NumberRange, QUEUE_TYPES, SEED, SORT_TYPES, TRUTH_VALUES,
+    WORKERS, is_among, number_in,
 };
 use clap::ArgMatches;
 use fst_semiring::ArcType;
@@ -83,7 +83,7 @@ fn arc_type_at(found: &ArgMatches<'_>) -> Option<ArcType>
     ensures { result ≡ value_in arc_type_of (codes "arc_type") (rows_of (found_of found.now)) }
 {
     match text_in(found, "arc_type") {
-        Some(text) => arc_type_of(text),
+        Some(text) => ArcType::named(text.as_bytes()),
         None => None,
     }
 }
@@ -103,37 +103,17 @@ fn arc_type_reads(found: &ArgMatches<'_>) -> bool
     ensures { result ≡ reads_at arc_type_of (codes "arc_type") (rows_of (found_of found.now)) }
 {
     match text_in(found, "arc_type") {
-        Some(text) => arc_type_of(text).is_some(),
+        Some(text) => ArcType::named(text.as_bytes()).is_some(),
         None => true,
     }
 }
 
-/// Whether `--sort_type` is missing or one of its words.
-fn sort_type_passes(found: &ArgMatches<'_>) -> bool
-    ensures { result ≡ passes_at is_sort_type (codes "sort_type") (rows_of (found_of found.now)) }
+/// Whether an option is missing or one of these words.
+fn word_passes(found: &ArgMatches<'_>, id: &str, words: &[&str]) -> bool
+    ensures { result ≡ passes_at (is_among (map (λ s. s.now) words.now)) id.now (rows_of (found_of found.now)) }
 {
-    match text_in(found, "sort_type") {
-        Some(text) => is_sort_type(text),
-        None => true,
-    }
-}
-
-/// Whether `--connect` is missing or one of its words.
-fn connect_passes(found: &ArgMatches<'_>) -> bool
-    ensures { result ≡ passes_at is_truth_value (codes "connect") (rows_of (found_of found.now)) }
-{
-    match text_in(found, "connect") {
-        Some(text) => is_truth_value(text),
-        None => true,
-    }
-}
-
-/// Whether `--queue_type` is missing or one of its words.
-fn queue_type_passes(found: &ArgMatches<'_>) -> bool
-    ensures { result ≡ passes_at is_queue_type (codes "queue_type") (rows_of (found_of found.now)) }
-{
-    match text_in(found, "queue_type") {
-        Some(text) => is_queue_type(text),
+    match text_in(found, id) {
+        Some(text) => is_among(words, text),
         None => true,
     }
 }
@@ -142,8 +122,9 @@ fn queue_type_passes(found: &ArgMatches<'_>) -> bool
 fn words_stand(found: &ArgMatches<'_>) -> bool
     ensures { result ≡ words_stand (rows_of (found_of found.now)) }
 {
-    sort_type_passes(found)
-        && (connect_passes(found) && (queue_type_passes(found) && arc_type_reads(found)))
+    word_passes(found, "sort_type", &SORT_TYPES)
+        && (word_passes(found, "connect", &TRUTH_VALUES)
+            && (word_passes(found, "queue_type", &QUEUE_TYPES) && arc_type_reads(found)))
 }
 
 /// Whether each option whose values are numbers has one in its range.

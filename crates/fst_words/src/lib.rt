@@ -5,8 +5,9 @@
 //! and the rules on names that stand twice are this crate's own. `specs/Plans.antt` says what words ask for.
 #![tactic(auto)]
 
-mod data;
 mod fault;
+mod files;
+mod form;
 mod found;
 mod given;
 pub mod laws;

@@ -8,8 +8,8 @@ ghost use Rattle.fst_words.specs.Values.{options_in};
 ghost use Rattle.fst_words.specs.PlanLaws.{IsWhole};
 ghost use Rattle.fst_words.specs.Plans.{Answers, filled, plan_by, plan_found, plan_of};
 
-use crate::data::{all_names, least_names};
 use crate::fault::WordsFault;
+use crate::form::form_of;
 use crate::found::found_in;
 use crate::given::{names_in, options_in, values_stand};
 use crate::name::{Name, Names};
@@ -23,7 +23,8 @@ use std::alloc::{AllocError, Global};
 fn takes_names(verb: Verb, given: usize) -> bool
     ensures { result ≡ takes_names verb given }
 {
-    least_names(verb) <= given && given <= all_names(verb, given)
+    let shape = form_of(verb).shape;
+    shape.least() <= given && given <= shape.all(given)
 }
 
 /// The names, and `-` behind them until there are so many.
@@ -43,7 +44,7 @@ fn with_dashes(alloc: Global, names: Names, count: usize) -> Result<Names, Alloc
 fn filled(alloc: Global, verb: Verb, names: Names) -> Result<Names, AllocError>
     ensures { IfOk result (λ n. n ≡ filled verb names) }
 {
-    let count = all_names(verb, names.len());
+    let count = form_of(verb).shape.all(names.len());
     with_dashes(alloc, names, count)
 }
 

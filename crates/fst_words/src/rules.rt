@@ -3,9 +3,9 @@
 ghost use Rattle.std.specs.Prelude.{◌≡◌, ◌≤◌, ◌<◌, ◌+◌, [], IfOk, count_by, drop, length, option_to_list, slice_get, take};
 ghost use Rattle.std.specs.List.{list_any, slice_index_or};
 ghost use Rattle.std.specs.Str.{bytes_eq};
-ghost use Rattle.fst_words.specs.Plans.{are_labels, flags_fit, input_files, inputs_fit, inputs_of, is_allowed, is_dash, labels_fit, option_files, output_place_of, outputs_fit, pair_labels, pair_machines, texts_differ};
+ghost use Rattle.fst_words.specs.Plans.{are_labels, flags_fit, input_files, inputs_fit, inputs_of, is_allowed, is_dash, is_replace, labels_fit, option_files, output_place_of, outputs_fit, pair_labels, pair_machines, texts_differ};
 
-use crate::data::{is_replace, output_place};
+use crate::form::form_of;
 use crate::name::{Name, Names};
 use crate::options::Options;
 use crate::plan::Plan;
@@ -47,11 +47,18 @@ fn are_labels(alloc: Global, names: &Names) -> Result<bool, AllocError>
     Ok(true)
 }
 
+/// Whether the names of a command are rules, and then an output.
+pub(crate) fn has_rules(verb: Verb) -> bool
+    ensures { result ≡ is_replace verb }
+{
+    form_of(verb).shape.has_rules()
+}
+
 /// The same of a command that has such pairs.
 fn labels_fit(alloc: Global, plan: &Plan) -> Result<bool, AllocError>
     ensures { IfOk result (λ b. b ≡ labels_fit plan.now) }
 {
-    if is_replace(plan.command) {
+    if has_rules(plan.command) {
         are_labels(alloc, &plan.names)
     } else {
         Ok(true)
@@ -115,10 +122,12 @@ fn machine_dashes(names: &Names) -> usize
 }
 
 /// The place of the first name that is stored.
-fn output_place_of(plan: &Plan) -> usize
+pub(crate) fn output_place_of(plan: &Plan) -> usize
     ensures { result ≡ output_place_of plan.now }
 {
-    output_place(plan.command, plan.options.decode, plan.names.len())
+    form_of(plan.command)
+        .shape
+        .output_place(plan.options.decode, plan.names.len())
 }
 
 /// How often `-` stands among the input files.
@@ -126,7 +135,7 @@ fn input_dashes(plan: &Plan) -> usize
     ensures value { result ≡ count_by is_dash (input_files plan.now) }
     ensures few { result ≤ length plan.now.names }
 {
-    if is_replace(plan.command) {
+    if has_rules(plan.command) {
         machine_dashes(&plan.names)
     } else {
         front_dashes(&plan.names, output_place_of(plan))

@@ -1,11 +1,10 @@
 //! The values of options.
 
-ghost use Rattle.std.specs.Prelude.{◌≡◌, ◌<◌, ◌≤◌, ◌^◌, length};
+ghost use Rattle.std.specs.Prelude.{◌≡◌, ◌<◌, ◌≤◌, ◌^◌, IfSome, length, map};
 ghost use Rattle.fst_fields.specs.Decimal.{natural_of_text};
-ghost use Rattle.fst_words.specs.Values.{arc_type_of, is_queue_type, is_sort_type, is_truth_value, label_of, number_in};
+ghost use Rattle.fst_words.specs.Values.{is_among, label_of, number_in};
 
 use fst_fields::read_decimal;
-use fst_semiring::ArcType;
 
 /// The number that twenty digits stand for.
 fn twenty_digits(digits: &[u8]) -> Option<u128>
@@ -79,7 +78,8 @@ pub(crate) fn number_in(range: NumberRange, text: &str) -> Option<u64>
 /// The label of `replace` that a text stands for.
 #[tactic(auto, unfolding(crate::specs::Values::label_of))]
 pub(crate) fn label_of(text: &str) -> Option<u64>
-    ensures { result ≡ label_of text.now }
+    ensures value { result ≡ label_of text.now }
+    ensures range { IfSome result (λ n. n ≤ 2147483647) }
 {
     let n = read_decimal(text.as_bytes(), 18)?;
     if 1 <= n && n <= 2147483647 {
@@ -89,44 +89,23 @@ pub(crate) fn label_of(text: &str) -> Option<u64>
     }
 }
 
-/// The arc type of this name.
-#[tactic(auto, unfolding(crate::specs::Values::arc_type_of))]
-pub(crate) fn arc_type_of(text: &str) -> Option<ArcType>
-    ensures { result ≡ arc_type_of text.now }
+/// The sides by which arcs are sorted.
+pub(crate) static SORT_TYPES: [&str; 2] = ["ilabel", "olabel"];
+
+/// The truth values.
+pub(crate) static TRUTH_VALUES: [&str; 2] = ["true", "false"];
+
+/// The kinds of queues.
+pub(crate) static QUEUE_TYPES: [&str; 4] = ["auto", "fifo", "lifo", "shortest"];
+
+/// Whether the text is one of these words.
+pub(crate) fn is_among(words: &[&str], text: &str) -> bool
+    ensures { result ≡ is_among (map (λ s. s.now) words.now) text.now }
 {
-    if text == "boolean" {
-        Some(ArcType::Boolean)
-    } else if text == "tropical" {
-        Some(ArcType::Tropical)
-    } else if text == "minmax" {
-        Some(ArcType::MinMax)
-    } else if text == "lexicographic" {
-        Some(ArcType::Lexicographic)
-    } else {
-        None
+    for word in words {
+        if *word == text {
+            return true;
+        }
     }
-}
-
-/// Whether the text is a side by which arcs are sorted.
-#[tactic(auto, unfolding(crate::specs::Values::is_sort_type))]
-pub(crate) fn is_sort_type(text: &str) -> bool
-    ensures { result ≡ is_sort_type text.now }
-{
-    text == "ilabel" || text == "olabel"
-}
-
-/// Whether the text is `true` or `false`.
-#[tactic(auto, unfolding(crate::specs::Values::is_truth_value))]
-pub(crate) fn is_truth_value(text: &str) -> bool
-    ensures { result ≡ is_truth_value text.now }
-{
-    text == "true" || text == "false"
-}
-
-/// Whether the text is a kind of queue.
-#[tactic(auto, unfolding(crate::specs::Values::is_queue_type))]
-pub(crate) fn is_queue_type(text: &str) -> bool
-    ensures { result ≡ is_queue_type text.now }
-{
-    text == "auto" || text == "fifo" || text == "lifo" || text == "shortest"
+    false
 }

@@ -3,6 +3,8 @@
 ghost use Rattle.std.specs.Prelude.{◌≡◌};
 ghost use Rattle.fst_words.specs.Verbs.{name_of, verb_named, verb_of, without_prefix};
 
+use crate::form::form_of;
+
 /// A command. (OpenFst manual: `compile` is the program `fstcompile`.)
 #[derive(Clone, Copy, Debug, PartialEq, Eq)]
 pub enum Verb {
@@ -59,31 +61,7 @@ impl Verb {
     pub fn name(self) -> &'static str
         ensures { result.now ≡ name_of self }
     {
-        match self {
-            Verb::Compile => "compile",
-            Verb::Print => "print",
-            Verb::Info => "info",
-            Verb::Invert => "invert",
-            Verb::Reverse => "reverse",
-            Verb::Connect => "connect",
-            Verb::Union => "union",
-            Verb::Concat => "concat",
-            Verb::Closure => "closure",
-            Verb::Project => "project",
-            Verb::Replace => "replace",
-            Verb::Relabel => "relabel",
-            Verb::Arcsort => "arcsort",
-            Verb::Compose => "compose",
-            Verb::Rmepsilon => "rmepsilon",
-            Verb::Shortestdistance => "shortestdistance",
-            Verb::Shortestpath => "shortestpath",
-            Verb::Push => "push",
-            Verb::Encode => "encode",
-            Verb::Determinize => "determinize",
-            Verb::Minimize => "minimize",
-            Verb::Batch => "batch",
-            Verb::Make => "make",
-        }
+        form_of(self).name
     }
 }
 

@@ -1,16 +1,16 @@
-use Rattle.std.proofs.Common.{◌≡◌, ◌++◌, ◌∷◌, [], map, inr, sym, arith}
+use Rattle.std.proofs.Common.{◌≡◌, ◌++◌, ◌∷◌, [], map, sym, arith}
 use Rattle.std.proofs.lemmas.Result.{err_from_is_err_and}
 use Rattle.std.proofs.lemmas.List.{map_push}
 use Rattle.fst_machine.specs.Machine.{valued_arc}
-use Rattle.fst_binary.specs.Reading.{arcs_at}
-use Rattle.fst_binary.proofs.Lengths.{length_push}
-use Rattle.fst_binary.proofs.Loops.{arcs_go_on, arcs_end, arcs_are_read}
+use Rattle.fst_binary.specs.Reading.{arc_at, arcs_at}
+use Rattle.fst_bytes.proofs.Lengths.{length_push}
+use Rattle.fst_bytes.proofs.Loops.{many_are_read, many_end, many_go_on}
 use Rattle.fst_binary.proofs.decoding.read_arcs.Goals as goal
 
 pub returns-in_err-arc-clause-value : goal.returns-in_err-arc-clause-value
 returns-in_err-arc-clause-value g c =
     let p = err_from_is_err_and c.from_residual.result c.from_residual.ensures.1 in
-    rw (p.1, p.2) (inr (arcs_end g.W.Weight.KIND c.args.states (map (valued_arc g.W.Weight.value) c.loop.arcs.items) c.args.count c.loop.counter c.args.bytes.now c.loop.behind c.in_err-arc.field-0.0 (arcs_at g.W.Weight.KIND c.args.states c.args.count c.args.bytes.now c.args.at) c.loop-test.true (sym c.in_err-arc.ensures.value) c.loop.invariant.so_far))
+    rw (p.1, p.2) (many_end (arc_at g.W.Weight.KIND c.args.states c.args.bytes.now) (map (valued_arc g.W.Weight.value) c.loop.arcs.items) c.args.count c.loop.counter c.loop.behind c.in_err-arc.field-0.0 (arcs_at g.W.Weight.KIND c.args.states c.args.count c.args.bytes.now c.args.at) c.loop-test.true (sym c.in_err-arc.ensures.value) c.loop.invariant.so_far)
 
 pub loop-preserved : goal.loop-preserved
 loop-preserved g c =
@@ -18,10 +18,10 @@ loop-preserved g c =
     let arc = c.in_ok-arc.arc in
     let more : map (valued_arc value) c.push.new.self.items ≡ map (valued_arc value) c.loop.arcs.items ++ valued_arc value arc ∷ [] = rw c.in_ok-push.ensures.items (map_push (valued_arc value) c.loop.arcs.items arc) in
     record {
-      so_far = rw more (arcs_go_on g.W.Weight.KIND c.args.states (map (valued_arc value) c.loop.arcs.items) c.args.count c.loop.counter c.args.bytes.now c.loop.behind (valued_arc value arc) c.in_ok-arc.after (arcs_at g.W.Weight.KIND c.args.states c.args.count c.args.bytes.now c.args.at) c.loop-test.true (sym c.in_ok-arc.ensures.value) c.loop.invariant.so_far);
+      so_far = rw more (many_go_on (arc_at g.W.Weight.KIND c.args.states c.args.bytes.now) (map (valued_arc value) c.loop.arcs.items) c.args.count c.loop.counter c.loop.behind (valued_arc value arc) c.in_ok-arc.after (arcs_at g.W.Weight.KIND c.args.states c.args.count c.args.bytes.now c.args.at) c.loop-test.true (sym c.in_ok-arc.ensures.value) c.loop.invariant.so_far);
       count = omega (arith, length_push _ _ arc c.in_ok-push.ensures.items, c.loop.invariant.count);
       behind = c.in_ok-arc.ensures.behind;
     }
 
 pub returns-clause-value : goal.returns-clause-value
-returns-clause-value g c = arcs_are_read g.W.Weight.KIND c.args.states (map (valued_arc g.W.Weight.value) c.loop.arcs.items) c.args.count c.loop.counter c.args.bytes.now c.loop.behind (arcs_at g.W.Weight.KIND c.args.states c.args.count c.args.bytes.now c.args.at) c.loop-test.false c.loop.invariant.so_far
+returns-clause-value g c = many_are_read (arc_at g.W.Weight.KIND c.args.states c.args.bytes.now) (map (valued_arc g.W.Weight.value) c.loop.arcs.items) c.args.count c.loop.counter c.loop.behind (arcs_at g.W.Weight.KIND c.args.states c.args.count c.args.bytes.now c.args.at) c.loop-test.false c.loop.invariant.so_far

@@ -1,7 +1,7 @@
 use Rattle.std.proofs.Common.{◌≡◌, ◌≤◌, ◌-◌, length, map}
 use Rattle.fst_machine.specs.Machine.{valued_arc}
 use Rattle.fst_binary.specs.Reading.{arcs_at}
-use Rattle.fst_binary.proofs.Loops.{with_front}
+use Rattle.fst_bytes.specs.Reading.{with_front}
 use Rattle.fst_binary.proofs.decoding.read_arcs.Given as goal
 
 abbrev pub invariant-loop : goal.invariant-loop

@@ -4,14 +4,14 @@ use Rattle.std.proofs.lemmas.List.{map_push, length-map}
 use Rattle.std.proofs.lemmas.List.Sums.{sum_by_push}
 use Rattle.fst_machine.specs.Machine.{Arc, State, arc_total, valued_arc, valued_state}
 use Rattle.fst_binary.specs.Reading.{states_at}
-use Rattle.fst_binary.proofs.Loops.{states_fail, states_go_on, states_are_read}
+use Rattle.fst_binary.proofs.Loops.{states_stop, states_go_on, states_are_read}
 use Rattle.fst_binary.proofs.decoding.read_states.Goals as goal
 
 pub returns-in_err-last-clause-value : goal.returns-in_err-last-clause-value
 returns-in_err-last-clause-value g c =
     let p = err_from_is_err_and c.from_residual-in_err-last.result c.from_residual-in_err-last.ensures.1 in
     let header = c.args.header in
-    rw (p.1, p.2) (states_fail g.W.Weight.KIND header.states header.arcs c.loop.before (map (valued_state g.W.Weight.value) c.loop.states) header.states c.loop.counter c.args.bytes.now c.loop.behind c.in_err-last.field-0.0 (states_at g.W.Weight.KIND header.states header.arcs 0 header.states c.args.bytes.now header.behind) c.loop-test.true c.in_err-last.ensures.value c.loop.invariant.so_far)
+    rw (p.1, p.2) (states_stop g.W.Weight.KIND header.states header.arcs c.loop.before (map (valued_state g.W.Weight.value) c.loop.states) header.states c.loop.counter c.args.bytes.now c.loop.behind c.in_err-last.field-0.0 (states_at g.W.Weight.KIND header.states header.arcs 0 header.states c.args.bytes.now header.behind) c.loop-test.true c.in_err-last.ensures.value c.loop.invariant.so_far)
 
 pub loop-preserved : goal.loop-preserved
 loop-preserved g c =

@@ -1,21 +1,8 @@
-use Rattle.std.proofs.Common.{inr, sym, subst, arith}
-use Rattle.std.proofs.lemmas.Result.{err_from_is_err_and}
 use Rattle.fst_machine.specs.Machine.{valued}
-use Rattle.fst_binary.specs.Reading.{Gives}
-use Rattle.fst_binary.proofs.Decoded.{header_wrong, type_alone, type_not_wrong, whole_read}
+use Rattle.fst_bytes.proofs.Stopping.{gives_of}
+use Rattle.fst_binary.specs.declared.fault.BinaryKind.TheVariants.{Memory}
+use Rattle.fst_binary.specs.Reading.{machine_of_bytes}
 use Rattle.fst_binary.proofs.decoding.read_whole.Goals as goal
 
-pub returns-in_err-behind : goal.returns-in_err-behind
-returns-in_err-behind g c = absurd (type_not_wrong c.args.bytes.now g.W.Weight.KIND c.in_err-behind.field-0.0 c.requires (sym c.in_err-behind.ensures.value))
-
-pub returns-in_err-header : goal.returns-in_err-header
-returns-in_err-header g c =
-    let p = err_from_is_err_and c.from_residual-in_err-header.result c.from_residual-in_err-header.ensures.1 in
-    let alone = type_alone c.args.bytes.now g.W.Weight.KIND _ c.in_ok-behind.behind (λ i. omega (arith, c.type_inv.bytes i)) c.requires (sym c.in_ok-behind.ensures.value) in
-    rw (p.1, p.2) (inr (header_wrong g.W.Weight.KIND c.args.bytes.now c.in_ok-behind.behind c.in_err-header.field-0.0 alone (sym c.in_err-header.ensures.value)))
-
-pub returns : goal.returns
-returns g c =
-    let alone = type_alone c.args.bytes.now g.W.Weight.KIND _ c.in_ok-behind.behind (λ i. omega (arith, c.type_inv.bytes i)) c.requires (sym c.in_ok-behind.ensures.value) in
-    let read = whole_read g.W.Weight.KIND c.args.bytes.now c.in_ok-behind.behind c.in_ok-header.header alone (sym c.in_ok-header.ensures.value) in
-    subst (λ r. Gives (λ m. valued g.W.Weight.value m) c.read_machine.result r) (sym read) c.read_machine.ensures
+pub returns-in-Err : goal.returns-in-Err
+returns-in-Err g c = rw c.into_fault.ensures (gives_of Memory (λ m. valued g.W.Weight.value m) c.in-Err.stopped (machine_of_bytes g.W.Weight.KIND c.args.bytes.now) c.in-Err.ensures)

@@ -2,8 +2,9 @@ use Rattle.std.proofs.Common.{◌≡◌, sym, ap, ◌∙◌, arith}
 use Rattle.fst_semiring.specs.declared.key.Key.{Key}
 use Rattle.fst_semiring.specs.Cost.{class_of}
 use Rattle.fst_machine.specs.Machine.{valued_arc}
-use Rattle.fst_binary.specs.Reading.{number_count}
-use Rattle.fst_binary.proofs.Lengths.{length-arc_fields, length-by_class}
+use Rattle.fst_bytes.specs.Reading.{number_count}
+use Rattle.fst_binary.proofs.Lengths.{length-arc_fields}
+use Rattle.fst_bytes.proofs.Lengths.{length-by_class}
 use Rattle.fst_binary.proofs.encoding.append_arc.Goals as goal
 
 pub append_arc_of_number-requires : goal.append_arc_of_number-requires

@@ -1,7 +1,8 @@
 use Rattle.std.proofs.Common.{ℕ, length, ap, arith}
 use Rattle.fst_machine.specs.Machine.{Arc, valued_arc}
-use Rattle.fst_binary.specs.Spelling.{weight_field, word}
-use Rattle.fst_binary.proofs.Lengths.{length-arc_fields, length-word, longer}
+use Rattle.fst_bytes.specs.Spelling.{weight_field, word}
+use Rattle.fst_binary.proofs.Lengths.{length-arc_fields}
+use Rattle.fst_bytes.proofs.Lengths.{length-word, longer}
 use Rattle.fst_binary.proofs.encoding.append_arc_by_fields.Goals as goal
 
 pub append_word-requires : goal.append_word-requires

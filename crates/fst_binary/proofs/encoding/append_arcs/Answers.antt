@@ -2,7 +2,7 @@ use Rattle.std.proofs.Common.{◌+◌, ◌++◌, map, drop, ap, ◌∙◌, arith
 use Rattle.std.specs.List.{flat_map}
 use Rattle.fst_machine.specs.Machine.{valued_arc}
 use Rattle.fst_binary.specs.Spelling.{arc_fields}
-use Rattle.fst_binary.proofs.Lists.{item_fits, item_left, item_written}
+use Rattle.fst_bytes.proofs.Lists.{item_fits, item_left, item_written}
 use Rattle.fst_binary.proofs.encoding.append_arcs.Goals as goal
 
 pub append_arc-requires : goal.append_arc-requires

@@ -1,8 +1,9 @@
 use Rattle.std.proofs.Common.{map, arith}
 use Rattle.fst_machine.specs.Machine.{State, valued_arc}
 use Rattle.fst_semiring.specs.Cost.{Cost}
-use Rattle.fst_binary.specs.Spelling.{weight_field}
-use Rattle.fst_binary.proofs.Lengths.{length-state_fields, longer}
+use Rattle.fst_bytes.specs.Spelling.{weight_field}
+use Rattle.fst_binary.proofs.Lengths.{length-state_fields}
+use Rattle.fst_bytes.proofs.Lengths.{longer}
 use Rattle.fst_binary.proofs.encoding.append_state.Goals as goal
 
 pub append_long-requires : goal.append_long-requires

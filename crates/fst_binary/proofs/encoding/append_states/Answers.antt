@@ -3,7 +3,8 @@ use Rattle.std.specs.List.{flat_map}
 use Rattle.fst_machine.specs.Machine.{State, valued_arc, valued_state}
 use Rattle.fst_semiring.specs.Cost.{Cost}
 use Rattle.fst_binary.specs.Spelling.{state_fields}
-use Rattle.fst_binary.proofs.Lists.{item_fits, item_written, state_left}
+use Rattle.fst_binary.proofs.Lists.{state_left}
+use Rattle.fst_bytes.proofs.Lists.{item_fits, item_written}
 use Rattle.fst_binary.proofs.encoding.append_states.Goals as goal
 
 pub append_state-requires : goal.append_state-requires

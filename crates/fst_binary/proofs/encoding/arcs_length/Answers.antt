@@ -1,8 +1,9 @@
 use Rattle.std.proofs.Common.{subst, ◌+◌, ℕ, length, map, drop, ap, arith}
 use Rattle.std.specs.List.{flat_map}
 use Rattle.fst_machine.specs.Machine.{Arc, valued_arc}
-use Rattle.fst_binary.specs.Spelling.{HasField, arc_fields, weight_field}
-use Rattle.fst_binary.proofs.Lists.{item_counted, item_left, item_more}
+use Rattle.fst_binary.specs.Spelling.{arc_fields}
+use Rattle.fst_bytes.specs.Spelling.{HasField, weight_field}
+use Rattle.fst_bytes.proofs.Lists.{item_counted, item_left, item_more}
 use Rattle.fst_binary.proofs.Lengths.{length-arc_fields}
 use Rattle.fst_binary.proofs.encoding.arcs_length.Goals as goal
 

@@ -1,7 +1,8 @@
 use Rattle.std.proofs.Common.{◌≡◌, ◌≤◌, ◌+◌, ◌*◌, length, map, drop, take, All}
 use Rattle.std.specs.List.{flat_map}
 use Rattle.fst_machine.specs.Machine.{valued_arc}
-use Rattle.fst_binary.specs.Spelling.{HasField, arc_fields}
+use Rattle.fst_binary.specs.Spelling.{arc_fields}
+use Rattle.fst_bytes.specs.Spelling.{HasField}
 use Rattle.fst_binary.proofs.encoding.arcs_length.Given as goal
 
 abbrev pub invariant-loop-arc : goal.invariant-loop-arc

@@ -4,8 +4,10 @@ use Rattle.std.proofs.lemmas.List.{length-map, take_all}
 use Rattle.std.proofs.lemmas.List.Elements.{All-nil}
 use Rattle.fst_semiring.specs.Cost.{Cost}
 use Rattle.fst_machine.specs.Machine.{State, valued_arc, valued_state}
-use Rattle.fst_binary.specs.Spelling.{HasField, state_fields}
-use Rattle.fst_binary.proofs.Lists.{arc_total-valued, arcs_left, item_counted, state_left, state_more}
+use Rattle.fst_binary.specs.Spelling.{state_fields}
+use Rattle.fst_bytes.specs.Spelling.{HasField}
+use Rattle.fst_binary.proofs.Lists.{arc_total-valued, arcs_left, state_left, state_more}
+use Rattle.fst_bytes.proofs.Lists.{item_counted}
 use Rattle.fst_binary.proofs.Encoded.{HasSpelling-valued}
 use Rattle.fst_binary.proofs.Lengths.{length-state_fields}
 use Rattle.fst_binary.proofs.encoding.states_length.Goals as goal

@@ -1,7 +1,8 @@
 use Rattle.std.proofs.Common.{◌≡◌, ◌≤◌, ◌+◌, ◌*◌, length, map, drop, take, All}
 use Rattle.std.specs.List.{flat_map}
 use Rattle.fst_machine.specs.Machine.{arc_total, valued_state}
-use Rattle.fst_binary.specs.Spelling.{HasField, state_fields}
+use Rattle.fst_binary.specs.Spelling.{state_fields}
+use Rattle.fst_bytes.specs.Spelling.{HasField}
 use Rattle.fst_binary.proofs.encoding.states_length.Given as goal
 
 abbrev pub invariant-loop-state : goal.invariant-loop-state

@@ -1,5 +1,5 @@
-use Rattle.fst_binary.specs.Spelling.{long}
-use Rattle.fst_binary.proofs.Lengths.{length-long}
+use Rattle.fst_bytes.specs.Spelling.{long}
+use Rattle.fst_bytes.proofs.Lengths.{length-long}
 use Rattle.fst_binary.proofs.Machines.{machine_again}
 use Rattle.fst_binary.proofs.laws.spelling_is_read.Goals as goal
 

@@ -1,7 +1,7 @@
 use Rattle.std.proofs.Common.{◌≡◌, ◌≤◌, ◌-◌, All, length, map}
 use Rattle.fst_codex.specs.Reading.{entries_at}
 use Rattle.fst_codex.specs.Table.{IsEntry, valued_entry}
-use Rattle.fst_codex.proofs.EntryLoops.{with_front}
+use Rattle.fst_bytes.specs.Reading.{with_front}
 use Rattle.fst_codex.proofs.reading.read_entries.Given as goal
 
 abbrev pub invariant-loop : goal.invariant-loop

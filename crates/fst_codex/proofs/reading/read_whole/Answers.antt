@@ -1,13 +1,8 @@
-use Rattle.std.proofs.Common.{sym, subst}
-use Rattle.fst_codex.specs.Reading.{Gives}
+use Rattle.fst_bytes.proofs.Stopping.{gives_of}
+use Rattle.fst_codex.specs.declared.fault.CodexKind.TheVariants.{Memory}
+use Rattle.fst_codex.specs.Reading.{codex_of_bytes}
 use Rattle.fst_codex.specs.Table.{valued_table}
-use Rattle.fst_codex.proofs.Whole.{type_not_wrong, whole_read}
 use Rattle.fst_codex.proofs.reading.read_whole.Goals as goal
 
-pub returns-in_err-behind : goal.returns-in_err-behind
-returns-in_err-behind g c = absurd (type_not_wrong c.args.bytes.now g.W.Weight.KIND c.in_err-behind.field-0.0 c.requires (sym c.in_err-behind.ensures.value))
-
-pub returns : goal.returns
-returns g c =
-    let read = whole_read c.args.bytes.now g.W.Weight.KIND _ c.in_ok-behind.behind c.requires (sym c.in_ok-behind.ensures.value) in
-    subst (λ r. Gives (λ t. valued_table g.W.Weight.value t) c.read_table.result r) (sym read) c.read_table.ensures
+pub returns-in-Err : goal.returns-in-Err
+returns-in-Err g c = rw c.into_fault.ensures (gives_of Memory (λ t. valued_table g.W.Weight.value t) c.in-Err.stopped (codex_of_bytes g.W.Weight.KIND c.args.bytes.now) c.in-Err.ensures)

@@ -1,10 +1,10 @@
 use Rattle.std.proofs.Common.{subst, ◌+◌, length, map, drop, ap, arith}
 use Rattle.std.specs.List.{flat_map}
-use Rattle.fst_binary.specs.Spelling.{HasField}
-use Rattle.fst_binary.proofs.Lists.{item_counted, item_left, item_more}
+use Rattle.fst_bytes.specs.Spelling.{HasField}
+use Rattle.fst_bytes.proofs.Lists.{item_counted, item_left, item_more}
 use Rattle.fst_codex.specs.Spelling.{entry_fields, weight_part}
 use Rattle.fst_codex.specs.Table.{Entry, valued_entry}
-use Rattle.fst_codex.proofs.EntryLoops.{length-entry_fields}
+use Rattle.fst_codex.proofs.Lengths.{length-entry_fields}
 use Rattle.fst_codex.proofs.writing.entries_length.Goals as goal
 
 pub loop-entry-preserved : goal.loop-entry-preserved

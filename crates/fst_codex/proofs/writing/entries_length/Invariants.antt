@@ -1,6 +1,6 @@
 use Rattle.std.proofs.Common.{◌≡◌, ◌≤◌, ◌+◌, ◌*◌, length, map, drop, take, All}
 use Rattle.std.specs.List.{flat_map}
-use Rattle.fst_binary.specs.Spelling.{HasField}
+use Rattle.fst_bytes.specs.Spelling.{HasField}
 use Rattle.fst_codex.specs.Spelling.{entry_fields}
 use Rattle.fst_codex.specs.Table.{valued_entry}
 use Rattle.fst_codex.proofs.writing.entries_length.Given as goal

@@ -1,6 +1,6 @@
 use Rattle.std.proofs.Common.{◌+◌, ◌++◌, map, drop, ap, ◌∙◌}
 use Rattle.std.specs.List.{flat_map}
-use Rattle.fst_binary.proofs.Lists.{item_left, item_written}
+use Rattle.fst_bytes.proofs.Lists.{item_left, item_written}
 use Rattle.fst_codex.specs.Spelling.{entry_fields}
 use Rattle.fst_codex.specs.Table.{valued_entry}
 use Rattle.fst_codex.proofs.writing.push_entries.Goals as goal

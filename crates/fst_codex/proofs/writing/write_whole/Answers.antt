@@ -1,5 +1,5 @@
 use Rattle.std.proofs.Common.{List, All, subst}
-use Rattle.fst_binary.specs.Spelling.{HasField}
+use Rattle.fst_bytes.specs.Spelling.{HasField}
 use Rattle.fst_codex.specs.Table.{Entry}
 use Rattle.fst_codex.proofs.Again.{HasCodexSpelling-valued}
 use Rattle.fst_codex.proofs.writing.write_whole.Goals as goal

@@ -2,7 +2,7 @@ use Rattle.std.proofs.Common.{◌≡◌, ◌++◌, map, take}
 use Rattle.std.specs.List.{flat_map}
 use Rattle.fst_machine.specs.Machine.{valued_arc}
 use Rattle.fst_compose.specs.Composition.{second_arcs}
-use Rattle.fst_compose.specs.Making.{key_arc}
+use Rattle.fst_walk.specs.Names.{key_arc}
 use Rattle.fst_compose.proofs.expanding.put_seconds.Given as goal
 
 abbrev pub invariant-loop-b : goal.invariant-loop-b

@@ -1,7 +1,7 @@
 use Rattle.fst_compose.specs.Composition.{composed}
 use Rattle.fst_compose.proofs.Theorem.{composed_is, composition_of_nothing}
-use Rattle.fst_compose.proofs.Numbered.{nothing_numbered}
-use Rattle.fst_compose.proofs.Finished.{composition_of}
+use Rattle.fst_walk.proofs.Numbered.{nothing_numbered}
+use Rattle.fst_compose.proofs.Through.{composition_of}
 use Rattle.fst_compose.proofs.laws.composition_laws.Goals as goal
 
 pub returns-clause-graph : goal.returns-clause-graph

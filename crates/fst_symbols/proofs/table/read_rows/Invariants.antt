@@ -1,13 +1,14 @@
 use Rattle.std.proofs.Common.{map, ◌≡◌, ◌+◌, ◌≤◌, length}
 use Rattle.fst_fields.specs.Lines.{fields_of, lines_of}
-use Rattle.fst_symbols.specs.Reading.{after_lines, table_of_text}
+use Rattle.fst_fields.specs.Texts.{read_lines}
+use Rattle.fst_symbols.specs.Reading.{after_line, table_of_text}
 use Rattle.fst_symbols.specs.Kept.{IsKept, symbols_in}
 use Rattle.fst_symbols.proofs.table.read_rows.Given as goal
 
 -- the symbols so far and those of the lines that are left are the table
 abbrev pub invariant-loop-first : goal.invariant-loop-first
 invariant-loop-first l = record {
-  reading : after_lines (l.line + 1) (symbols_in l.rows) (map fields_of (lines_of l.rest)) ≡ table_of_text l.bytes;
+  reading : read_lines after_line (l.line + 1) (symbols_in l.rows) (map fields_of (lines_of l.rest)) ≡ table_of_text l.bytes;
   kept : IsKept l.rows;
   counted : l.line + length l.rest ≤ length l.bytes;
 }

@@ -1,5 +1,4 @@
 use Rattle.std.proofs.Common.{List, map, ap, sym, ◌++◌, ◌∙◌}
-use Rattle.std.proofs.lemmas.Result.{err_from_is_err_and}
 use Rattle.fst_machine.specs.Machine.{valued_arc}
 use Rattle.fst_text.specs.Entries.{Entry, arc_entry}
 use Rattle.fst_text.specs.Printed.{final_entries, text_of_entries, unnamed_label}
@@ -17,7 +16,7 @@ returns-clause-text g c =
     let w = c.final_weight.result in
     let first = map (arc_entry state) (map (valued_arc value) arcs) in
     let last = final_entries state (value w) (map (valued_arc value) arcs) in
-    texts-append kind options c.args.out.now.items c.push_arcs.new.out.items c.push_final.new.out.items first last c.in_ok-push_arcs.ensures.text c.in_ok-push_final.ensures
+    texts-append kind options c.args.out.now.items c.push_arcs.new.out.items c.push_final.new.out.items first last (rw c.in-Ok.is at c.in_ok-push_arcs.ensures.text) c.in_ok-push_final.ensures
     ∙ ap (λ (es : List Entry). c.args.out.now.items ++ text_of_entries kind options es) (sym (entries-read value c.args.fst.now.states state arcs w c.arcs-arcs.ensures c.final_weight.ensures))
 
 pub returns-clause-named : goal.returns-clause-named
@@ -30,10 +29,8 @@ returns-clause-named g c =
     let first = map (arc_entry state) (map (valued_arc value) arcs) in
     let last = final_entries state (value w) (map (valued_arc value) arcs) in
     ap (unnamed_label options) (entries-read value c.args.fst.now.states state arcs w c.arcs-arcs.ensures c.final_weight.ensures)
-    ∙ entries-behind options first last c.in_ok-push_arcs.ensures.named
+    ∙ entries-behind options first last (rw c.in-Ok.is at c.in_ok-push_arcs.ensures.named)
     ∙ final-unnamed options state (value w) (map (valued_arc value) arcs)
 
-pub returns-in_err-push_arcs-clause-named : goal.returns-in_err-push_arcs-clause-named
-returns-in_err-push_arcs-clause-named g c =
-    let p = err_from_is_err_and c.from_residual.result c.from_residual.ensures.1 in
-    rw (p.1, p.2) (arcs-fault g.W.Weight.value c.args.options.now c.in_err-push_arcs.field-0.0 c.args.fst.now.states c.args.state c.arcs-arcs.result.now c.arcs-arcs.ensures c.in_err-push_arcs.ensures.named)
+pub returns-in-Err-clause-named : goal.returns-in-Err-clause-named
+returns-in-Err-clause-named g c = arcs-fault g.W.Weight.value c.args.options.now c.in-Err.fault c.args.fst.now.states c.args.state c.arcs-arcs.result.now c.arcs-arcs.ensures (rw c.in-Err.is at c.in_ok-push_arcs.ensures.named)

@@ -1,9 +1,8 @@
-use Rattle.std.proofs.Common.{◌≡◌, ℕ, List, sym, subst, arith}
-use Rattle.fst_machine.specs.Machine.{Arc, Machine, most_arcs, valued}
-use Rattle.fst_machine.specs.Graph.{graph_of}
-use Rattle.fst_trim.specs.Beside.{SamePaths}
+use Rattle.std.proofs.Common.{ℕ, List, sym, subst, arith}
+use Rattle.fst_machine.specs.Machine.{Arc, Machine, most_arcs}
 use Rattle.fst_trim.specs.Sorting.{IsArcSorted, IsStableSort}
-use Rattle.fst_trim.proofs.Rearranged.{rearranged_machine, rearranged_paths, rearranged-Rel, sorted_is_rearranged, sort_ends, sort_more, sort_room}
+use Rattle.fst_trim.proofs.Rearranged.{rearranged_machine, rearranged-Rel, sorted_is_rearranged, sort_ends, sort_more, sort_room}
+use Rattle.fst_trim.proofs.SortedPaths.{sorted_paths}
 use Rattle.fst_trim.proofs.sorting.arcsort.Goals as goal
 
 pub push-requires : goal.push-requires
@@ -36,7 +35,8 @@ returns-clause-paths g c =
     let value = g.W.Weight.value in
     let new : Machine g.row.W.Denot = record { start = c.start.result; states = c.loop-state.states } in
     let h = sort_ends c.args.side m new c.loop-state.state (omega (arith, c.states-state-end.ensures.value)) (omega (arith, c.states-state-end.ensures.value)) c.start.ensures.value c.loop-state.invariant in
-    subst (λ (n : Machine g.row.W.Denot). SamePaths g.W.Weight.KIND (λ (p q : ℕ). p ≡ q) (graph_of (valued value m)) (graph_of (valued value n))) (sym c.into_machine.ensures) (rearranged_paths value m new (sorted_is_rearranged c.args.side m new h.0) g.W.Weight.KIND)
+    let sorted = subst (λ (n : Machine g.row.W.Denot). IsArcSorted c.args.side m n) (sym c.into_machine.ensures) h.0 in
+    sorted_paths value c.args.side m c.into_machine.result sorted g.W.Weight.KIND
 
 pub returns-clause-relation : goal.returns-clause-relation
 returns-clause-relation g c x y w =

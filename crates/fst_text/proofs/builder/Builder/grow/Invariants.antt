@@ -1,4 +1,5 @@
 use Rattle.std.proofs.Common.{◌≡◌, ◌+◌, ◌-◌, length, true}
+use Rattle.fst_machine.specs.Machine.{arc_total}
 use Rattle.fst_text.specs.Building.{IsPlaced, built, with_number}
 use Rattle.fst_text.proofs.builder.Builder.grow.Given as goal
 
@@ -6,6 +7,7 @@ use Rattle.fst_text.proofs.builder.Builder.grow.Given as goal
 abbrev pub invariant-loop-self : goal.invariant-loop-self
 invariant-loop-self g l = record {
   added : with_number true (built g.W.Weight.value l.self) l.place ≡ with_number true (built g.W.Weight.value l.fn.self) l.place;
+  arcs : arc_total l.self.fst.states ≡ arc_total l.fn.self.fst.states;
   placed : IsPlaced (built g.W.Weight.value l.self);
 }
 

@@ -1,6 +1,6 @@
 use Rattle.std.proofs.Common.{ap, sym, ◌∙◌, nat_lt}
 use Rattle.fst_machine.specs.Machine.{most_arcs}
-use Rattle.fst_text.proofs.Lines.{arc_total-valued}
+use Rattle.fst_machine.proofs.Valued.{arc_total-valued}
 use Rattle.fst_text.proofs.builder.Builder.has_room_for_arc.Goals as goal
 
 pub returns : goal.returns

@@ -1,0 +1,9 @@
+pub mod Steps
+pub mod Lengths
+pub mod Lists
+pub mod Numbers
+pub mod Names
+pub mod Weights
+pub mod WeightFields
+pub mod Loops
+pub mod Stopping

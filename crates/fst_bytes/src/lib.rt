@@ -1,0 +1,27 @@
+//! The fields that the binary forms of the project are made of, both ways: little-endian numbers, names after their
+//! lengths, labels and weight fields.
+//!
+//! `specs/Spelling.antt` says how a field is written, and `specs/Reading.antt` what is read at an offset: a value and
+//! the offset after it, or the first fault. The kinds of fault of a form are its own; a reader here takes those that
+//! it may answer. What is read is what stands there, and what stands there is read: `proofs`.
+#![tactic(auto)]
+
+mod appending;
+mod fault;
+mod name;
+mod number;
+mod room;
+mod weight_field;
+
+pub use appending::{
+    append, append_arc_type, append_long, append_signed, append_text, append_word, push_arc_type,
+    push_long, push_word,
+};
+pub use fault::{FileFault, Stopped, WeightFieldFault, expect_end, fault_at, short_of};
+pub use name::read_arc_type;
+pub use number::{expect_word, read_bytes, read_count, read_label, read_long, read_word};
+pub use room::most_that_fit;
+pub use weight_field::{
+    append_weight, count_of_numbers, push_weight_field, read_non_zero_weight, read_weight,
+    read_weight_field, weight_length,
+};

@@ -1,0 +1,7 @@
+pub mod Keys
+pub mod Putting
+pub mod Following
+pub mod Ending
+pub mod Refusing
+pub mod Numbered
+pub mod Fronts

@@ -1,0 +1,4 @@
+pub mod Names
+pub mod Making
+pub mod Answers
+pub mod WalkLaws

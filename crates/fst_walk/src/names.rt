@@ -1,0 +1,77 @@
+//! What a walk asks of a graph of names.
+
+ghost use Rattle.std.specs.Prelude.{◌≡◌, ◌++◌, ◌≤◌, ℕ, OnOk, Some, slice_get, map};
+ghost use Rattle.std.specs.Bool.{Decides};
+ghost use Rattle.fst_semiring.specs.Cost.{Cost};
+ghost use Rattle.fst_machine.specs.Graph.{Graph};
+ghost use Rattle.fst_machine.specs.Machine.{Arc};
+ghost use Rattle.fst_walk.specs.Names.{IsGoodArc, IsNear, key_arc};
+
+use fst_semiring::Weight;
+use std::alloc::AllocError;
+use std::hash::Hash;
+use std::marker::Model;
+
+/// An arc to a name. Its weight is in the wide form.
+#[derive(Drop)]
+pub struct NameArc<K: Drop, W: Weight> {
+    /// The input label.
+    pub ilabel: u32,
+    /// The output label.
+    pub olabel: u32,
+    /// The weight.
+    pub weight: W::Wide,
+    /// The name to which it leads.
+    pub next: K,
+}
+
+impl<K: Drop, W: Weight> Model for NameArc<K, W> {
+    ghost use Rattle.fst_machine.specs.Machine.{Arc};
+
+    ghost Value = { Arc W.Wide K };
+
+    ghost view = { λ a. record { ilabel = a.ilabel; olabel = a.olabel; weight = a.weight; next = a.next } };
+
+    ghost inverse = { λ a. record { ilabel = a.ilabel; olabel = a.olabel; weight = a.weight; next = a.next } };
+}
+
+/// A graph of names, whose arcs are made when they are asked for.
+///
+/// `put_arcs` can answer that memory has run out, and no other fault. An operation that may have to stop at a name
+/// will need a type of faults here, and a case of `WalkFault` for it.
+pub trait Names<W: Weight> {
+    /// A name.
+    type Key: Eq + Hash + Drop;
+
+    /// The graph.
+    ghost graph: { Self → Graph Self.Key };
+
+    /// What has to hold of the operation.
+    ghost holds: { Self → Type 0 };
+
+    /// The name of the start, if there is one.
+    fn start(&self) -> Option<Self::Key>
+        ensures { result ≡ (graph self.now).start };
+
+    /// Puts the arcs of a name after the others.
+    fn put_arcs(
+        &self,
+        out: &mut Vec<NameArc<Self::Key, W>>,
+        key: &Self::Key,
+    ) -> Result<(), AllocError>
+        requires holds { holds self.now }
+        requires near { IsNear (graph self.now) key.now }
+        ensures { OnOk result (map (key_arc W.wide_value) out.new.items ≡ map (key_arc W.wide_value) out.old.items ++ (graph self.now).arcs key.now) };
+
+    /// The final weight of a name.
+    fn final_weight(&self, key: &Self::Key) -> W::Wide
+        requires holds { holds self.now }
+        requires near { IsNear (graph self.now) key.now }
+        ensures { W.wide_value result ≡ (graph self.now).final key.now };
+
+    /// Names that compare as equal are one.
+    ghost same: { (a b : Self.Key) → Decides (Self.Key.PartialEq.eq a b) (a ≡ b) };
+
+    /// Arcs of names that the start reaches have labels in range and weights that are not Zero.
+    ghost good: { (s : Self) → holds s → (n : Self.Key) → IsNear (graph s) n → (k : ℕ) (a : Arc Cost Self.Key) → slice_get ((graph s).arcs n) k ≡ Some a → IsGoodArc a };
+}

@@ -1,0 +1,237 @@
+//! The commands, a line each: what a command that is added takes stands here and in `specs/Forms.antt`.
+
+ghost use Rattle.std.specs.Prelude.{◌≡◌, map};
+ghost use Rattle.fst_words.specs.Commands.{flags_of, options_of};
+ghost use Rattle.fst_words.specs.Forms.{all_of, form_of, has_rules, least_of, place_of};
+ghost use Rattle.fst_words.specs.Verbs.{name_of};
+
+use crate::verb::Verb;
+
+/// How many names a command takes, and which of them are stored. Missing names are `-`.
+#[derive(Clone, Copy, Debug, PartialEq, Eq)]
+pub(crate) enum Shape {
+    /// An output alone.
+    NoInput,
+    /// An input and an output, which may be missing.
+    One,
+    /// Two inputs, and an output, which may be missing.
+    Two,
+    /// Two inputs, and a third and an output, which may be missing.
+    Three,
+    /// Pairs of a machine and a label, and an output, which may be missing.
+    Rules,
+    /// A machine and a codex, which is stored first unless it is decoded by, and an output, which may be missing.
+    Codex,
+}
+
+/// What a command takes.
+#[derive(Clone, Copy)]
+pub(crate) struct Form {
+    /// The name, without `fst` in front.
+    pub(crate) name: &'static str,
+    /// The options with a value.
+    pub(crate) options: &'static [&'static str],
+    /// The flags, which have no value.
+    pub(crate) flags: &'static [&'static str],
+    /// The shape of its names.
+    pub(crate) shape: Shape,
+}
+
+/// What each command takes.
+pub(crate) fn form_of(verb: Verb) -> Form
+    ensures name { result.name.now ≡ name_of verb }
+    ensures options { map (λ s. s.now) result.options.now ≡ options_of verb }
+    ensures flags { map (λ s. s.now) result.flags.now ≡ flags_of verb }
+    ensures shape { result.shape ≡ (form_of verb).shape }
+{
+    match verb {
+        Verb::Compile => Form {
+            name: "compile",
+            options: &["arc_type", "isymbols", "osymbols"],
+            flags: &["acceptor", "keep_state_numbering"],
+            shape: Shape::One,
+        },
+        Verb::Print => Form {
+            name: "print",
+            options: &["isymbols", "osymbols"],
+            flags: &["acceptor", "show_weight_one"],
+            shape: Shape::One,
+        },
+        Verb::Info => Form {
+            name: "info",
+            options: &[],
+            flags: &[],
+            shape: Shape::One,
+        },
+        Verb::Invert => Form {
+            name: "invert",
+            options: &[],
+            flags: &[],
+            shape: Shape::One,
+        },
+        Verb::Reverse => Form {
+            name: "reverse",
+            options: &[],
+            flags: &[],
+            shape: Shape::One,
+        },
+        Verb::Connect => Form {
+            name: "connect",
+            options: &[],
+            flags: &[],
+            shape: Shape::One,
+        },
+        Verb::Union => Form {
+            name: "union",
+            options: &[],
+            flags: &[],
+            shape: Shape::Two,
+        },
+        Verb::Concat => Form {
+            name: "concat",
+            options: &[],
+            flags: &[],
+            shape: Shape::Two,
+        },
+        Verb::Closure => Form {
+            name: "closure",
+            options: &[],
+            flags: &["closure_plus"],
+            shape: Shape::One,
+        },
+        Verb::Project => Form {
+            name: "project",
+            options: &[],
+            flags: &["project_output"],
+            shape: Shape::One,
+        },
+        Verb::Replace => Form {
+            name: "replace",
+            options: &[],
+            flags: &[],
+            shape: Shape::Rules,
+        },
+        Verb::Relabel => Form {
+            name: "relabel",
+            options: &["relabel_ipairs", "relabel_opairs"],
+            flags: &[],
+            shape: Shape::One,
+        },
+        Verb::Arcsort => Form {
+            name: "arcsort",
+            options: &["sort_type"],
+            flags: &[],
+            shape: Shape::One,
+        },
+        Verb::Compose => Form {
+            name: "compose",
+            options: &["connect", "max_states"],
+            flags: &[],
+            shape: Shape::Two,
+        },
+        Verb::Rmepsilon => Form {
+            name: "rmepsilon",
+            options: &["connect", "queue_type"],
+            flags: &[],
+            shape: Shape::One,
+        },
+        Verb::Shortestdistance => Form {
+            name: "shortestdistance",
+            options: &["queue_type"],
+            flags: &["reverse"],
+            shape: Shape::One,
+        },
+        Verb::Shortestpath => Form {
+            name: "shortestpath",
+            options: &["nshortest"],
+            flags: &[],
+            shape: Shape::One,
+        },
+        Verb::Push => Form {
+            name: "push",
+            options: &["queue_type"],
+            flags: &["push_weights", "remove_total_weight"],
+            shape: Shape::One,
+        },
+        Verb::Encode => Form {
+            name: "encode",
+            options: &[],
+            flags: &["encode_labels", "encode_weights", "decode"],
+            shape: Shape::Codex,
+        },
+        Verb::Determinize => Form {
+            name: "determinize",
+            options: &["max_states"],
+            flags: &[],
+            shape: Shape::One,
+        },
+        Verb::Minimize => Form {
+            name: "minimize",
+            options: &["queue_type"],
+            flags: &[],
+            shape: Shape::One,
+        },
+        Verb::Batch => Form {
+            name: "batch",
+            options: &["nshortest", "workers", "max_states"],
+            flags: &["summary"],
+            shape: Shape::Three,
+        },
+        Verb::Make => Form {
+            name: "make",
+            options: &["seed", "lines", "nshortest", "workers", "max_states"],
+            flags: &[],
+            shape: Shape::NoInput,
+        },
+    }
+}
+
+impl Shape {
+    /// How many names must be given.
+    pub(crate) fn least(self) -> usize
+        ensures { result ≡ least_of self }
+    {
+        match self {
+            Shape::NoInput | Shape::One => 0,
+            Shape::Two | Shape::Three | Shape::Rules | Shape::Codex => 2,
+        }
+    }
+
+    /// How many names there are, with those that are missing, where so many are given.
+    pub(crate) fn all(self, given: usize) -> usize
+        ensures { result ≡ all_of self given }
+    {
+        match self {
+            Shape::NoInput => 1,
+            Shape::One => 2,
+            Shape::Two => 3,
+            Shape::Three => 4,
+            Shape::Rules => 2 * (given / 2) + 1,
+            Shape::Codex => 3,
+        }
+    }
+
+    /// The place of the first name that is stored.
+    pub(crate) fn output_place(self, decode: bool, names: usize) -> usize
+        ensures { result ≡ place_of self decode names }
+    {
+        match self {
+            Shape::NoInput => 0,
+            Shape::One => 1,
+            Shape::Two => 2,
+            Shape::Three => 3,
+            Shape::Rules => names.saturating_sub(1),
+            Shape::Codex => { if decode { 2 } else { 1 } }
+        }
+    }
+
+    /// Whether the names are pairs of a machine and a label, and then an output.
+    pub(crate) fn has_rules(self) -> bool
+        ensures { result ≡ has_rules self }
+    {
+        match self {
+            Shape::Rules => true,
+            Shape::NoInput | Shape::One | Shape::Two | Shape::Three | Shape::Codex => false,
+        }
+    }
+}
