@@ -139,10 +139,10 @@ fn takes_no_label_twice(rt: HostRuntime) -> Result<(), Fail> {
 }
 
 /// So many machines, of which each calls the next one twice.
-fn doubling(alloc: Global, count: u32) -> Result<Vec<Labelled>, Fail> {
+fn doubling(alloc: Global, count: u16) -> Result<Vec<Labelled>, Fail> {
     let mut machines = Vec::new(alloc);
     for place in 0..count {
-        let (label, next) = (place + 1, place + 2);
+        let (label, next) = (u32::from(place) + 1, u32::from(place) + 2);
         let text = format!(in alloc; "0 1 1 {next}\n1 2 1 {next}\n2\n")?;
         machines.push((label, machine(alloc, text.as_bytes())?))?;
     }
