@@ -16,6 +16,3 @@ pub use fault::{BinaryFault, BinaryKind};
 pub use fst_bytes::{WeightFieldFault, push_weight_field, read_weight_field, weight_length};
 pub use header::arc_type;
 pub use laws::{no_spelling_goes_on, spelling_is_read, values_tell_machines};
-
-#[cfg(test)]
-mod tests;

@@ -25,6 +25,3 @@ pub use weight_field::{
     append_weight, count_of_numbers, push_weight_field, read_non_zero_weight, read_weight,
     read_weight_field, weight_length,
 };
-
-#[cfg(test)]
-mod tests;

@@ -20,8 +20,3 @@ pub use encoding::encode_labels;
 pub use fault::{CodexFault, CodexKind};
 pub use reading::{codex_arc_type, read_codex};
 pub use writing::write_codex;
-
-#[cfg(test)]
-mod file_tests;
-#[cfg(test)]
-mod tests;

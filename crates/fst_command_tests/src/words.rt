@@ -40,10 +40,7 @@ fn put_number(alloc: Global, out: &mut String, name: &str, value: Option<u64>) -
 
 fn put_arc_type(out: &mut String, value: Option<ArcType>) -> Result<(), AllocError> {
     match value {
-        Some(ArcType::Boolean) => put_text(out, "arc_type", "boolean"),
-        Some(ArcType::Tropical) => put_text(out, "arc_type", "tropical"),
-        Some(ArcType::MinMax) => put_text(out, "arc_type", "minmax"),
-        Some(ArcType::Lexicographic) => put_text(out, "arc_type", "lexicographic"),
+        Some(kind) => put_text(out, "arc_type", kind.name()),
         None => Ok(()),
     }
 }

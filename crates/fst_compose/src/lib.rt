@@ -19,6 +19,3 @@ pub use composing::{Composed, compose};
 pub use expanding::{expand, key_final};
 pub use fault::ComposeFault;
 pub use key::{ComposeKey, KeyArc, KeyList};
-
-#[cfg(test)]
-mod tests;

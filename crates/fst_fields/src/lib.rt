@@ -12,6 +12,3 @@ mod lines;
 pub use decimal::{MOST_LABEL, read_decimal, read_label};
 pub use laws::printed_decimal_reads_again;
 pub use lines::{next_field, next_line, read_row};
-
-#[cfg(test)]
-mod tests;

@@ -27,10 +27,3 @@ pub use fst_fields::MOST_LABEL;
 pub use narrow::{NarrowFault, narrow_all};
 pub use path::{Path, Paths, Step};
 pub use wide::{WideArc, WideFst};
-
-#[cfg(test)]
-mod narrow_tests;
-#[cfg(test)]
-mod path_tests;
-#[cfg(test)]
-mod tests;

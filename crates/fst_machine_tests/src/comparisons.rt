@@ -3,99 +3,31 @@
 
 use crate::machines::machines;
 use crate::operations::{Change, apply, changed};
-use crate::products::{closed, composed, concatenated, count_pairs, united};
+use crate::products::{composed, concatenated, count_pairs, united};
 use crate::relation::{ARCS, add_arcs, relation, said, says};
 use fst_compose::compose;
 use fst_machine::Fst;
 use fst_plain::{PlainCost, breadth_first, distances_to_final};
-use fst_rational::{closure, concat, union};
+use fst_rational::{concat, union};
 use fst_semiring::{Boolean, Lexicographic, MinMax, Tropical, Weight};
-use fst_trim::{Side, arcsort, connect, is_sorted};
+use fst_trim::{Side, arcsort, is_sorted};
 use std::alloc::Global;
 use std::process::Abort;
 use std::test::Fail;
 
-/// Asks of one operation and one machine.
-fn compare_change<W: Weight>(
-    rt: &impl Abort,
-    alloc: Global,
-    change: Change,
-    fst: &Fst<W>,
-) -> Result<(), Fail> {
-    let triples = relation(alloc, fst)?;
-    let wanted = changed(rt, alloc, change, triples.as_slice())?;
-    let made = apply(alloc, change, fst)?;
-    says(rt, alloc, &made, wanted.as_slice())?;
-    Ok(())
-}
-
-/// Asks of one operation and each machine of an arc type.
-fn compare_changes<W: Weight>(rt: &impl Abort, alloc: Global, change: Change) -> Result<(), Fail> {
-    for fst in &machines::<W>(rt, alloc)? {
-        compare_change(rt, alloc, change, fst)?;
-    }
-    Ok(())
-}
-
-/// Asks of one operation and each machine.
-fn compare_all(rt: &impl Abort, alloc: Global, change: Change) -> Result<(), Fail> {
-    compare_changes::<Boolean>(rt, alloc, change)?;
-    compare_changes::<Tropical>(rt, alloc, change)?;
-    compare_changes::<MinMax>(rt, alloc, change)?;
-    compare_changes::<Lexicographic>(rt, alloc, change)?;
-    Ok(())
-}
-
-#[test]
-fn reverses(rt: HostRuntime) -> Result<(), Fail> {
-    compare_all(&rt, rt.alloc(), Change::Reverse)
-}
-
-#[test]
-fn inverts(rt: HostRuntime) -> Result<(), Fail> {
-    compare_all(&rt, rt.alloc(), Change::Invert)
-}
-
-#[test]
-fn projects_to_the_input_side(rt: HostRuntime) -> Result<(), Fail> {
-    compare_all(&rt, rt.alloc(), Change::ProjectInput)
-}
-
-#[test]
-fn projects_to_the_output_side(rt: HostRuntime) -> Result<(), Fail> {
-    compare_all(&rt, rt.alloc(), Change::ProjectOutput)
-}
-
-#[test]
-fn relabels_both_sides(rt: HostRuntime) -> Result<(), Fail> {
-    compare_all(&rt, rt.alloc(), Change::Relabel)
-}
-
-/// Asks that each machine of an arc type is sorted behind the operation.
-fn compare_orders<W: Weight>(
-    rt: &impl Abort,
-    alloc: Global,
-    change: Change,
-    side: Side,
-) -> Result<(), Fail> {
-    for fst in &machines::<W>(rt, alloc)? {
-        let made = apply(alloc, change, fst)?;
-        assert!(rt; is_sorted(&made, side));
-    }
-    Ok(())
-}
-
-#[test]
-fn sorts_by_input_labels(rt: HostRuntime) -> Result<(), Fail> {
-    compare_orders::<Tropical>(&rt, rt.alloc(), Change::SortInput, Side::Input)?;
-    compare_all(&rt, rt.alloc(), Change::SortInput)
-}
-
-#[test]
-fn sorts_by_output_labels(rt: HostRuntime) -> Result<(), Fail> {
-    compare_orders::<Tropical>(&rt, rt.alloc(), Change::SortOutput, Side::Output)?;
-    compare_all(&rt, rt.alloc(), Change::SortOutput)
-}
+/// The operations on one machine.
+static CHANGES: [Change; 10] = [
+    Change::Reverse,
+    Change::Invert,
+    Change::ProjectInput,
+    Change::ProjectOutput,
+    Change::Relabel,
+    Change::SortInput,
+    Change::SortOutput,
+    Change::Connect,
+    Change::Star,
+    Change::Plus,
+];
 
 /// Asks that by the plain programs the start reaches each state, and each reaches a final state by at most
 /// `ARCS` arcs.
@@ -111,79 +43,58 @@ fn is_useful<W: Weight>(rt: &impl Abort, alloc: Global, fst: &Fst<W>) -> Result<
     Ok(())
 }
 
-/// Asks that each connected machine of an arc type has useful states alone.
-fn compare_states<W: Weight>(rt: &impl Abort, alloc: Global) -> Result<(), Fail> {
-    for fst in &machines::<W>(rt, alloc)? {
-        is_useful(rt, alloc, &connect(alloc, fst)?)?;
+/// Asks what an operation makes sure of beside the relation.
+fn compare_form<W: Weight>(
+    rt: &impl Abort,
+    alloc: Global,
+    change: Change,
+    made: &Fst<W>,
+) -> Result<(), Fail> {
+    match change {
+        Change::SortInput => assert!(rt; is_sorted(made, Side::Input)),
+        Change::SortOutput => assert!(rt; is_sorted(made, Side::Output)),
+        Change::Connect => is_useful(rt, alloc, made)?,
+        _ => {}
     }
     Ok(())
 }
 
-#[test]
-fn connects(rt: HostRuntime) -> Result<(), Fail> {
-    compare_states::<Tropical>(&rt, rt.alloc())?;
-    compare_all(&rt, rt.alloc(), Change::Connect)
-}
-
-/// Asks of the union of two machines or, where `joins` is set, of their concatenation.
-fn compare_pair<W: Weight>(
+/// Asks of one operation and one machine.
+fn compare_change<W: Weight>(
     rt: &impl Abort,
     alloc: Global,
-    joins: bool,
+    change: Change,
+    fst: &Fst<W>,
+) -> Result<(), Fail> {
+    let triples = relation(alloc, fst)?;
+    let wanted = changed(rt, alloc, W::KIND, change, triples.as_slice())?;
+    let made = apply(alloc, change, fst)?;
+    says(rt, alloc, &made, wanted.as_slice())?;
+    compare_form(rt, alloc, change, &made)
+}
+
+/// Asks of each operation and one machine.
+fn compare_changes<W: Weight>(rt: &impl Abort, alloc: Global, fst: &Fst<W>) -> Result<(), Fail> {
+    for change in &CHANGES {
+        compare_change(rt, alloc, *change, fst)?;
+    }
+    Ok(())
+}
+
+/// Asks of the union and the concatenation of two machines.
+fn compare_joins<W: Weight>(
+    rt: &impl Abort,
+    alloc: Global,
     a: &Fst<W>,
     b: &Fst<W>,
 ) -> Result<(), Fail> {
     let front = relation(alloc, a)?;
     let back = relation(alloc, b)?;
     let (front, back) = (front.as_slice(), back.as_slice());
-    if joins {
-        let wanted = concatenated(rt, alloc, W::KIND, front, back)?;
-        says(rt, alloc, &concat(alloc, a, b)?, wanted.as_slice())?;
-    } else {
-        let wanted = united(rt, alloc, front, back)?;
-        says(rt, alloc, &union(alloc, a, b)?, wanted.as_slice())?;
-    }
-    Ok(())
-}
-
-/// Asks the same of a machine with each of others behind it.
-fn compare_row<W: Weight>(
-    rt: &impl Abort,
-    alloc: Global,
-    joins: bool,
-    a: &Fst<W>,
-    others: &[Fst<W>],
-) -> Result<(), Fail> {
-    for b in others {
-        compare_pair(rt, alloc, joins, a, b)?;
-    }
-    Ok(())
-}
-
-/// Asks the same of each two machines of an arc type.
-fn compare_pairs<W: Weight>(rt: &impl Abort, alloc: Global, joins: bool) -> Result<(), Fail> {
-    let list = machines::<W>(rt, alloc)?;
-    for a in &list {
-        compare_row(rt, alloc, joins, a, list.as_slice())?;
-    }
-    Ok(())
-}
-
-#[test]
-fn unites(rt: HostRuntime) -> Result<(), Fail> {
-    compare_pairs::<Boolean>(&rt, rt.alloc(), false)?;
-    compare_pairs::<Tropical>(&rt, rt.alloc(), false)?;
-    compare_pairs::<MinMax>(&rt, rt.alloc(), false)?;
-    compare_pairs::<Lexicographic>(&rt, rt.alloc(), false)?;
-    Ok(())
-}
-
-#[test]
-fn concatenates(rt: HostRuntime) -> Result<(), Fail> {
-    compare_pairs::<Boolean>(&rt, rt.alloc(), true)?;
-    compare_pairs::<Tropical>(&rt, rt.alloc(), true)?;
-    compare_pairs::<MinMax>(&rt, rt.alloc(), true)?;
-    compare_pairs::<Lexicographic>(&rt, rt.alloc(), true)?;
+    let wanted = united(rt, alloc, front, back)?;
+    says(rt, alloc, &union(alloc, a, b)?, wanted.as_slice())?;
+    let wanted = concatenated(rt, alloc, W::KIND, front, back)?;
+    says(rt, alloc, &concat(alloc, a, b)?, wanted.as_slice())?;
     Ok(())
 }
 
@@ -208,8 +119,8 @@ fn compare_composition<W: Weight>(
     Ok(paths.len())
 }
 
-/// Asks of the composition of a machine with each of others. Gives how many paths they have together.
-fn compare_compositions<W: Weight>(
+/// Asks of a machine with each of others after it. Gives how many paths the compositions have together.
+fn compare_row<W: Weight>(
     rt: &impl Abort,
     alloc: Global,
     a: &Fst<W>,
@@ -217,91 +128,44 @@ fn compare_compositions<W: Weight>(
 ) -> Result<usize, Fail> {
     let mut count = 0;
     for b in others {
+        compare_joins(rt, alloc, a, b)?;
         count = add_arcs(rt, count, compare_composition(rt, alloc, a, b)?);
     }
     Ok(count)
 }
 
-/// Asks of the composition of each two machines of an arc type. Gives how many paths they have together.
-fn compare_all_compositions<W: Weight>(rt: &impl Abort, alloc: Global) -> Result<usize, Fail> {
+/// Asks of all operations and the machines of an arc type, of which each has so many triples. The numbers of triples,
+/// and 630, that of the paths of the compositions, were counted by a program of another language, which follows arcs
+/// and pairs paths as the definitions say.
+fn compare<W: Weight>(rt: &impl Abort, alloc: Global, sizes: &[usize; 4]) -> Result<(), Fail> {
     let list = machines::<W>(rt, alloc)?;
+    assert_eq!(rt; list.len(), 4);
     let mut count = 0;
-    for a in &list {
-        let more = compare_compositions(rt, alloc, a, list.as_slice())?;
-        count = add_arcs(rt, count, more);
+    for (a, size) in list.iter().zip(sizes) {
+        assert_eq!(rt; relation(alloc, a)?.len(), *size);
+        compare_changes(rt, alloc, a)?;
+        count = add_arcs(rt, count, compare_row(rt, alloc, a, list.as_slice())?);
     }
-    Ok(count)
-}
-
-/// The number was counted by a program of another language, which pairs paths as the definition says.
-#[test]
-fn composes(rt: HostRuntime) -> Result<(), Fail> {
-    assert_eq!(rt; compare_all_compositions::<Boolean>(&rt, rt.alloc())?, 630);
-    assert_eq!(rt; compare_all_compositions::<Tropical>(&rt, rt.alloc())?, 630);
-    assert_eq!(rt; compare_all_compositions::<MinMax>(&rt, rt.alloc())?, 630);
-    assert_eq!(rt;
-        compare_all_compositions::<Lexicographic>(&rt, rt.alloc())?,
-        630
-    );
-    Ok(())
-}
-
-/// Asks of the closure of each machine of an arc type.
-fn compare_closures<W: Weight>(rt: &impl Abort, alloc: Global, plus: bool) -> Result<(), Fail> {
-    for fst in &machines::<W>(rt, alloc)? {
-        let triples = relation(alloc, fst)?;
-        let wanted = closed(rt, alloc, W::KIND, plus, triples.as_slice())?;
-        says(rt, alloc, &closure(alloc, fst, plus)?, wanted.as_slice())?;
-    }
+    assert_eq!(rt; count, 630);
     Ok(())
 }
 
 #[test]
-fn makes_the_star(rt: HostRuntime) -> Result<(), Fail> {
-    compare_closures::<Boolean>(&rt, rt.alloc(), false)?;
-    compare_closures::<Tropical>(&rt, rt.alloc(), false)?;
-    compare_closures::<MinMax>(&rt, rt.alloc(), false)?;
-    compare_closures::<Lexicographic>(&rt, rt.alloc(), false)?;
-    Ok(())
+fn compares_boolean_machines(rt: HostRuntime) -> Result<(), Fail> {
+    compare::<Boolean>(&rt, rt.alloc(), &[23, 58, 0, 0])
 }
 
 #[test]
-fn makes_the_plus(rt: HostRuntime) -> Result<(), Fail> {
-    compare_closures::<Boolean>(&rt, rt.alloc(), true)?;
-    compare_closures::<Tropical>(&rt, rt.alloc(), true)?;
-    compare_closures::<MinMax>(&rt, rt.alloc(), true)?;
-    compare_closures::<Lexicographic>(&rt, rt.alloc(), true)?;
-    Ok(())
+fn compares_tropical_machines(rt: HostRuntime) -> Result<(), Fail> {
+    compare::<Tropical>(&rt, rt.alloc(), &[23, 80, 0, 0])
 }
 
-/// How many triples each machine of an arc type has.
-fn sizes<W: Weight>(rt: &impl Abort, alloc: Global) -> Result<Vec<usize>, Fail> {
-    let mut sizes = Vec::new(alloc);
-    for fst in &machines::<W>(rt, alloc)? {
-        let triples = relation(alloc, fst)?;
-        sizes.push(triples.len())?;
-    }
-    Ok(sizes)
-}
-
-/// The numbers were counted by a program of another language, which follows arcs as the definition says.
 #[test]
-fn has_machines_with_triples(rt: HostRuntime) -> Result<(), Fail> {
-    assert_eq!(rt;
-        sizes::<Boolean>(&rt, rt.alloc())?.as_slice(),
-        [23, 58, 0, 0].as_slice()
-    );
-    assert_eq!(rt;
-        sizes::<Tropical>(&rt, rt.alloc())?.as_slice(),
-        [23, 80, 0, 0].as_slice()
-    );
-    assert_eq!(rt;
-        sizes::<MinMax>(&rt, rt.alloc())?.as_slice(),
-        [23, 74, 0, 0].as_slice()
-    );
-    assert_eq!(rt;
-        sizes::<Lexicographic>(&rt, rt.alloc())?.as_slice(),
-        [23, 80, 0, 0].as_slice()
-    );
-    Ok(())
+fn compares_minmax_machines(rt: HostRuntime) -> Result<(), Fail> {
+    compare::<MinMax>(&rt, rt.alloc(), &[23, 74, 0, 0])
+}
+
+#[test]
+fn compares_lexicographic_machines(rt: HostRuntime) -> Result<(), Fail> {
+    compare::<Lexicographic>(&rt, rt.alloc(), &[23, 80, 0, 0])
 }

@@ -1,7 +1,7 @@
-//! The machines of the tests, for each arc type.
+//! Machines from texts, and the machines of the comparisons, for each arc type.
 
-use fst_machine::{Fst, GrowFault};
-use fst_semiring::{ArcType, Weight};
+use fst_machine::{Fst, FstArc, GrowFault};
+use fst_semiring::{ArcType, Tropical, Weight};
 use fst_text::{TextOptions, compile};
 use std::alloc::Global;
 use std::process::Abort;
@@ -33,8 +33,8 @@ fn texts(kind: ArcType) -> (&'static [u8], &'static [u8]) {
     }
 }
 
-/// The machine of a text.
-fn machine<W: Weight>(alloc: Global, text: &[u8]) -> Result<Fst<W>, Fail> {
+/// The machine of a text, with the numbers of its states; the first line begins with the start.
+pub(crate) fn machine<W: Weight>(alloc: Global, text: &[u8]) -> Result<Fst<W>, Fail> {
     let options = TextOptions {
         acceptor: false,
         keep_state_numbering: true,
@@ -65,8 +65,60 @@ fn copy_state<W: Weight>(
     Ok(())
 }
 
+/// A machine with so many states, each but the last with an arc to the next where `linked` is set.
+pub(crate) fn chain(
+    rt: &impl Abort,
+    alloc: Global,
+    states: u32,
+    linked: bool,
+) -> Result<Fst<Tropical>, GrowFault> {
+    let mut fst: Fst<Tropical> = Fst::new(alloc);
+    for _ in 0..states {
+        fst.add_state()?;
+    }
+    let arcs = if linked { states } else { 0 };
+    for next in 1..arcs {
+        let count = fst.states();
+        assert!(rt; next < count);
+        let arc = FstArc {
+            ilabel: 1,
+            olabel: 1,
+            weight: Tropical::one(),
+            next,
+        };
+        fst.add_arc(next - 1, arc)?;
+    }
+    Ok(fst)
+}
+
+/// Asks that two machines have the same start, states, final weights and arcs, in the same order.
+pub(crate) fn same<W: Weight>(rt: &impl Abort, a: &Fst<W>, b: &Fst<W>) {
+    assert_eq!(rt; a.start(), b.start());
+    assert!(rt; a.states() == b.states());
+    for state in 0..a.states() {
+        let states = b.states();
+        assert!(rt; state < states);
+        assert!(rt;
+            a.final_weight(state) == b.final_weight(state),
+            "state {state}"
+        );
+        assert!(rt; a.arcs(state) == b.arcs(state), "state {state}");
+    }
+}
+
+/// Asks that a machine is that of a text.
+pub(crate) fn is_text<W: Weight>(
+    rt: &impl Abort,
+    alloc: Global,
+    fst: &Fst<W>,
+    text: &[u8],
+) -> Result<(), Fail> {
+    same(rt, fst, &machine(alloc, text)?);
+    Ok(())
+}
+
 /// The same machine without its start.
-fn without_start<W: Weight>(
+pub(crate) fn without_start<W: Weight>(
     rt: &impl Abort,
     alloc: Global,
     fst: &Fst<W>,

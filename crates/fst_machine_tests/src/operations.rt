@@ -1,15 +1,16 @@
-//! The operations that make one triple of each, and by definition what they make of it.
+//! The operations on one machine, and by definition what they make of a relation.
 
+use crate::products::closed;
 use crate::relation::{Triple, add_arcs, put};
 use fst_machine::Fst;
-use fst_rational::{invert, project, read_pairs, relabel, reverse};
-use fst_semiring::Weight;
+use fst_rational::{closure, invert, project, read_pairs, relabel, reverse};
+use fst_semiring::{ArcType, Weight};
 use fst_trim::{Side, arcsort, connect};
 use std::alloc::{AllocError, Global};
 use std::process::Abort;
 use std::test::Fail;
 
-/// An operation of one machine that makes one triple of each.
+/// An operation of one machine.
 #[derive(Clone, Copy, Debug)]
 pub(crate) enum Change {
     Reverse,
@@ -20,6 +21,8 @@ pub(crate) enum Change {
     SortInput,
     SortOutput,
     Connect,
+    Star,
+    Plus,
 }
 
 /// Old input labels, each with its new label.
@@ -51,6 +54,8 @@ pub(crate) fn apply<W: Weight>(
         Change::SortInput => arcsort(alloc, fst, Side::Input)?,
         Change::SortOutput => arcsort(alloc, fst, Side::Output)?,
         Change::Connect => connect(alloc, fst)?,
+        Change::Star => closure(alloc, fst, false)?,
+        Change::Plus => closure(alloc, fst, true)?,
     };
     Ok(made)
 }
@@ -93,7 +98,7 @@ fn replaced(alloc: Global, pairs: &[(u32, u32)], text: &[u32]) -> Result<Vec<u32
     Ok(news)
 }
 
-/// The strings of the triple that the operation makes of one with these strings.
+/// The strings of the triple that the operation makes of one with these strings. Sorting and connecting keep them.
 fn changed_pair(
     alloc: Global,
     change: Change,
@@ -109,9 +114,7 @@ fn changed_pair(
             replaced(alloc, INPUT_PAIRS, input)?,
             replaced(alloc, OUTPUT_PAIRS, output)?,
         ),
-        Change::SortInput | Change::SortOutput | Change::Connect => {
-            (copied(alloc, input)?, copied(alloc, output)?)
-        }
+        _ => (copied(alloc, input)?, copied(alloc, output)?),
     };
     Ok(pair)
 }
@@ -125,8 +128,8 @@ fn more_arcs(change: Change) -> usize {
     }
 }
 
-/// The triples that the operation makes of these.
-pub(crate) fn changed(
+/// The triples that the operation makes of these, one of each.
+fn each_changed(
     rt: &impl Abort,
     alloc: Global,
     change: Change,
@@ -151,4 +154,19 @@ pub(crate) fn changed(
         )?;
     }
     Ok(news)
+}
+
+/// The triples that the operation makes of these.
+pub(crate) fn changed(
+    rt: &impl Abort,
+    alloc: Global,
+    kind: ArcType,
+    change: Change,
+    triples: &[Triple],
+) -> Result<Vec<Triple>, AllocError> {
+    match change {
+        Change::Star => closed(rt, alloc, kind, false, triples),
+        Change::Plus => closed(rt, alloc, kind, true, triples),
+        _ => each_changed(rt, alloc, change, triples),
+    }
 }

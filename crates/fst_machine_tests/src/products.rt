@@ -5,7 +5,7 @@ use fst_semiring::ArcType;
 use std::alloc::{AllocError, Global};
 use std::process::Abort;
 
-/// Two strings, one behind the other.
+/// Two strings, one after the other.
 fn joined(alloc: Global, front: &[u32], back: &[u32]) -> Result<Vec<u32>, AllocError> {
     let mut text = Vec::new(alloc);
     text.extend_from_slice(front)?;
@@ -30,39 +30,71 @@ fn product(
     })
 }
 
-/// Puts the products of a triple and each of others behind a list.
-fn put_products(
+/// How two triples make one.
+#[derive(Clone, Copy)]
+enum Pairing {
+    /// One after the other, where paths of products have so many arcs more.
+    Product(usize),
+    /// The first through the second, where they match.
+    Composition,
+}
+
+/// The triple that two triples make, if they make one.
+fn paired(
     rt: &impl Abort,
     alloc: Global,
     kind: ArcType,
-    more: usize,
+    pairing: Pairing,
+    a: &Triple,
+    b: &Triple,
+) -> Result<Option<Triple>, AllocError> {
+    match pairing {
+        Pairing::Product(more) => Ok(Some(product(rt, alloc, kind, more, a, b)?)),
+        Pairing::Composition if matches(a, b) => Ok(Some(Triple {
+            arcs: shared_arcs(rt, a, b),
+            input: joined(alloc, a.input.as_slice(), &[])?,
+            output: joined(alloc, b.output.as_slice(), &[])?,
+            weight: times(rt, kind, a.weight, b.weight),
+        })),
+        Pairing::Composition => Ok(None),
+    }
+}
+
+/// Puts what a triple makes with each of others after a list.
+fn put_row(
+    rt: &impl Abort,
+    alloc: Global,
+    kind: ArcType,
+    pairing: Pairing,
     a: &Triple,
     others: &[Triple],
     list: &mut Vec<Triple>,
 ) -> Result<(), AllocError> {
     for b in others {
-        put(list, product(rt, alloc, kind, more, a, b)?)?;
+        if let Some(triple) = paired(rt, alloc, kind, pairing, a, b)? {
+            put(list, triple)?;
+        }
     }
     Ok(())
 }
 
-/// The products of the triples of both, where paths of products have so many arcs more.
-fn products(
+/// What the triples of both make.
+fn pairs(
     rt: &impl Abort,
     alloc: Global,
     kind: ArcType,
-    more: usize,
+    pairing: Pairing,
     a: &[Triple],
     b: &[Triple],
 ) -> Result<Vec<Triple>, AllocError> {
     let mut list = Vec::new(alloc);
     for triple in a {
-        put_products(rt, alloc, kind, more, triple, b, &mut list)?;
+        put_row(rt, alloc, kind, pairing, triple, b, &mut list)?;
     }
     Ok(list)
 }
 
-/// Puts copies of triples, whose paths have so many arcs more, behind a list.
+/// Puts copies of triples, whose paths have so many arcs more, after a list.
 fn put_all(
     rt: &impl Abort,
     alloc: Global,
@@ -103,30 +135,7 @@ pub(crate) fn concatenated(
     a: &[Triple],
     b: &[Triple],
 ) -> Result<Vec<Triple>, AllocError> {
-    products(rt, alloc, kind, 1, a, b)
-}
-
-/// Puts the triples that a triple has with each of others that it matches behind a list.
-fn put_matches(
-    rt: &impl Abort,
-    alloc: Global,
-    kind: ArcType,
-    a: &Triple,
-    others: &[Triple],
-    list: &mut Vec<Triple>,
-) -> Result<(), AllocError> {
-    for b in others {
-        if matches(a, b) {
-            let triple = Triple {
-                arcs: shared_arcs(rt, a, b),
-                input: joined(alloc, a.input.as_slice(), &[])?,
-                output: joined(alloc, b.output.as_slice(), &[])?,
-                weight: times(rt, kind, a.weight, b.weight),
-            };
-            put(list, triple)?;
-        }
-    }
-    Ok(())
+    pairs(rt, alloc, kind, Pairing::Product(1), a, b)
 }
 
 /// The composition: the input of a triple of the first, and the output of one of the second that reads what the first
@@ -138,11 +147,7 @@ pub(crate) fn composed(
     a: &[Triple],
     b: &[Triple],
 ) -> Result<Vec<Triple>, AllocError> {
-    let mut list = Vec::new(alloc);
-    for triple in a {
-        put_matches(rt, alloc, kind, triple, b, &mut list)?;
-    }
-    Ok(list)
+    pairs(rt, alloc, kind, Pairing::Composition, a, b)
 }
 
 /// How many of these paths match a path, so that both make a path of at most `ARCS` arcs.
@@ -190,7 +195,7 @@ fn first_round(
 
 /// The closure: the products of lists of triples, for plus of lists that are not empty. For star each triple of a
 /// list takes an epsilon arc from the new start and one back to it; for plus each but the first takes one back to
-/// the start. So no list with paths of at most `ARCS` arcs has more than `ARCS` triples behind its first, and
+/// the start. So no list with paths of at most `ARCS` arcs has more than `ARCS` triples after its first, and
 /// as many rounds make all of them.
 pub(crate) fn closed(
     rt: &impl Abort,
@@ -199,11 +204,11 @@ pub(crate) fn closed(
     plus: bool,
     triples: &[Triple],
 ) -> Result<Vec<Triple>, AllocError> {
-    let more = if plus { 1 } else { 2 };
+    let pairing = Pairing::Product(if plus { 1 } else { 2 });
     let mut round = first_round(rt, alloc, kind, plus, triples)?;
     let mut list = first_round(rt, alloc, kind, plus, triples)?;
     for _ in 0..ARCS {
-        round = products(rt, alloc, kind, more, round.as_slice(), triples)?;
+        round = pairs(rt, alloc, kind, pairing, round.as_slice(), triples)?;
         put_all(rt, alloc, 0, round.as_slice(), &mut list)?;
     }
     Ok(list)

@@ -25,7 +25,7 @@ pub(crate) struct Triple {
     pub(crate) weight: PlainCost,
 }
 
-/// Puts a label, unless it is epsilon, behind a string.
+/// Puts a label, unless it is epsilon, after a string.
 fn put_label(text: &mut Vec<u32>, label: u32) -> Result<(), AllocError> {
     if label != 0 {
         text.push(label)?;
@@ -64,7 +64,7 @@ fn is_among(triples: &[Triple], triple: &Triple) -> bool {
     triples.iter().any(|other| same_triple(other, triple))
 }
 
-/// Puts a triple behind others, if its path has at most `ARCS` arcs and they have none with its strings, weight
+/// Puts a triple after others, if its path has at most `ARCS` arcs and they have none with its strings, weight
 /// and number of arcs.
 pub(crate) fn put(triples: &mut Vec<Triple>, triple: Triple) -> Result<(), AllocError> {
     let is_long = triple.arcs > ARCS as usize;

@@ -17,6 +17,3 @@ pub use listing::successful_paths;
 pub use pair::pair_weight;
 pub use path::{PlainPath, PlainTransition};
 pub use scan::breadth_first;
-
-#[cfg(test)]
-mod tests;

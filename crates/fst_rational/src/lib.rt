@@ -23,6 +23,3 @@ pub use pairs::{Pairs, PairsFault, read_pairs};
 pub use reversal::reverse;
 pub use size::entries;
 pub use unite::union;
-
-#[cfg(test)]
-mod tests;

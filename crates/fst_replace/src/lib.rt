@@ -16,6 +16,3 @@ mod totals;
 pub use fault::{AddFault, ReplaceFault};
 pub use replacing::replace;
 pub use rule::{Rule, Rules};
-
-#[cfg(test)]
-mod tests;

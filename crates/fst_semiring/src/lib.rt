@@ -30,8 +30,3 @@ pub use number::LIMIT;
 pub use text_laws::printed_weight_reads_again;
 pub use tropical::{Tropical, WideTropical};
 pub use weight::{BadWeight, Weight, is_zero};
-
-#[cfg(test)]
-mod arithmetic_tests;
-#[cfg(test)]
-mod tests;

@@ -12,6 +12,3 @@ mod table;
 
 pub use fault::SymbolsFault;
 pub use table::SymbolTable;
-
-#[cfg(test)]
-mod tests;

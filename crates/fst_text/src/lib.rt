@@ -18,6 +18,3 @@ pub use fault::{PrintFault, TextFault};
 pub use laws::printed_machine_compiles_back;
 pub use options::TextOptions;
 pub use printing::print;
-
-#[cfg(test)]
-mod tests;

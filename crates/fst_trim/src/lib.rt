@@ -28,6 +28,3 @@ pub use side::Side;
 pub use sorted::is_sorted;
 pub use sorting::arcsort;
 pub use summary::Info;
-
-#[cfg(test)]
-mod tests;

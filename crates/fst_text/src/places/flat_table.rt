@@ -187,6 +187,3 @@ impl FlatTable {
         Ok(())
     }
 }
-
-#[cfg(test)]
-mod tests;

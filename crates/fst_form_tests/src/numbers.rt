@@ -1,6 +1,9 @@
-//! Fields written out by hand, and their faults.
+//! Fields of the binary forms, and their faults.
 
-use super::*;
+use fst_bytes::{
+    FileFault, Stopped, expect_end, expect_word, most_that_fit, push_arc_type, read_arc_type,
+    read_count, read_label, read_long, read_non_zero_weight, read_weight, read_word,
+};
 use fst_semiring::{ArcType, MinMax, Tropical, Weight};
 
 /// The kinds of fault of a form.
