@@ -153,7 +153,7 @@ module _ {V : Type 0} (value : V → Cost) (kind : ArcType) (a b : Machine V) (s
   abbrev head : State Cost
   head = union_start kind (valued value a) (valued value b)
 
-  -- the places behind the first operand
+  -- where the states after those of the first operand stand
   places : {k : ℕ} → k ≡ length a.states → k + 1 ≡ length (valued value a).states + 1
   places {k} count = omega (arith, count, length-map a.states (valued_state value))
 

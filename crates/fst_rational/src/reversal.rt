@@ -153,7 +153,7 @@ fn gather<W: Weight>(
     Ok(states)
 }
 
-/// The states of a reversal, each with a list of its own for its arcs; so many have room.
+/// The states of a reversal, each with a list of its own for its arcs. Room is taken for `states` of them.
 fn turn<W: Weight>(alloc: Global, a: &Fst<W>, states: u32) -> Result<Vec<Turned<W>>, AllocError>
     ensures { IfOk result (λ turned. map (valued_state W.value) turned.items ≡ (reverse_of W.KIND (valued W.value a.now)).states) }
 {
