@@ -24,3 +24,8 @@ abbrev pub row_of : List (List ℕ) → Option (Option (List ℕ × List ℕ))
 row_of [] = Some None
 row_of (first ∷ second ∷ []) = Some (Some (first, second))
 row_of _ = None
+
+-- what was read before, and the row of a line, if it has one, taken in by add
+abbrev pub with_row : {S R E : Type 0} → (S → R → Result S E) → S → Option R → Result S E
+with_row add before None = Ok before
+with_row add before (Some row) = add before row

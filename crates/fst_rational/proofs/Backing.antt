@@ -4,7 +4,7 @@ use Rattle.std.specs.List.{All, range_with_len}
 use Rattle.std.specs.Option.{option_map}
 use Rattle.std.proofs.lemmas.Bool.{cases_eq}
 use Rattle.std.proofs.lemmas.Bool.Decides.{nat_tests}
-use Rattle.std.proofs.lemmas.List.{ext_get_or, get_or-append-add, length-append, map-append}
+use Rattle.std.proofs.lemmas.List.{ext_get_or, get_or-append-add, length-append, length-map, map-append}
 use Rattle.std.proofs.lemmas.List.Elements.{All-append, All-cons, All-head, All-map, All-nil, All-tail}
 use Rattle.std.proofs.lemmas.List.FromFn.{get_or-map-range_with_len, length-map-range_with_len}
 use Rattle.std.proofs.lemmas.List.Sums.{sum_by-cons}
@@ -17,6 +17,7 @@ use Rattle.fst_machine.specs.Graph.{no_state}
 use Rattle.fst_machine.specs.Continuing.{leaving}
 use Rattle.fst_rational.specs.Changing.{goings, onward}
 use Rattle.fst_rational.specs.Backing.{back, put_all, put_back, turned_bare}
+use Rattle.fst_rational.specs.Limits.{IsSmall}
 use Rattle.fst_rational.proofs.Blocks.{onward-good}
 use Rattle.fst_rational.proofs.Putting.{head_put}
 use Rattle.fst_rational.proofs.Reversing.{turned_at}
@@ -190,6 +191,9 @@ module _ (kind : ArcType) (a : Machine Cost) (good : IsMachine (λ v. v) a) wher
       let own : map (valued_arc value) finals ≡ head.arcs = enters ∙ ap (λ (zs : List (Arc V ℕ)). map (valued_arc value) zs ++ final_arcs 1 a.states) clear in
       more ∙ ap₂ (λ (ss : List (State Cost)) (k : ℕ). ss ++ map (turned_bare kind a) (range_with_len 0 k)) (head_put value head none first z finals finals empty last refl own put) count
 
+  pub base_count : {V : Type 0} (value : V → Cost) (made : List (State V)) → map (valued_state value) made ≡ base → length made ≡ length a.states + 1
+  base_count value made are = omega (arith, length-map made (valued_state value), ap length are, length-base)
+
   -- all arcs put back make the reversal
   pub put_all-reverse : put_all 1 a.states base ≡ (reverse_of kind a).states
   put_all-reverse = ext_get_or no_state (put_all 1 a.states base) (reverse_of kind a).states (length-put_all 1 a.states base ∙ (length-base ∙ sym length-reverse)) by_index
@@ -224,8 +228,8 @@ module _ (kind : ArcType) (a : Machine Cost) (good : IsMachine (λ v. v) a) wher
       omega (arith, all, same, arc_total-base)
 
   -- it is a machine
-  pub IsMachine-reverse : length (reverse_of kind a).states ≤ most_states → arc_total (reverse_of kind a).states ≤ most_arcs → IsMachine (λ v. v) (reverse_of kind a)
-  IsMachine-reverse few_states few_arcs =
+  pub IsMachine-reverse : IsSmall (reverse_of kind a) → IsMachine (λ v. v) (reverse_of kind a)
+  IsMachine-reverse small =
       let n = length (reverse_of kind a).states in
       let Good : State Cost → Type 0 = λ s. All (IsArc (λ v. v) n) s.arcs in
       record {
@@ -233,8 +237,8 @@ module _ (kind : ArcType) (a : Machine Cost) (good : IsMachine (λ v. v) a) wher
         arcs = All-cons Good (record { final = infinite; arcs = final_arcs 1 a.states }) (map (turned_state kind a) (range_with_len 0 (length a.states)))
             (finals-good n 1 a.states (omega (arith, length-reverse)))
             (All-map Good (turned_state kind a) (range_with_len 0 (length a.states)) (λ i d low. turned_arcs-good n (get_or (range_with_len 0 (length a.states)) i d) 1 (length a.states) a.states (omega (arith, length-reverse)) good.arcs));
-        few_states = few_states;
-        few_arcs = few_arcs;
+        few_states = small.states;
+        few_arcs = small.arcs;
       }
 
   -- the size, as it is computed

@@ -1,5 +1,5 @@
 -- What star and plus relate, and that they are machines.
-use Rattle.std.proofs.Common.{◌≡◌, ◌⊎◌, ◌↔◌, inl, inr, ℕ, ◌+◌, ◌<◌, ◌≤◌, zero, suc, Bool, true, false, List, [], ◌∷◌, ◌++◌, Option, Some, length, map, slice_get, refl, sym, ap, subst, ◌∙◌, append-nil, arith}
+use Rattle.std.proofs.Common.{◌≡◌, ◌⊎◌, ◌↔◌, inl, inr, ℕ, ◌+◌, ◌<◌, ◌≤◌, zero, suc, Bool, true, false, List, [], ◌∷◌, ◌++◌, Option, Some, length, map, slice_get, refl, sym, ap, ap₂, subst, ◌∙◌, append-nil, arith}
 use Rattle.std.specs.Prelude.{IfSome}
 use Rattle.std.specs.List.{All}
 use Rattle.std.proofs.lemmas.Option.{IfSome_then}
@@ -10,7 +10,7 @@ use Rattle.fst_semiring.specs.Cost.{Cost, infinite}
 use Rattle.fst_semiring.specs.declared.arc_type.ArcType.{ArcType}
 use Rattle.fst_semiring.specs.Semiring.{one_of, times}
 use Rattle.fst_semiring.proofs.Laws.{one_times, times_one}
-use Rattle.fst_machine.specs.Machine.{Arc, State, Machine, IsArc, IsMachine, arc_total, most_arcs, most_states, valued, valued_state}
+use Rattle.fst_machine.specs.Machine.{Arc, State, Machine, IsArc, IsMachine, arc_total, most_arcs, most_states, valued, valued_arc, valued_state}
 use Rattle.fst_machine.specs.Graph.{Graph, graph_of}
 use Rattle.fst_machine.specs.Letters.{before, input, output, product}
 use Rattle.fst_machine.specs.Paths.{Transition, IsPath, letters}
@@ -18,12 +18,13 @@ use Rattle.fst_machine.specs.Relation.{Rel, RelFrom}
 use Rattle.fst_machine.specs.Continuing.{Continues, Stays, epsilon_arc}
 use Rattle.fst_machine.proofs.Futures.{RelFrom-end, RelFrom-epsilon}
 use Rattle.fst_rational.specs.Changing.{goings}
-use Rattle.fst_rational.specs.Constructions.{carried, closure_of, entry, plus_of, star_of}
-use Rattle.fst_rational.specs.Limits.{start_count}
+use Rattle.fst_rational.specs.Constructions.{carried, closure_of, entry, plus_of, star_of, star_start}
+use Rattle.fst_rational.specs.Limits.{IsSize, IsSmall, start_count}
 use Rattle.fst_rational.specs.Relations.{Closes, IsFilled, IsProductOf, Said, Triple}
 use Rattle.fst_machine.proofs.Valued.{arc_total-valued}
 use Rattle.fst_rational.proofs.Blocks.{Inside, arc_total-carried, block_continues, block_final, carried-good, start_inside}
 use Rattle.fst_rational.proofs.Continued.{Splits, continue_says, continue_splits, stays_said, stays_says}
+use Rattle.fst_rational.proofs.Putting.{head_put, head_room, next_room}
 use Rattle.fst_rational.proofs.Uniting.{entry-good, entry_count, entry_low, entry_only, one_not_zero}
 
 -- what a name says, at other strings and another weight
@@ -168,8 +169,8 @@ star_arcs kind a =
     let all = sum_by-cons (λ (t : State Cost). length t.arcs) (record { final = one_of kind; arcs = entry kind 1 a.start }) (map (carried 1 false (Some 0)) a.states) in
     omega (arith, all, entry_count kind 1 a.start, arc_total-carried 1 false (Some 0) a.states)
 
-pub IsMachine-star : (kind : ArcType) (a : Machine Cost) → IsMachine (λ v. v) a → length (star_of kind a).states ≤ most_states → arc_total (star_of kind a).states ≤ most_arcs → IsMachine (λ v. v) (star_of kind a)
-IsMachine-star kind a good few_states few_arcs =
+pub IsMachine-star : (kind : ArcType) (a : Machine Cost) → IsMachine (λ v. v) a → IsSmall (star_of kind a) → IsMachine (λ v. v) (star_of kind a)
+IsMachine-star kind a good small =
     let n = length (star_of kind a).states in
     let count = star_states kind a in
     record {
@@ -177,38 +178,83 @@ IsMachine-star kind a good few_states few_arcs =
       arcs = All-cons (λ s. All (IsArc (λ v. v) n) s.arcs) (record { final = one_of kind; arcs = entry kind 1 a.start }) (map (carried 1 false (Some 0)) a.states)
           (entry-good kind 1 n a.start (entry_low a 1 n good (omega (arith, count))))
           (carried-good a 1 false (Some 0) n good (omega (arith, count)) (omega (arith, count)));
-      few_states = few_states;
-      few_arcs = few_arcs;
+      few_states = small.states;
+      few_arcs = small.arcs;
     }
 
-pub IsMachine-plus : (a : Machine Cost) → IsMachine (λ v. v) a → length (plus_of a).states ≤ most_states → arc_total (plus_of a).states ≤ most_arcs → IsMachine (λ v. v) (plus_of a)
-IsMachine-plus a good few_states few_arcs =
+pub IsMachine-plus : (a : Machine Cost) → IsMachine (λ v. v) a → IsSmall (plus_of a) → IsMachine (λ v. v) (plus_of a)
+IsMachine-plus a good small =
     let n = length (plus_of a).states in
     let count : length (plus_of a).states ≡ length a.states = length-map a.states (carried 0 true a.start) in
     let low : IfSome a.start (λ s. s < n) = IfSome_then a.start {P = λ s. s < length a.states} {Q = λ s. s < n} good.start (λ s inside. omega (arith, inside, count)) in
     record {
       start = low;
       arcs = carried-good a 0 true a.start n good (omega (arith, count)) low;
-      few_states = few_states;
-      few_arcs = few_arcs;
+      few_states = small.states;
+      few_arcs = small.arcs;
     }
+
+-- ---- as they are made
+
+module _ {V : Type 0} (value : V → Cost) (kind : ArcType) (a : Machine V) (small : IsSmall (star_of kind (valued value a))) where
+  abbrev made : Machine Cost
+  made = star_of kind (valued value a)
+
+  abbrev head : State Cost
+  head = star_start kind (valued value a)
+
+  abbrev round : List (State Cost)
+  round = map (carried 1 false (Some 0)) (map (valued_state value) a.states)
+
+  -- the new start is put, with its arcs
+  module _ {own one arcs : List (Arc V ℕ)} {s : Option ℕ} {old : List (State V)} (clear : own ≡ []) (begins : s ≡ a.start) (put : map (valued_arc value) one ≡ map (valued_arc value) own ++ entry kind 1 s) (empty : old ≡ []) (same : arcs ≡ one) where
+    entries : map (valued_arc value) one ≡ head.arcs
+    entries = put ∙ ap₂ (λ (os : List (Arc V ℕ)) (o : Option ℕ). map (valued_arc value) os ++ entry kind 1 o) clear begins
+
+    pub star_start_room : arc_total old + length arcs ≤ most_arcs
+    star_start_room = head_room value head round made.states old one arcs empty same entries refl small.arcs
+
+    pub star_start_put : {z : V} {new : List (State V)} → value z ≡ one_of kind → new ≡ old ++ record { final = z; arcs = arcs } ∷ [] → map (valued_state value) new ≡ head ∷ []
+    star_start_put {z} {new} last next = head_put value head old new z one arcs empty last same entries next
+
+  -- and the states of the operand after it
+  module _ (one : List (State V)) (first : map (valued_state value) one ≡ head ∷ []) where
+    pub star_room : arc_total one + arc_total round ≤ most_arcs
+    star_room = next_room value (head ∷ []) round [] made.states one first (ap (λ ss. head ∷ ss) (sym (append-nil round))) small.arcs
+
+    pub star_made : (all : List (State V)) → map (valued_state value) all ≡ map (valued_state value) one ++ round → map (valued_state value) all ≡ made.states
+    star_made all second = second ∙ ap (λ ss. ss ++ round) first
+
+-- the states of the operand of a plus are put
+module _ {V : Type 0} (value : V → Cost) (a : Machine V) (small : IsSmall (plus_of (valued value a))) {start : Option ℕ} {none : List (State V)} (begins : start ≡ a.start) (empty : none ≡ []) where
+  abbrev all_round : List (State Cost)
+  all_round = map (carried 0 true start) (map (valued_state value) a.states)
+
+  all_parts : (plus_of (valued value a)).states ≡ all_round
+  all_parts = ap (λ (o : Option ℕ). map (carried 0 true o) (map (valued_state value) a.states)) (sym begins)
+
+  pub plus_room : arc_total none + arc_total all_round ≤ most_arcs
+  plus_room = next_room value [] all_round [] (plus_of (valued value a)).states none (ap (map (valued_state value)) empty) (all_parts ∙ sym (append-nil all_round)) small.arcs
+
+  pub plus_made : (all : List (State V)) → map (valued_state value) all ≡ map (valued_state value) none ++ all_round → map (valued_state value) all ≡ (plus_of (valued value a)).states
+  plus_made all put = put ∙ (ap (λ (ss : List (State V)). map (valued_state value) ss ++ all_round) empty ∙ sym all_parts)
 
 -- the sizes, as they are computed
 pub star_counted : {V : Type 0} (value : V → Cost) (kind : ArcType) (a : Machine V) (states arcs one more on first : ℕ) → one ≡ length a.states → more ≡ arc_total a.states → on ≡ goings (Some 0) (map (valued_state value) a.states) → first ≡ start_count a.start → states ≡ one + 1 → arcs ≡ more + on + first
-    → (states ≡ length (star_of kind (valued value a)).states) × (arcs ≡ arc_total (star_of kind (valued value a)).states)
+    → IsSize (star_of kind (valued value a)) (states, arcs)
 star_counted value kind a states arcs one more on first ones mores ons firsts is are =
     let n = star_states kind (valued value a) in
     let m = star_arcs kind (valued value a) in
     let x = length-map a.states (valued_state value) in
     let p = arc_total-valued value a.states in
-    (omega (arith, n, x, ones, is), omega (arith, m, p, mores, ons, firsts, are))
+    record { states = omega (arith, n, x, ones, is); arcs = omega (arith, m, p, mores, ons, firsts, are) }
 
 pub plus_counted : {V : Type 0} (value : V → Cost) (a : Machine V) (states arcs more on : ℕ) (start : Option ℕ) → states ≡ length a.states → more ≡ arc_total a.states → start ≡ a.start → on ≡ goings start (map (valued_state value) a.states) → arcs ≡ more + on
-    → (states ≡ length (plus_of (valued value a)).states) × (arcs ≡ arc_total (plus_of (valued value a)).states)
+    → IsSize (plus_of (valued value a)) (states, arcs)
 plus_counted value a states arcs more on start is mores starts ons are =
     let x = length-map a.states (valued_state value) in
     let y = length-map (map (valued_state value) a.states) (carried 0 true a.start) in
     let p = arc_total-valued value a.states in
     let m = arc_total-carried 0 true a.start (map (valued_state value) a.states) in
     let goes : on ≡ goings a.start (map (valued_state value) a.states) = ons ∙ ap (λ (o : Option ℕ). goings o (map (valued_state value) a.states)) starts in
-    (omega (arith, x, y, is), omega (arith, m, p, mores, goes, are))
+    record { states = omega (arith, x, y, is); arcs = omega (arith, m, p, mores, goes, are) }

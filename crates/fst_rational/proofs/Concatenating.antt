@@ -1,5 +1,5 @@
 -- What a concatenation relates, and that it is a machine.
-use Rattle.std.proofs.Common.{◌≡◌, ◌⊎◌, inl, inr, ℕ, ◌+◌, ◌<◌, ◌≤◌, true, false, [], ◌++◌, Option, None, Some, length, map, refl, sym, ap, ap₂, subst, ◌∙◌, append-nil, arith}
+use Rattle.std.proofs.Common.{◌≡◌, ◌⊎◌, inl, inr, ℕ, ◌+◌, ◌<◌, ◌≤◌, true, false, List, [], ◌++◌, Option, None, Some, length, map, refl, sym, ap, ap₂, subst, ◌∙◌, append-nil, arith}
 use Rattle.std.specs.Prelude.{IfSome}
 use Rattle.std.specs.List.{All}
 use Rattle.std.specs.Option.{option_map}
@@ -18,9 +18,11 @@ use Rattle.fst_machine.specs.Continuing.{Stays}
 use Rattle.fst_machine.proofs.Renaming.{renamed-RelFrom}
 use Rattle.fst_rational.specs.Changing.{goings, onward}
 use Rattle.fst_rational.specs.Constructions.{carried, concat_of}
+use Rattle.fst_rational.specs.Limits.{IsSize, IsSmall}
 use Rattle.fst_rational.specs.Relations.{Concatenates, IsProduct, Triple}
 use Rattle.fst_machine.proofs.Valued.{arc_total-valued}
 use Rattle.fst_rational.proofs.Blocks.{Inside, arc_total-carried, block_arcs, block_continues, block_final, block_renames, carried-good, goings-none, next_inside, start_inside}
+use Rattle.fst_rational.proofs.Putting.{next_room}
 use Rattle.fst_rational.proofs.Continued.{Splits, continue_says, continue_splits}
 
 module _ (kind : ArcType) (a b : Machine Cost) (good : IsMachine (λ v. v) a) (fine : IsMachine (λ v. v) b) where
@@ -124,8 +126,8 @@ target_low k n b fine room = by_start b.start fine.start
     by_start None low = tt
     by_start (Some s) low = omega (arith, low, room)
 
-pub IsMachine-concat : (a b : Machine Cost) → IsMachine (λ v. v) a → IsMachine (λ v. v) b → length (concat_of a b).states ≤ most_states → arc_total (concat_of a b).states ≤ most_arcs → IsMachine (λ v. v) (concat_of a b)
-IsMachine-concat a b good fine few_states few_arcs =
+pub IsMachine-concat : (a b : Machine Cost) → IsMachine (λ v. v) a → IsMachine (λ v. v) b → IsSmall (concat_of a b) → IsMachine (λ v. v) (concat_of a b)
+IsMachine-concat a b good fine small =
     let n = length (concat_of a b).states in
     let count = concat_states a b in
     let k = length a.states in
@@ -134,17 +136,46 @@ IsMachine-concat a b good fine few_states few_arcs =
       start = IfSome_then a.start {P = λ s. s < k} {Q = λ s. s < n} good.start (λ s low. omega (arith, low, count));
       arcs = All-append (λ s. All (IsArc (λ v. v) n) s.arcs) (map (carried 0 false target) a.states) (map (carried k true None) b.states)
           (carried-good a 0 false target n good (omega (arith, count)) (target_low k n b fine (omega (arith, count)))) (carried-good b k true None n fine (omega (arith, count)) tt);
-      few_states = few_states;
-      few_arcs = few_arcs;
+      few_states = small.states;
+      few_arcs = small.arcs;
     }
 
--- the states, as they are put
-pub concat_whole : (a b : Machine Cost) (behind : ℕ) (goal : Option ℕ) → behind ≡ length a.states → goal ≡ option_map (λ s. behind + s) b.start → (concat_of a b).states ≡ map (carried 0 false goal) a.states ++ map (carried behind true None) b.states
-concat_whole a b behind goal e f = ap₂ (λ (o : Option ℕ) (j : ℕ). map (carried 0 false o) a.states ++ map (carried j true None) b.states) (ap (λ (j : ℕ). option_map (λ s. j + s) b.start) (sym e) ∙ sym f) (sym e)
+-- ---- as it is made
+
+module _ {V : Type 0} (value : V → Cost) (a b : Machine V) (small : IsSmall (concat_of (valued value a) (valued value b))) where
+  pub concat_ready : (behind : ℕ) → behind ≡ length a.states → behind ≤ most_states
+  concat_ready behind count = omega (arith, count, length-map a.states (valued_state value), concat_states (valued value a) (valued value b), small.states)
+
+  -- the states of the operands are put, from an empty list on
+  module _ {behind : ℕ} {goal start : Option ℕ} {none : List (State V)} (count : behind ≡ length a.states) (begins : start ≡ b.start) (there : goal ≡ option_map (λ s. behind + s) start) (empty : none ≡ []) where
+    abbrev fronts : List (State Cost)
+    fronts = map (carried 0 false goal) (map (valued_state value) a.states)
+
+    abbrev backs : List (State Cost)
+    backs = map (carried behind true None) (map (valued_state value) b.states)
+
+    parts : (concat_of (valued value a) (valued value b)).states ≡ fronts ++ backs
+    parts =
+        let front : behind ≡ length (map (valued_state value) a.states) = count ∙ sym (length-map a.states (valued_state value)) in
+        let leads : goal ≡ option_map (λ s. behind + s) b.start = there ∙ ap (λ (o : Option ℕ). option_map (λ s. behind + s) o) begins in
+        ap₂ (λ (o : Option ℕ) (j : ℕ). map (carried 0 false o) (map (valued_state value) a.states) ++ map (carried j true None) (map (valued_state value) b.states)) (ap (λ (j : ℕ). option_map (λ s. j + s) b.start) (sym front) ∙ sym leads) (sym front)
+
+    pub concat_first_room : arc_total none + arc_total fronts ≤ most_arcs
+    concat_first_room = next_room value [] fronts backs (concat_of (valued value a) (valued value b)).states none (ap (map (valued_state value)) empty) parts small.arcs
+
+    module _ (one : List (State V)) (first : map (valued_state value) one ≡ map (valued_state value) none ++ fronts) where
+      put : map (valued_state value) one ≡ fronts
+      put = first ∙ ap (λ (ss : List (State V)). map (valued_state value) ss ++ fronts) empty
+
+      pub concat_second_room : arc_total one + arc_total backs ≤ most_arcs
+      concat_second_room = next_room value fronts backs [] (concat_of (valued value a) (valued value b)).states one put (parts ∙ ap (λ ss. fronts ++ ss) (sym (append-nil backs))) small.arcs
+
+      pub concat_made : (all : List (State V)) → map (valued_state value) all ≡ map (valued_state value) one ++ backs → map (valued_state value) all ≡ (concat_of (valued value a) (valued value b)).states
+      concat_made all second = second ∙ (ap (λ ss. ss ++ backs) put ∙ sym parts)
 
 -- the size, as it is computed
 pub concat_counted : {V : Type 0} (value : V → Cost) (a b : Machine V) (states arcs one two more less on : ℕ) (target : Option ℕ) → one ≡ length a.states → two ≡ length b.states → more ≡ arc_total a.states → less ≡ arc_total b.states → target ≡ option_map (λ s. one + s) b.start → on ≡ goings target (map (valued_state value) a.states) → states ≡ one + two → arcs ≡ more + on + less
-    → (states ≡ length (concat_of (valued value a) (valued value b)).states) × (arcs ≡ arc_total (concat_of (valued value a) (valued value b)).states)
+    → IsSize (concat_of (valued value a) (valued value b)) (states, arcs)
 concat_counted value a b states arcs one two more less on target ones twos mores lesses there ons is are =
     let n = concat_states (valued value a) (valued value b) in
     let m = concat_arcs (valued value a) (valued value b) in
@@ -154,4 +185,4 @@ concat_counted value a b states arcs one two more less on target ones twos mores
     let q = arc_total-valued value b.states in
     let same : target ≡ option_map (λ s. length (map (valued_state value) a.states) + s) b.start = there ∙ ap (λ (j : ℕ). option_map (λ s. j + s) b.start) (ones ∙ sym x) in
     let goes : on ≡ goings (option_map (λ s. length (map (valued_state value) a.states) + s) b.start) (map (valued_state value) a.states) = ons ∙ ap (λ (o : Option ℕ). goings o (map (valued_state value) a.states)) same in
-    (omega (arith, n, x, y, ones, twos, is), omega (arith, m, p, q, mores, lesses, goes, are))
+    record { states = omega (arith, n, x, y, ones, twos, is); arcs = omega (arith, m, p, q, mores, lesses, goes, are) }

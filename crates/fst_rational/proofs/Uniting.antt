@@ -21,11 +21,11 @@ use Rattle.fst_machine.specs.Continuing.{epsilon_arc}
 use Rattle.fst_machine.proofs.Arcs.{append_at, at_append_left, at_append_right}
 use Rattle.fst_machine.proofs.Futures.{RelFrom-cases, RelFrom-epsilon}
 use Rattle.fst_machine.proofs.Renaming.{renamed-RelFrom}
-use Rattle.fst_rational.specs.Constructions.{carried, entry, union_of}
-use Rattle.fst_rational.specs.Limits.{start_count}
+use Rattle.fst_rational.specs.Constructions.{carried, entry, union_of, union_start}
+use Rattle.fst_rational.specs.Limits.{IsSize, IsSmall, start_count}
 use Rattle.fst_rational.specs.Relations.{Unites}
 use Rattle.fst_machine.proofs.Valued.{arc_total-valued}
-use Rattle.fst_rational.proofs.Putting.{head_put}
+use Rattle.fst_rational.proofs.Putting.{head_put, head_room, next_room}
 use Rattle.fst_rational.proofs.Blocks.{Inside, arc_total-carried, block_renames, carried-good, goings-none, start_inside}
 
 -- an entry leads to the start
@@ -129,8 +129,8 @@ union_arcs kind a b =
     omega (arith, all, both, own, arc_total-carried 1 true None a.states, arc_total-carried k true None b.states, goings-none a.states, goings-none b.states)
 
 -- a union that is not too big is a machine
-pub IsMachine-union : (kind : ArcType) (a b : Machine Cost) → IsMachine (λ v. v) a → IsMachine (λ v. v) b → length (union_of kind a b).states ≤ most_states → arc_total (union_of kind a b).states ≤ most_arcs → IsMachine (λ v. v) (union_of kind a b)
-IsMachine-union kind a b good fine few_states few_arcs =
+pub IsMachine-union : (kind : ArcType) (a b : Machine Cost) → IsMachine (λ v. v) a → IsMachine (λ v. v) b → IsSmall (union_of kind a b) → IsMachine (λ v. v) (union_of kind a b)
+IsMachine-union kind a b good fine small =
     let n = length (union_of kind a b).states in
     let count = union_states kind a b in
     let k = length a.states + 1 in
@@ -140,32 +140,62 @@ IsMachine-union kind a b good fine few_states few_arcs =
       arcs = All-cons Good (record { final = infinite; arcs = entry kind 1 a.start ++ entry kind k b.start }) (map (carried 1 true None) a.states ++ map (carried k true None) b.states)
           (All-append (IsArc (λ v. v) n) (entry kind 1 a.start) (entry kind k b.start) (entry-good kind 1 n a.start (entry_low a 1 n good (omega (arith, count)))) (entry-good kind k n b.start (entry_low b k n fine (omega (arith, count)))))
           (All-append Good (map (carried 1 true None) a.states) (map (carried k true None) b.states) (carried-good a 1 true None n good (omega (arith, count)) tt) (carried-good b k true None n fine (omega (arith, count)) tt));
-      few_states = few_states;
-      few_arcs = few_arcs;
+      few_states = small.states;
+      few_arcs = small.arcs;
     }
 
 -- ---- as it is made
 
-module _ {V : Type 0} (value : V → Cost) (kind : ArcType) (a b : Machine Cost) (k : ℕ) (behind : k ≡ length a.states + 1) where
-  abbrev pub head : State Cost
-  head = record { final = infinite; arcs = entry kind 1 a.start ++ entry kind k b.start }
+module _ {V : Type 0} (value : V → Cost) (kind : ArcType) (a b : Machine V) (small : IsSmall (union_of kind (valued value a) (valued value b))) where
+  abbrev union : Machine Cost
+  union = union_of kind (valued value a) (valued value b)
 
-  -- the states of the union, the new start first
-  pub union_whole : (union_of kind a b).states ≡ head ∷ (map (carried 1 true None) a.states ++ map (carried k true None) b.states)
-  union_whole = ap (λ (j : ℕ). record { final = infinite; arcs = entry kind 1 a.start ++ entry kind j b.start } ∷ (map (carried 1 true None) a.states ++ map (carried j true None) b.states)) (sym behind)
+  abbrev head : State Cost
+  head = union_start kind (valued value a) (valued value b)
 
-  -- the arcs of the new start
-  pub union_entries : (own one two : List (Arc V ℕ)) (s t : Option ℕ) → own ≡ [] → s ≡ a.start → t ≡ b.start → map (valued_arc value) one ≡ map (valued_arc value) own ++ entry kind 1 s → map (valued_arc value) two ≡ map (valued_arc value) one ++ entry kind k t → map (valued_arc value) two ≡ head.arcs
-  union_entries own one two s t none begins starts first second =
-      second ∙ ap₂ (λ os (o : Option ℕ). os ++ entry kind k o) (first ∙ ap₂ (λ (os : List (Arc V ℕ)) (o : Option ℕ). map (valued_arc value) os ++ entry kind 1 o) none begins) starts
+  -- where the states after those of the first operand stand
+  places : {k : ℕ} → k ≡ length a.states → k + 1 ≡ length (valued value a).states + 1
+  places {k} count = omega (arith, count, length-map a.states (valued_state value))
 
-  -- the new start is put
-  pub union_head : (own one two arcs : List (Arc V ℕ)) (s t : Option ℕ) (old new : List (State V)) (z : V) → own ≡ [] → s ≡ a.start → t ≡ b.start → map (valued_arc value) one ≡ map (valued_arc value) own ++ entry kind 1 s → map (valued_arc value) two ≡ map (valued_arc value) one ++ entry kind k t → old ≡ [] → value z ≡ infinite → arcs ≡ two → new ≡ old ++ record { final = z; arcs = arcs } ∷ [] → map (valued_state value) new ≡ head ∷ []
-  union_head own one two arcs s t old new z none begins starts first second empty last same put = head_put value head old new z two arcs empty last same (union_entries own one two s t none begins starts first second) put
+  pub union_ready : {k : ℕ} → k ≡ length a.states → k + 1 ≤ most_states
+  union_ready {k} count = omega (arith, places count, union_states kind (valued value a) (valued value b), small.states)
 
-  -- the states, put one after the other
-  pub union_put : (one two three : List (State Cost)) → one ≡ head ∷ [] → two ≡ one ++ map (carried 1 true None) a.states → three ≡ two ++ map (carried k true None) b.states → three ≡ (union_of kind a b).states
-  union_put one two three first second third = third ∙ (ap (λ ss. ss ++ map (carried k true None) b.states) (second ∙ ap (λ ss. ss ++ map (carried 1 true None) a.states) first) ∙ sym union_whole)
+  -- the new start is put, with its arcs
+  module _ {k : ℕ} {own two arcs : List (Arc V ℕ)} (one : List (Arc V ℕ)) {s t : Option ℕ} {old : List (State V)} (count : k ≡ length a.states) (clear : own ≡ []) (begins : s ≡ a.start) (starts : t ≡ b.start) (first : map (valued_arc value) one ≡ map (valued_arc value) own ++ entry kind 1 s) (second : map (valued_arc value) two ≡ map (valued_arc value) one ++ entry kind (k + 1) t) (empty : old ≡ []) (same : arcs ≡ two) where
+    entries : map (valued_arc value) two ≡ head.arcs
+    entries =
+        second ∙ (ap₂ (λ os (o : Option ℕ). os ++ entry kind (k + 1) o) (first ∙ ap₂ (λ (os : List (Arc V ℕ)) (o : Option ℕ). map (valued_arc value) os ++ entry kind 1 o) clear begins) starts
+        ∙ ap (λ (j : ℕ). entry kind 1 a.start ++ entry kind j b.start) (places count))
+
+    pub union_start_room : arc_total old + length arcs ≤ most_arcs
+    union_start_room = head_room value head (map (carried 1 true None) (valued value a).states ++ map (carried (length (valued value a).states + 1) true None) (valued value b).states) union.states old two arcs empty same entries refl small.arcs
+
+    pub union_start_put : {z : V} {new : List (State V)} → value z ≡ infinite → new ≡ old ++ record { final = z; arcs = arcs } ∷ [] → map (valued_state value) new ≡ head ∷ []
+    union_start_put {z} {new} last put = head_put value head old new z two arcs empty last same entries put
+
+  -- and the states of the operands after it
+  module _ {k : ℕ} (count : k ≡ length a.states) where
+    abbrev fronts : List (State Cost)
+    fronts = map (carried 1 true None) (map (valued_state value) a.states)
+
+    abbrev backs : List (State Cost)
+    backs = map (carried (k + 1) true None) (map (valued_state value) b.states)
+
+    parts : union.states ≡ head ∷ (fronts ++ backs)
+    parts = ap (λ (j : ℕ). head ∷ (fronts ++ map (carried j true None) (map (valued_state value) b.states))) (sym (places count))
+
+    pub union_first_room : (one : List (State V)) → map (valued_state value) one ≡ head ∷ [] → arc_total one + arc_total fronts ≤ most_arcs
+    union_first_room one first = next_room value (head ∷ []) fronts backs union.states one first parts small.arcs
+
+    module _ (one two : List (State V)) (first : map (valued_state value) one ≡ head ∷ []) (second : map (valued_state value) two ≡ map (valued_state value) one ++ fronts) where
+      so_far : map (valued_state value) two ≡ head ∷ fronts
+      so_far = second ∙ ap (λ ss. ss ++ fronts) first
+
+      pub union_second_room : arc_total two + arc_total backs ≤ most_arcs
+      union_second_room = next_room value (head ∷ fronts) backs [] union.states two so_far (parts ∙ ap (λ ss. head ∷ (fronts ++ ss)) (sym (append-nil backs))) small.arcs
+
+      pub union_made : (all : List (State V)) → map (valued_state value) all ≡ map (valued_state value) two ++ backs → map (valued_state value) all ≡ union.states
+      union_made all third = third ∙ (ap (λ ss. ss ++ backs) so_far ∙ sym parts)
 
 -- the entries are as many as the starts
 pub entry_count : (kind : ArcType) (k : ℕ) (start : Option ℕ) → length (entry kind k start) ≡ start_count start
@@ -174,7 +204,7 @@ entry_count kind k (Some s) = refl
 
 -- the size, as it is computed
 pub union_counted : {V : Type 0} (value : V → Cost) (kind : ArcType) (a b : Machine V) (states arcs one two more less first second : ℕ) → one ≡ length a.states → two ≡ length b.states → more ≡ arc_total a.states → less ≡ arc_total b.states → first ≡ start_count a.start → second ≡ start_count b.start → states ≡ one + two + 1 → arcs ≡ more + less + first + second
-    → (states ≡ length (union_of kind (valued value a) (valued value b)).states) × (arcs ≡ arc_total (union_of kind (valued value a) (valued value b)).states)
+    → IsSize (union_of kind (valued value a) (valued value b)) (states, arcs)
 union_counted value kind a b states arcs one two more less first second ones twos mores lesses firsts seconds is are =
     let n = union_states kind (valued value a) (valued value b) in
     let m = union_arcs kind (valued value a) (valued value b) in
@@ -184,4 +214,4 @@ union_counted value kind a b states arcs one two more less first second ones two
     let q = arc_total-valued value b.states in
     let u = entry_count kind 1 a.start in
     let v = entry_count kind (length (map (valued_state value) a.states) + 1) b.start in
-    (omega (arith, n, x, y, ones, twos, is), omega (arith, m, p, q, u, v, mores, lesses, firsts, seconds, are))
+    record { states = omega (arith, n, x, y, ones, twos, is); arcs = omega (arith, m, p, q, u, v, mores, lesses, firsts, seconds, are) }

@@ -27,11 +27,15 @@ abbrev pub entry : ArcType → ℕ → Option ℕ → List (Arc Cost ℕ)
 entry kind k None = []
 entry kind k (Some s) = epsilon_arc (one_of kind) (k + s) ∷ []
 
+-- the new start of a union, which is not final and enters both
+abbrev pub union_start : ArcType → Machine Cost → Machine Cost → State Cost
+union_start kind a b = record { final = infinite; arcs = entry kind 1 a.start ++ entry kind (length a.states + 1) b.start }
+
 -- Union: a new start, which is not final and enters both; then the states of a, then those of b.
 abbrev pub union_of : ArcType → Machine Cost → Machine Cost → Machine Cost
 union_of kind a b = record {
   start = Some 0;
-  states = record { final = infinite; arcs = entry kind 1 a.start ++ entry kind (length a.states + 1) b.start } ∷ (map (carried 1 true None) a.states ++ map (carried (length a.states + 1) true None) b.states);
+  states = union_start kind a b ∷ (map (carried 1 true None) a.states ++ map (carried (length a.states + 1) true None) b.states);
 }
 
 -- Concatenation: the states of a, which are not final and go on to the start of b; then those of b.
@@ -41,12 +45,16 @@ concat_of a b = record {
   states = map (carried 0 false (option_map (λ s. length a.states + s) b.start)) a.states ++ map (carried (length a.states) true None) b.states;
 }
 
+-- the new start of a star, which is final with weight One and enters a
+abbrev pub star_start : ArcType → Machine Cost → State Cost
+star_start kind a = record { final = one_of kind; arcs = entry kind 1 a.start }
+
 -- Star: a new start, which is final with weight One and enters a; then the states of a, which are not final
 -- and go on to the new start.
 abbrev pub star_of : ArcType → Machine Cost → Machine Cost
 star_of kind a = record {
   start = Some 0;
-  states = record { final = one_of kind; arcs = entry kind 1 a.start } ∷ map (carried 1 false (Some 0)) a.states;
+  states = star_start kind a ∷ map (carried 1 false (Some 0)) a.states;
 }
 
 -- Plus: the states of a, which stay final and go on to the start.

@@ -4,7 +4,7 @@ use Rattle.std.specs.Prelude.{ℕ, ◌==◌, nat_eq, List, [], ◌∷◌, ◌++�
 use Rattle.std.specs.List.{list_any}
 use Rattle.fst_fields.specs.Reading as reading
 use Rattle.fst_fields.specs.Reading.{◌>>=◌}
-use Rattle.fst_fields.specs.Texts.{read_text, row_of}
+use Rattle.fst_fields.specs.Texts.{read_text, row_of, with_row}
 use Rattle.fst_fields.specs.Decimal.{label_of_text}
 use Rattle.fst_rational.specs.declared.pairs.PairsFault.{PairsFault}
 use Rattle.fst_rational.specs.declared.pairs.PairsFault.TheVariants.{BadColumns, BadLabel, Duplicate, Memory}
@@ -26,14 +26,9 @@ with_pair line before old new = if list_any (nat_eq old) (map (λ p. p.old) befo
 abbrev pub pair_of : ℕ → List (List ℕ) → Result (Option (ℕ × ℕ)) PairsFault
 pair_of line fields = elim (row_of fields) [ None ↦ Err (BadColumns line) | Some row ↦ elim row [ None ↦ Ok None | Some p ↦ elim (old_label p.0) [ None ↦ Err (BadLabel line) | Some o ↦ elim (label_of_text p.1) [ None ↦ Err (BadLabel line) | Some n ↦ Ok (Some (o, n)) ] ] ] ]
 
--- the pairs before and that of two labels, if there are any
-abbrev pub with_row : ℕ → List Pair → Option (ℕ × ℕ) → Result (List Pair) PairsFault
-with_row line before None = Ok before
-with_row line before (Some p) = with_pair line before p.0 p.1
-
 -- the pairs before and that of a line with these fields; a blank line says nothing
 abbrev pub after_line : ℕ → List Pair → List (List ℕ) → Result (List Pair) PairsFault
-after_line line before fields = pair_of line fields >>= with_row line before
+after_line line before fields = pair_of line fields >>= with_row (λ (ps : List Pair) row. with_pair line ps row.0 row.1) before
 
 -- the pairs of a text, or the first fault of its first faulty line
 abbrev pub pairs_of_text : List ℕ → Result (List Pair) PairsFault

@@ -1,24 +1,23 @@
 //! Closure: star and plus.
 
-ghost use Rattle.std.specs.Prelude.{◌≡◌, ◌≤◌, IfOk, false, length, true};
+ghost use Rattle.std.specs.Prelude.{◌≡◌, ◌∷◌, [], IfOk, OnOk, false, map, true};
 ghost use Rattle.fst_semiring.specs.Semiring.{one_of};
-ghost use Rattle.fst_machine.specs.Machine.{IsMachine, arc_total, most_arcs, most_states, valued};
-ghost use Rattle.fst_rational.specs.Constructions.{closure_of, plus_of, star_of};
-ghost use Rattle.fst_rational.specs.Limits.{IsLimited};
+ghost use Rattle.fst_machine.specs.Machine.{IsMachine, valued, valued_state};
+ghost use Rattle.fst_rational.specs.Constructions.{closure_of, plus_of, star_of, star_start};
+ghost use Rattle.fst_rational.specs.Limits.{IsLimited, IsSize, IsSmall};
 ghost use Rattle.fst_rational.specs.Relations.{Closes};
 
 use crate::change::{Carrying, count_onward, put_entry, put_states};
 use crate::fault::RationalFault;
 use crate::size::{check_size, entries};
-use fst_machine::{Fst, StateList};
+use fst_machine::{Fst, FstArc, StateList};
 use fst_semiring::Weight;
 use std::alloc::{AllocError, Global};
 
 /// How many states and arcs a star has, and with it what holds of the operand.
 fn star_size<W: Weight>(a: &Fst<W>) -> (u32, u32)
     ensures operand { IsMachine W.value a.now }
-    ensures states { result.0 ≡ length (star_of W.KIND (valued W.value a.now)).states }
-    ensures arcs { result.1 ≡ arc_total (star_of W.KIND (valued W.value a.now)).states }
+    ensures size { IsSize (star_of W.KIND (valued W.value a.now)) result }
 {
     let states = a.states();
     let arcs = a.arc_count() + count_onward(a, Some(0)) + entries(a.start());
@@ -28,8 +27,7 @@ fn star_size<W: Weight>(a: &Fst<W>) -> (u32, u32)
 /// How many states and arcs a plus has, and with it what holds of the operand.
 fn plus_size<W: Weight>(a: &Fst<W>) -> (u32, u32)
     ensures operand { IsMachine W.value a.now }
-    ensures states { result.0 ≡ length (plus_of (valued W.value a.now)).states }
-    ensures arcs { result.1 ≡ arc_total (plus_of (valued W.value a.now)).states }
+    ensures size { IsSize (plus_of (valued W.value a.now)) result }
 {
     let states = a.states();
     let arcs = a.arc_count() + count_onward(a, a.start());
@@ -43,22 +41,36 @@ fn weight_of_none<W: Weight>() -> W
     W::one()
 }
 
-/// The star, which is not too big; so many states and arcs are reserved.
+/// Puts the new start of a star, which enters the operand, as the first state. The list `own` is for its arcs.
+fn put_start<W: Weight>(
+    list: &mut StateList<W>,
+    own: &mut Vec<FstArc<W>>,
+    a: &Fst<W>,
+) -> Result<(), AllocError>
+    requires first { list.old ≡ [] }
+    requires clear { own.old.items ≡ [] }
+    requires small { IsSmall (star_of W.KIND (valued W.value a.now)) }
+    ensures { OnOk result (map (valued_state W.value) list.new ≡ star_start W.KIND (valued W.value a.now) ∷ []) }
+{
+    let _states = a.states();
+    put_entry(own, 1, a.start())?;
+    list.push(weight_of_none(), own)?;
+    Ok(())
+}
+
+/// The star, which is not too big; what it needs is reserved at once.
 fn build_star<W: Weight>(
     alloc: Global,
     a: &Fst<W>,
-    states: u32,
-    arcs: u32,
+    needed: (u32, u32),
 ) -> Result<Fst<W>, AllocError>
-    requires states { length (star_of W.KIND (valued W.value a.now)).states ≤ most_states }
-    requires arcs { arc_total (star_of W.KIND (valued W.value a.now)).states ≤ most_arcs }
+    requires { IsSmall (star_of W.KIND (valued W.value a.now)) }
     ensures { IfOk result (λ m. valued W.value m ≡ star_of W.KIND (valued W.value a.now)) }
 {
     let _states = a.states();
-    let mut list = StateList::with_capacity(alloc, states as usize, arcs as usize)?;
+    let mut list = StateList::with_capacity(alloc, needed.0 as usize, needed.1 as usize)?;
     let mut own = Vec::new(alloc);
-    put_entry(&mut own, 1, a.start())?;
-    list.push(weight_of_none(), &own)?;
+    put_start(&mut list, &mut own, a)?;
     let round = Carrying {
         shift: 1,
         keeps: false,
@@ -68,19 +80,17 @@ fn build_star<W: Weight>(
     Ok(list.into_machine(Some(0)))
 }
 
-/// The plus, which is not too big; so many states and arcs are reserved.
+/// The plus, which is not too big; what it needs is reserved at once.
 fn build_plus<W: Weight>(
     alloc: Global,
     a: &Fst<W>,
-    states: u32,
-    arcs: u32,
+    needed: (u32, u32),
 ) -> Result<Fst<W>, AllocError>
-    requires states { length (plus_of (valued W.value a.now)).states ≤ most_states }
-    requires arcs { arc_total (plus_of (valued W.value a.now)).states ≤ most_arcs }
+    requires { IsSmall (plus_of (valued W.value a.now)) }
     ensures { IfOk result (λ m. valued W.value m ≡ plus_of (valued W.value a.now)) }
 {
     let _states = a.states();
-    let mut list = StateList::with_capacity(alloc, states as usize, arcs as usize)?;
+    let mut list = StateList::with_capacity(alloc, needed.0 as usize, needed.1 as usize)?;
     let mut own = Vec::new(alloc);
     let round = Carrying {
         shift: 0,
@@ -97,11 +107,11 @@ fn close_star<W: Weight>(alloc: Global, a: &Fst<W>) -> Result<Fst<W>, RationalFa
     ensures machine { IfOk result (λ m. valued W.value m ≡ star_of W.KIND (valued W.value a.now)) }
     ensures relation { IfOk result (λ m. Closes W.KIND false (valued W.value a.now) (valued W.value m)) }
 {
-    let (states, arcs) = star_size(a);
-    if let Some(fault) = check_size(states, arcs) {
+    let needed = star_size(a);
+    if let Some(fault) = check_size(needed) {
         return Err(fault);
     }
-    match build_star(alloc, a, states, arcs) {
+    match build_star(alloc, a, needed) {
         Ok(closed) => Ok(closed),
         Err(_) => Err(RationalFault::Memory),
     }
@@ -113,11 +123,11 @@ fn close_plus<W: Weight>(alloc: Global, a: &Fst<W>) -> Result<Fst<W>, RationalFa
     ensures machine { IfOk result (λ m. valued W.value m ≡ plus_of (valued W.value a.now)) }
     ensures relation { IfOk result (λ m. Closes W.KIND true (valued W.value a.now) (valued W.value m)) }
 {
-    let (states, arcs) = plus_size(a);
-    if let Some(fault) = check_size(states, arcs) {
+    let needed = plus_size(a);
+    if let Some(fault) = check_size(needed) {
         return Err(fault);
     }
-    match build_plus(alloc, a, states, arcs) {
+    match build_plus(alloc, a, needed) {
         Ok(closed) => Ok(closed),
         Err(_) => Err(RationalFault::Memory),
     }

@@ -2,9 +2,9 @@
 
 ghost use Rattle.std.specs.Prelude.{◌≡◌, ◌+◌, ◌<◌, ◌≤◌, IfOk, IfSome, length};
 ghost use Rattle.std.specs.Option.{option_map};
-ghost use Rattle.fst_machine.specs.Machine.{IsMachine, arc_total, most_arcs, most_states, valued};
+ghost use Rattle.fst_machine.specs.Machine.{IsMachine, valued};
 ghost use Rattle.fst_rational.specs.Constructions.{concat_of};
-ghost use Rattle.fst_rational.specs.Limits.{IsLimited};
+ghost use Rattle.fst_rational.specs.Limits.{IsLimited, IsSize, IsSmall};
 ghost use Rattle.fst_rational.specs.Relations.{Concatenates};
 
 use crate::change::{Carrying, count_onward, put_states};
@@ -28,8 +28,7 @@ fn shifted(shift: u32, start: Option<u32>) -> Option<u32>
 /// How many states and arcs a concatenation has, and with it what holds of the operands.
 fn size<W: Weight>(a: &Fst<W>, b: &Fst<W>) -> (u32, u32)
     ensures operands { IsMachine W.value a.now × IsMachine W.value b.now }
-    ensures states { result.0 ≡ length (concat_of (valued W.value a.now) (valued W.value b.now)).states }
-    ensures arcs { result.1 ≡ arc_total (concat_of (valued W.value a.now) (valued W.value b.now)).states }
+    ensures size { IsSize (concat_of (valued W.value a.now) (valued W.value b.now)) result }
 {
     let front = a.states();
     let back = b.states();
@@ -38,21 +37,19 @@ fn size<W: Weight>(a: &Fst<W>, b: &Fst<W>) -> (u32, u32)
     (front + back, arcs)
 }
 
-/// The concatenation, which is not too big; so many states and arcs are reserved.
+/// The concatenation, which is not too big; what it needs is reserved at once.
 fn build<W: Weight>(
     alloc: Global,
     a: &Fst<W>,
     b: &Fst<W>,
-    states: u32,
-    arcs: u32,
+    needed: (u32, u32),
 ) -> Result<Fst<W>, AllocError>
-    requires states { length (concat_of (valued W.value a.now) (valued W.value b.now)).states ≤ most_states }
-    requires arcs { arc_total (concat_of (valued W.value a.now) (valued W.value b.now)).states ≤ most_arcs }
+    requires { IsSmall (concat_of (valued W.value a.now) (valued W.value b.now)) }
     ensures { IfOk result (λ m. valued W.value m ≡ concat_of (valued W.value a.now) (valued W.value b.now)) }
 {
     let behind = a.states();
     let _back = b.states();
-    let mut list = StateList::with_capacity(alloc, states as usize, arcs as usize)?;
+    let mut list = StateList::with_capacity(alloc, needed.0 as usize, needed.1 as usize)?;
     let mut own = Vec::new(alloc);
     let first = Carrying {
         shift: 0,
@@ -77,11 +74,11 @@ pub fn concat<W: Weight>(alloc: Global, a: &Fst<W>, b: &Fst<W>) -> Result<Fst<W>
     ensures machine { IfOk result (λ m. valued W.value m ≡ concat_of (valued W.value a.now) (valued W.value b.now)) }
     ensures relation { IfOk result (λ m. Concatenates W.KIND (valued W.value a.now) (valued W.value b.now) (valued W.value m)) }
 {
-    let (states, arcs) = size(a, b);
-    if let Some(fault) = check_size(states, arcs) {
+    let needed = size(a, b);
+    if let Some(fault) = check_size(needed) {
         return Err(fault);
     }
-    match build(alloc, a, b, states, arcs) {
+    match build(alloc, a, b, needed) {
         Ok(joined) => Ok(joined),
         Err(_) => Err(RationalFault::Memory),
     }

@@ -5,7 +5,7 @@ ghost use Rattle.std.specs.List.{range_with_len};
 ghost use Rattle.fst_machine.specs.Machine.{IsArc, IsMachine, arc_total, most_arcs, most_states, valued, valued_arc, valued_state};
 ghost use Rattle.fst_rational.specs.Backing.{put_all, put_back, turned_bare};
 ghost use Rattle.fst_rational.specs.Constructions.{final_arcs, reverse_of, start_weight};
-ghost use Rattle.fst_rational.specs.Limits.{IsLimited};
+ghost use Rattle.fst_rational.specs.Limits.{IsLimited, IsSize, IsSmall};
 ghost use Rattle.fst_rational.specs.Relations.{Reverses};
 
 use crate::change::{count_onward, put_onward};
@@ -19,8 +19,7 @@ use std::marker::Model;
 /// How many states and arcs a reversal has, and with it what holds of the operand.
 fn size<W: Weight>(a: &Fst<W>) -> (u32, u32)
     ensures operand { IsMachine W.value a.now }
-    ensures states { result.0 ≡ length (reverse_of W.KIND (valued W.value a.now)).states }
-    ensures arcs { result.1 ≡ arc_total (reverse_of W.KIND (valued W.value a.now)).states }
+    ensures size { IsSize (reverse_of W.KIND (valued W.value a.now)) result }
 {
     let states = a.states();
     let arcs = a.arc_count() + count_onward(a, Some(0));
@@ -154,11 +153,9 @@ fn gather<W: Weight>(
     Ok(states)
 }
 
-/// The reversal, which is not too big; so many states and arcs are reserved.
-fn build<W: Weight>(alloc: Global, a: &Fst<W>, states: u32, arcs: u32) -> Result<Fst<W>, AllocError>
-    requires states { length (reverse_of W.KIND (valued W.value a.now)).states ≤ most_states }
-    requires arcs { arc_total (reverse_of W.KIND (valued W.value a.now)).states ≤ most_arcs }
-    ensures { IfOk result (λ m. valued W.value m ≡ reverse_of W.KIND (valued W.value a.now)) }
+/// The states of a reversal, each with a list of its own for its arcs. Room is taken for `states` of them.
+fn turn<W: Weight>(alloc: Global, a: &Fst<W>, states: u32) -> Result<Vec<Turned<W>>, AllocError>
+    ensures { IfOk result (λ turned. map (valued_state W.value) turned.items ≡ (reverse_of W.KIND (valued W.value a.now)).states) }
 {
     let _states = a.states();
     let counts = count_all(alloc, a)?;
@@ -171,7 +168,17 @@ fn build<W: Weight>(alloc: Global, a: &Fst<W>, states: u32, arcs: u32) -> Result
     })?;
     put_bare(alloc, &mut turned, a, counts.as_slice())?;
     put_all_back(&mut turned, a)?;
-    let list = gather(alloc, turned.as_slice(), arcs)?;
+    Ok(turned)
+}
+
+/// The reversal, which is not too big; what it needs is reserved at once.
+fn build<W: Weight>(alloc: Global, a: &Fst<W>, needed: (u32, u32)) -> Result<Fst<W>, AllocError>
+    requires { IsSmall (reverse_of W.KIND (valued W.value a.now)) }
+    ensures { IfOk result (λ m. valued W.value m ≡ reverse_of W.KIND (valued W.value a.now)) }
+{
+    let _states = a.states();
+    let turned = turn(alloc, a, needed.0)?;
+    let list = gather(alloc, turned.as_slice(), needed.1)?;
     Ok(list.into_machine(Some(0)))
 }
 
@@ -184,11 +191,11 @@ pub fn reverse<W: Weight>(alloc: Global, a: &Fst<W>) -> Result<Fst<W>, RationalF
     ensures machine { IfOk result (λ m. valued W.value m ≡ reverse_of W.KIND (valued W.value a.now)) }
     ensures relation { IfOk result (λ m. Reverses W.KIND (valued W.value a.now) (valued W.value m)) }
 {
-    let (states, arcs) = size(a);
-    if let Some(fault) = check_size(states, arcs) {
+    let needed = size(a);
+    if let Some(fault) = check_size(needed) {
         return Err(fault);
     }
-    match build(alloc, a, states, arcs) {
+    match build(alloc, a, needed) {
         Ok(turned) => Ok(turned),
         Err(_) => Err(RationalFault::Memory),
     }

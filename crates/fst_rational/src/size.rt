@@ -6,10 +6,11 @@ ghost use Rattle.fst_rational.specs.Limits.{size_fault, start_count};
 use crate::fault::RationalFault;
 use fst_machine::{MOST_ARCS, MOST_STATES};
 
-/// Why a machine with so many states and arcs is not made, if it is too big.
-pub(crate) fn check_size(states: u32, arcs: u32) -> Option<RationalFault>
-    ensures { result ≡ size_fault states arcs }
+/// Why a machine of this size, so many states and so many arcs, is not made, if it is too big.
+pub(crate) fn check_size(size: (u32, u32)) -> Option<RationalFault>
+    ensures { size_fault size ≡ result }
 {
+    let (states, arcs) = size;
     if states as usize > MOST_STATES {
         return Some(RationalFault::TooManyStates);
     }

@@ -1,48 +1,63 @@
 //! Union.
 
-ghost use Rattle.std.specs.Prelude.{◌≡◌, ◌≤◌, IfOk, length};
-ghost use Rattle.fst_machine.specs.Machine.{IsMachine, arc_total, most_arcs, most_states, valued};
-ghost use Rattle.fst_rational.specs.Constructions.{union_of};
-ghost use Rattle.fst_rational.specs.Limits.{IsLimited};
+ghost use Rattle.std.specs.Prelude.{◌≡◌, ◌∷◌, [], IfOk, OnOk, map};
+ghost use Rattle.fst_machine.specs.Machine.{IsMachine, valued, valued_state};
+ghost use Rattle.fst_rational.specs.Constructions.{union_of, union_start};
+ghost use Rattle.fst_rational.specs.Limits.{IsLimited, IsSize, IsSmall};
 ghost use Rattle.fst_rational.specs.Relations.{Unites};
 
 use crate::change::{Carrying, put_entry, put_states};
 use crate::fault::RationalFault;
 use crate::size::{check_size, entries};
-use fst_machine::{Fst, StateList};
+use fst_machine::{Fst, FstArc, StateList};
 use fst_semiring::Weight;
 use std::alloc::{AllocError, Global};
 
 /// How many states and arcs a union has, and with it what holds of the operands.
 fn size<W: Weight>(a: &Fst<W>, b: &Fst<W>) -> (u32, u32)
     ensures operands { IsMachine W.value a.now × IsMachine W.value b.now }
-    ensures states { result.0 ≡ length (union_of W.KIND (valued W.value a.now) (valued W.value b.now)).states }
-    ensures arcs { result.1 ≡ arc_total (union_of W.KIND (valued W.value a.now) (valued W.value b.now)).states }
+    ensures size { IsSize (union_of W.KIND (valued W.value a.now) (valued W.value b.now)) result }
 {
     let states = a.states() + b.states() + 1;
     let arcs = a.arc_count() + b.arc_count() + entries(a.start()) + entries(b.start());
     (states, arcs)
 }
 
-/// The union, which is not too big; so many states and arcs are reserved.
+/// Puts the new start, which enters both operands, as the first state. The list `own` is for its arcs.
+fn put_start<W: Weight>(
+    list: &mut StateList<W>,
+    own: &mut Vec<FstArc<W>>,
+    a: &Fst<W>,
+    b: &Fst<W>,
+) -> Result<(), AllocError>
+    requires first { list.old ≡ [] }
+    requires clear { own.old.items ≡ [] }
+    requires small { IsSmall (union_of W.KIND (valued W.value a.now) (valued W.value b.now)) }
+    ensures { OnOk result (map (valued_state W.value) list.new ≡ union_start W.KIND (valued W.value a.now) (valued W.value b.now) ∷ []) }
+{
+    let behind = a.states() + 1;
+    let _states = b.states();
+    put_entry(own, 1, a.start())?;
+    put_entry(own, behind, b.start())?;
+    list.push(W::zero(), own)?;
+    Ok(())
+}
+
+/// The union, which is not too big; what it needs is reserved at once.
 fn build<W: Weight>(
     alloc: Global,
     a: &Fst<W>,
     b: &Fst<W>,
-    states: u32,
-    arcs: u32,
+    needed: (u32, u32),
 ) -> Result<Fst<W>, AllocError>
-    requires states { length (union_of W.KIND (valued W.value a.now) (valued W.value b.now)).states ≤ most_states }
-    requires arcs { arc_total (union_of W.KIND (valued W.value a.now) (valued W.value b.now)).states ≤ most_arcs }
+    requires { IsSmall (union_of W.KIND (valued W.value a.now) (valued W.value b.now)) }
     ensures { IfOk result (λ m. valued W.value m ≡ union_of W.KIND (valued W.value a.now) (valued W.value b.now)) }
 {
     let behind = a.states() + 1;
     let _states = b.states();
-    let mut list = StateList::with_capacity(alloc, states as usize, arcs as usize)?;
+    let mut list = StateList::with_capacity(alloc, needed.0 as usize, needed.1 as usize)?;
     let mut own = Vec::new(alloc);
-    put_entry(&mut own, 1, a.start())?;
-    put_entry(&mut own, behind, b.start())?;
-    list.push(W::zero(), &own)?;
+    put_start(&mut list, &mut own, a, b)?;
     let first = Carrying {
         shift: 1,
         keeps: true,
@@ -66,11 +81,11 @@ pub fn union<W: Weight>(alloc: Global, a: &Fst<W>, b: &Fst<W>) -> Result<Fst<W>,
     ensures machine { IfOk result (λ m. valued W.value m ≡ union_of W.KIND (valued W.value a.now) (valued W.value b.now)) }
     ensures relation { IfOk result (λ m. Unites W.KIND (valued W.value a.now) (valued W.value b.now) (valued W.value m)) }
 {
-    let (states, arcs) = size(a, b);
-    if let Some(fault) = check_size(states, arcs) {
+    let needed = size(a, b);
+    if let Some(fault) = check_size(needed) {
         return Err(fault);
     }
-    match build(alloc, a, b, states, arcs) {
+    match build(alloc, a, b, needed) {
         Ok(union) => Ok(union),
         Err(_) => Err(RationalFault::Memory),
     }

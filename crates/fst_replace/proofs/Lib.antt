@@ -10,6 +10,7 @@ mod Emitting
 mod Unfolding
 mod Waiting
 mod Valuing
+mod Putting
 mod Goodness
 mod Totalling
 mod Placing

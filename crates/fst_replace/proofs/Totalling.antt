@@ -1,6 +1,6 @@
 -- The counts of expansions, and the table of rules.
 use Rattle.std.proofs.Common.{◌≡◌, ◌⊎◌, inl, inr, ℕ, ◌+◌, ◌<◌, ◌≤◌, List, [], ◌∷◌, Option, None, Some, length, map, get_or, sum_by, refl, sym, ap, ap₂, ◌∙◌, subst, arith}
-use Rattle.std.specs.Prelude.{IfSome}
+use Rattle.std.specs.Prelude.{IfOk, IfSome, MatchOption, Result}
 use Rattle.std.proofs.Math.ListN.{get_or-map}
 use Rattle.std.proofs.lemmas.Bool.{cases_lt}
 use Rattle.std.proofs.lemmas.List.{length-map, get_or_past}
@@ -17,9 +17,9 @@ use Rattle.fst_replace.specs.Calls.{Calling, HasNoRecursion, Reaches, arcs_of, c
 use Rattle.fst_replace.proofs.Goodness.{expansion_good}
 use Rattle.fst_replace.specs.Expansion.{Shape, expanded, expansion, replaced, shape_of}
 use Rattle.fst_replace.specs.Rules.{IsRules, Labelled, labels_of, machine_at, place_of, valued_rules}
-use Rattle.fst_replace.specs.Totals.{IsTable, IsTotal, brings, shape_at}
+use Rattle.fst_replace.specs.Totals.{AreCounts, IsTable, IsTotal, arcs_in, brings, shape_at, states_in}
 use Rattle.fst_replace.specs.Walks.{IsClosed, IsOrdered, at_place}
-use Rattle.fst_replace.proofs.Counting.{calls_place, sum_same}
+use Rattle.fst_replace.proofs.Counting.{at_root, calls_place, sum_same, total_grows}
 use Rattle.fst_replace.proofs.Expanding.{expanded_arcs, expanded_brings, expanded_length, expansion_stays}
 use Rattle.fst_replace.proofs.Settling.{Settled, ordered_free, ordered_reaches, ordered_settled, settled_soon}
 use Rattle.fst_replace.proofs.Valuing.{calls_are, machine_valued, size_is}
@@ -46,7 +46,13 @@ module _ {V : Type 0} (value : V → Cost) (rules : List (Labelled V)) (calls : 
     pub in_order : (i j : ℕ) → Has order i → Has (at_place calls i) j → Has order j
     in_order i j h has = ordered_reaches (at_place calls) order ordered i (j ∷ []) j h (has, refl)
 
-    pub total_states : IsTotal (at_place calls) (map (λ r. length r.machine.states) rules) (map {B = ℕ} (λ r. 0) rules) order (λ i. length (expansion (valued_rules value rules) (length (valued_rules value rules)) i).states)
+    -- what was counted in this order is above the limit at the root, or nowhere
+    pub counted : {T E : Type 0} {own own_is brought brought_is : List ℕ} {count : ℕ → ℕ} (most : ℕ) (r : Result (Option T) E) (P : (ℕ → ℕ) → T → Type 0) → own ≡ own_is → brought ≡ brought_is → IsTotal (at_place calls) own_is brought_is order count → Has order 0 → ((j : ℕ) → Has order j → Reaches (at_place calls) 0 j) → ((f : ℕ → ℕ) → IsTotal (at_place calls) own brought order f → IfOk r (λ found. MatchOption found ((i : ℕ) × Has order i × (most < f i)) (P f))) → IfOk r (λ found. MatchOption found (most < count 0) (P count))
+    counted {T} {E} {own} {own_is} {brought} {brought_is} {count} most r P e d total root reached answer =
+        let first : IsTotal (at_place calls) own brought order count = subst (λ (zs : List ℕ). IsTotal (at_place calls) zs brought order count) (sym e) (subst (λ (zs : List ℕ). IsTotal (at_place calls) own_is zs order count) (sym d) total) in
+        at_root r order count most (P count) (λ i h. (let chain = reached i h in total_grows (at_place calls) own brought order count first in_order 0 chain.0 i root chain.1)) (answer count first)
+
+    pub total_states : IsTotal (at_place calls) (map (λ r. length r.machine.states) rules) (map {B = ℕ} (λ r. 0) rules) order (states_in (valued_rules value rules))
     total_states i h =
         let m = expansion (valued_rules value rules) (length (valued_rules value rules)) in
         let none : (j : ℕ) → ◌≡◌ {A = ℕ} (get_or (map {B = ℕ} (λ (r : Labelled V). 0) rules) j 0) 0 = λ j. get_or-map {B = ℕ} (λ (r : Labelled V). 0) rules j (record { label = 0; machine = no_states }) in
@@ -57,7 +63,7 @@ module _ {V : Type 0} (value : V → Cost) (rules : List (Labelled V)) (calls : 
         let size = size_is value rules i in
         omega (arith, all, own, same, sums, size)
 
-    pub total_arcs : (plain : List ℕ) → ((i : ℕ) → i < length rules → get_or plain i 0 + length (at_place calls i) ≡ arc_total (machine_at rules i).states) → (total_valued : (i : ℕ) → arc_total (machine_at (valued_rules value rules) i).states ≡ arc_total (machine_at rules i).states) → IsTotal (at_place calls) plain (map (λ r. brings (valued value r.machine)) rules) order (λ i. arc_total (expansion (valued_rules value rules) (length (valued_rules value rules)) i).states)
+    pub total_arcs : (plain : List ℕ) → ((i : ℕ) → i < length rules → get_or plain i 0 + length (at_place calls i) ≡ arc_total (machine_at rules i).states) → (total_valued : (i : ℕ) → arc_total (machine_at (valued_rules value rules) i).states ≡ arc_total (machine_at rules i).states) → IsTotal (at_place calls) plain (map (λ r. brings (valued value r.machine)) rules) order (arcs_in (valued_rules value rules))
     total_arcs plain counts total_valued i h =
         let m = expansion (valued_rules value rules) (length (valued_rules value rules)) in
         let low : i < length rules = let a = listed i h in let b = length-map {B = List ℕ} rules (λ r. rules_in (calls_in (labels_of rules) (arcs_of r.machine.states))) in let c = ap length are in omega (arith, a, b, c) in
@@ -117,7 +123,7 @@ module _ {V : Type 0} (value : V → Cost) (rules : List (Labelled V)) (h : IsRu
       reached_in i r = let old = subst (λ f. Reaches f 0 i) (sym (calls_kept_all value rules calls are)) r in ordered_reaches (at_place calls) order ordered 0 old.0 i root old.1
 
       -- the table of the rules
-      pub table_is : (shapes : List Shape) (sizes : List ℕ) → length shapes ≡ length rules → ((i : ℕ) → i < length rules → shape_at shapes i ≡ record { start = (machine_at rules i).start; size = get_or sizes i 0 }) → ((i : ℕ) → Has order i → (get_or sizes i 0 ≡ length (expansion (valued_rules value rules) (length (valued_rules value rules)) i).states) × (length (expansion (valued_rules value rules) (length (valued_rules value rules)) i).states ≤ most_states)) → arc_total (replaced (valued_rules value rules)).states ≤ most_arcs → IsTable (valued_rules value rules) shapes
+      pub table_is : (shapes : List Shape) (sizes : List ℕ) → length shapes ≡ length rules → ((i : ℕ) → i < length rules → shape_at shapes i ≡ record { start = (machine_at rules i).start; size = get_or sizes i 0 }) → AreCounts order (states_in (valued_rules value rules)) most_states sizes → arc_total (replaced (valued_rules value rules)).states ≤ most_arcs → IsTable (valued_rules value rules) shapes
       table_is shapes sizes size kept right few =
           let vs = valued_rules value rules in
           let m = expansion vs (length vs) in

@@ -1,9 +1,9 @@
 -- Sums over calls, and what the code keeps of each rule.
-use Rattle.std.specs.Prelude.{◌≡◌, ℕ, ◌+◌, ◌<◌, zero, suc, List, [], ◌∷◌, ◌++◌, length, get_or, None, Some, IfSome, reverse, sum_by}
+use Rattle.std.specs.Prelude.{◌≡◌, ℕ, ◌+◌, ◌<◌, ◌≤◌, zero, suc, List, [], ◌∷◌, ◌++◌, length, get_or, None, Some, IfSome, reverse, sum_by}
 use Rattle.std.specs.List.{flat_map}
 use Rattle.fst_semiring.specs.Cost.{Cost}
 use Rattle.fst_machine.specs.BreadthFirst.{Has}
-use Rattle.fst_machine.specs.Machine.{IsMachine, Machine, State}
+use Rattle.fst_machine.specs.Machine.{IsMachine, Machine, State, arc_total}
 use Rattle.fst_rational.specs.Changing.{goings}
 use Rattle.fst_rational.specs.Limits.{start_count}
 use Rattle.fst_replace.specs.Calls.{Calling, Reaches, called}
@@ -14,6 +14,17 @@ use Rattle.fst_replace.specs.Rules.{Labelled, labels_of, machine_at}
 -- the rule that is called
 abbrev pub IsTotal : (ℕ → List ℕ) → List ℕ → List ℕ → List ℕ → (ℕ → ℕ) → Type 0
 IsTotal calls own brought order count = (i : ℕ) → Has order i → count i ≡ get_or own i 0 + sum_by (λ j. get_or brought j 0 + count j) (calls i)
+
+-- the totals of the rules of the order are these counts, none of which is above the limit
+abbrev pub AreCounts : List ℕ → (ℕ → ℕ) → ℕ → List ℕ → Type 0
+AreCounts order count most totals = (i : ℕ) → Has order i → (get_or totals i 0 ≡ count i) × (count i ≤ most)
+
+-- how many states, and how many arcs, the expansion of the rule in this place has
+abbrev pub states_in : List (Labelled Cost) → ℕ → ℕ
+states_in rules i = length (expansion rules (length rules) i).states
+
+abbrev pub arcs_in : List (Labelled Cost) → ℕ → ℕ
+arcs_in rules i = arc_total (expansion rules (length rules) i).states
 
 -- how many arcs a call of this machine brings: that to its start, and those from its final states
 abbrev pub brings : Machine Cost → ℕ

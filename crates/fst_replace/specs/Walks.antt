@@ -26,6 +26,13 @@ pub record IsMarking (calls : ℕ → List ℕ) (rule : ℕ) (names : List ℕ) 
 abbrev pub IsOrdered : (ℕ → List ℕ) → List ℕ → Type 0
 IsOrdered calls order = (p i j : ℕ) → slice_get order p ≡ Some i → Has (calls i) j → Has (take p order) j
 
+-- an order of the rules that the root reaches, each after all that it calls
+pub record IsOrder (calls : List (List ℕ)) (order : List ℕ) : Type 0 where
+  pub ordered : IsOrdered (at_place calls) order
+  pub root : Has order 0
+  pub listed : (j : ℕ) → Has order j → j < length calls
+  pub reached : (j : ℕ) → Has order j → Reaches (at_place calls) 0 j
+
 -- how many steps of a search a rule with this mark may still take
 abbrev pub rank : Mark → ℕ
 rank New = 4

@@ -4,10 +4,11 @@ ghost use Rattle.std.specs.Prelude.{◌≡◌, ◌<◌, ◌≤◌, ◌+◌, ◌+
 ghost use Rattle.fst_machine.specs.Graph.{renamed};
 ghost use Rattle.fst_machine.specs.Machine.{IsArc, IsMachine, arc_total, most_arcs, most_states, valued, valued_arc, valued_state};
 ghost use Rattle.fst_rational.specs.Constructions.{carried, kept};
+ghost use Rattle.fst_rational.specs.Limits.{IsSmall};
 ghost use Rattle.fst_replace.specs.Calls.{arcs_of, call_of, calls_in, rules_in};
 ghost use Rattle.fst_replace.specs.Expansion.{blocks_size, entered, entered_by, entered_states, entry, replaced};
 ghost use Rattle.fst_replace.specs.Rules.{labels_of, place_of, valued_rules};
-ghost use Rattle.fst_replace.specs.Totals.{HasStarts, IsTable, shape_at, shifted, standing, standing_call};
+ghost use Rattle.fst_replace.specs.Totals.{HasStarts, IsExpanding, IsTable, shape_at, shifted, standing, standing_call};
 
 use crate::rule::Rules;
 use fst_machine::{Fst, FstArc, StateList};
@@ -242,6 +243,63 @@ fn put_waiting(waiting: &mut Vec<Call>, calls: &mut Vec<Call>) -> Result<(), All
     Ok(())
 }
 
+/// Puts the machine of the root, and makes its calls wait. Gives where the first block stands.
+fn put_root<W: Weight>(
+    output: &mut Output<W>,
+    waiting: &mut Vec<Call>,
+    rules: &Rules<'_, W>,
+    shapes: &[Shape],
+) -> Result<u32, AllocError>
+    requires table { IsTable (valued_rules W.value rules.now) shapes.now }
+    requires small { IsSmall (replaced (valued_rules W.value rules.now)) }
+    requires first { output.old.states ≡ [] }
+    requires clear { output.old.calls.items ≡ [] }
+    requires none { waiting.old.items ≡ [] }
+    ensures expanding { IfOk result (λ next. IsExpanding (valued_rules W.value rules.now) shapes.now (map (valued_state W.value) output.new.states) waiting.new.items next) }
+    ensures clear { OnOk result (output.new.calls.items ≡ []) }
+{
+    let _rules = rules.count();
+    let root = rules.machine(0);
+    let place = Place {
+        at: 0,
+        keeps: true,
+        target: None,
+    };
+    put_machine(output, rules, shapes, place, root)?;
+    put_waiting(waiting, &mut output.calls)?;
+    Ok(root.states())
+}
+
+/// Puts the block of a call, which stands at `at`, and makes its calls wait, to come before the others. Gives where
+/// the next block stands.
+fn put_block<W: Weight>(
+    output: &mut Output<W>,
+    waiting: &mut Vec<Call>,
+    rules: &Rules<'_, W>,
+    shapes: &[Shape],
+    at: u32,
+    call: Call,
+) -> Result<u32, AllocError>
+    requires table { IsTable (valued_rules W.value rules.now) shapes.now }
+    requires small { IsSmall (replaced (valued_rules W.value rules.now)) }
+    requires expanding { IsExpanding (valued_rules W.value rules.now) shapes.now (map (valued_state W.value) output.old.states) (waiting.old.items ++ call ∷ []) at }
+    requires clear { output.old.calls.items ≡ [] }
+    ensures expanding { IfOk result (λ next. IsExpanding (valued_rules W.value rules.now) shapes.now (map (valued_state W.value) output.new.states) waiting.new.items next) }
+    ensures clear { OnOk result (output.new.calls.items ≡ []) }
+    ensures further { IfOk result (λ next. (at < next) × (next ≤ most_states)) }
+{
+    let _rules = rules.count();
+    let machine = rules.machine(call.rule);
+    let place = Place {
+        at,
+        keeps: false,
+        target: Some(call.next),
+    };
+    put_machine(output, rules, shapes, place, machine)?;
+    put_waiting(waiting, &mut output.calls)?;
+    Ok(at + machine.states())
+}
+
 /// The expansion of the root, which is not too big.
 ///
 /// The blocks stand in the order in which they are met: a block that is made puts its own calls before those that
@@ -254,36 +312,20 @@ pub(crate) fn expand_root<W: Weight>(
     arcs: u32,
 ) -> Result<Fst<W>, AllocError>
     requires table { IsTable (valued_rules W.value rules.now) shapes.now }
-    requires states { length (replaced (valued_rules W.value rules.now)).states ≤ most_states }
-    requires arcs { arc_total (replaced (valued_rules W.value rules.now)).states ≤ most_arcs }
+    requires small { IsSmall (replaced (valued_rules W.value rules.now)) }
     ensures { IfOk result (λ m. valued W.value m ≡ replaced (valued_rules W.value rules.now)) }
 {
     let _rules = rules.count();
-    let root = rules.machine(0);
     let mut output = Output {
         states: StateList::with_capacity(alloc, states as usize, arcs as usize)?,
         own: Vec::new(alloc),
         calls: Vec::new(alloc),
     };
     let mut waiting = Vec::new(alloc);
-    let place = Place {
-        at: 0,
-        keeps: true,
-        target: None,
-    };
-    put_machine(&mut output, rules, shapes, place, root)?;
-    put_waiting(&mut waiting, &mut output.calls)?;
-    let mut at = root.states();
+    let mut at = put_root(&mut output, &mut waiting, rules, shapes)?;
     while let Some(call) = waiting.pop() {
-        let machine = rules.machine(call.rule);
-        let place = Place {
-            at,
-            keeps: false,
-            target: Some(call.next),
-        };
-        put_machine(&mut output, rules, shapes, place, machine)?;
-        put_waiting(&mut waiting, &mut output.calls)?;
-        at += machine.states();
+        at = put_block(&mut output, &mut waiting, rules, shapes, at, call)?;
     }
+    let root = rules.machine(0);
     Ok(output.states.into_machine(root.start()))
 }

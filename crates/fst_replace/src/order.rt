@@ -4,7 +4,7 @@ ghost use Rattle.std.specs.Prelude.{◌≡◌, ◌≢◌, ◌<◌, ◌≤◌, �
 ghost use Rattle.std.specs.Bool.{Decides};
 ghost use Rattle.fst_machine.specs.BreadthFirst.{Has};
 ghost use Rattle.fst_replace.specs.Calls.{IsRecursive, Reaches};
-ghost use Rattle.fst_replace.specs.Walks.{IsOrdered, IsClosed, IsSearch, at_place, steps_left};
+ghost use Rattle.fst_replace.specs.Walks.{IsOrder, IsOrdered, IsClosed, IsSearch, at_place, steps_left};
 
 use crate::calls::{CallList, places_at};
 use std::alloc::{AllocError, Global};
@@ -176,7 +176,7 @@ fn begin(alloc: Global, calls: &[CallList]) -> Result<Search, AllocError>
 pub(crate) fn order_of(alloc: Global, calls: &[CallList]) -> Result<Option<Vec<usize>>, AllocError>
     requires root { 0 < length calls.now }
     requires closed { IsClosed calls.now }
-    ensures { IfOk result (λ found. MatchOption found ((i : ℕ) × IsRecursive (at_place calls.now) i) (λ order. IsOrdered (at_place calls.now) order.items × Has order.items 0 × ((j : ℕ) → Has order.items j → j < length calls.now) × ((j : ℕ) → Has order.items j → Reaches (at_place calls.now) 0 j))) }
+    ensures { IfOk result (λ found. MatchOption found ((i : ℕ) × IsRecursive (at_place calls.now) i) (λ order. IsOrder calls.now order.items)) }
 {
     let mut search = begin(alloc, calls)?;
     while let Some(rule) = search.top() {

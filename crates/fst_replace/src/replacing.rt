@@ -1,15 +1,14 @@
 //! Replacement.
 
-ghost use Rattle.std.specs.Prelude.{◌≡◌, ◌<◌, ◌≤◌, ◌+◌, ℕ, IfOk, IfErr, MatchOption, None, get_or, length, map};
-ghost use Rattle.fst_machine.specs.BreadthFirst.{Has};
-ghost use Rattle.fst_machine.specs.Machine.{arc_total, most_arcs, most_states, valued};
+ghost use Rattle.std.specs.Prelude.{◌≡◌, ◌<◌, ℕ, IfOk, IfErr, MatchOption, None, get_or, length, map};
+ghost use Rattle.fst_machine.specs.Machine.{most_arcs, most_states, valued};
 ghost use Rattle.fst_replace.specs.Answers.{IsCause, IsFine, IsLimited, Recurs};
-ghost use Rattle.fst_replace.specs.Calls.{IsRecursive, Reaches, arcs_of, calls_in, rules_in};
-ghost use Rattle.fst_replace.specs.Expansion.{expansion, replaced};
+ghost use Rattle.fst_replace.specs.Calls.{IsRecursive, arcs_of, calls_in, rules_in};
+ghost use Rattle.fst_replace.specs.Expansion.{replaced};
 ghost use Rattle.fst_replace.specs.Relation.{Replaces};
 ghost use Rattle.fst_replace.specs.Rules.{labels_of, machine_at, valued_rules};
-ghost use Rattle.fst_replace.specs.Totals.{IsTable};
-ghost use Rattle.fst_replace.specs.Walks.{IsClosed, IsOrdered, at_place};
+ghost use Rattle.fst_replace.specs.Totals.{AreCounts, IsTable, arcs_in, states_in};
+ghost use Rattle.fst_replace.specs.Walks.{IsClosed, IsOrder, at_place};
 
 use crate::calls::{CallList, calls_of};
 use crate::expand::{Shape, expand_root};
@@ -72,12 +71,9 @@ fn state_totals<W: Weight>(
 ) -> Result<Option<Vec<u32>>, AllocError>
     requires calls { calls.now ≡ map (λ r. rules_in (calls_in (labels_of rules.now) (arcs_of r.machine.states))) rules.now }
     requires closed { IsClosed calls.now }
-    requires ordered { IsOrdered (at_place calls.now) order.now }
-    requires listed { (j : ℕ) → Has order.now j → j < length calls.now }
-    requires root { Has order.now 0 }
-    requires reached { (j : ℕ) → Has order.now j → Reaches (at_place calls.now) 0 j }
+    requires order { IsOrder calls.now order.now }
     ensures size { IfOk result (λ found. MatchOption found (Unit {0}) (λ totals. length totals.items ≡ length calls.now)) }
-    ensures totals { IfOk result (λ found. MatchOption found (most_states < length (replaced (valued_rules W.value rules.now)).states) (λ totals. (i : ℕ) → Has order.now i → (get_or totals.items i 0 ≡ length (expansion (valued_rules W.value rules.now) (length (valued_rules W.value rules.now)) i).states) × (length (expansion (valued_rules W.value rules.now) (length (valued_rules W.value rules.now)) i).states ≤ most_states))) }
+    ensures totals { IfOk result (λ found. MatchOption found (most_states < states_in (valued_rules W.value rules.now) 0) (λ totals. AreCounts order.now (states_in (valued_rules W.value rules.now)) most_states totals.items)) }
 {
     let own = state_counts(alloc, rules)?;
     let none = zero_counts(alloc, rules)?;
@@ -100,12 +96,9 @@ fn arc_totals<W: Weight>(
 ) -> Result<Option<Vec<u32>>, AllocError>
     requires calls { calls.now ≡ map (λ r. rules_in (calls_in (labels_of rules.now) (arcs_of r.machine.states))) rules.now }
     requires closed { IsClosed calls.now }
-    requires ordered { IsOrdered (at_place calls.now) order.now }
-    requires listed { (j : ℕ) → Has order.now j → j < length calls.now }
-    requires root { Has order.now 0 }
-    requires reached { (j : ℕ) → Has order.now j → Reaches (at_place calls.now) 0 j }
+    requires order { IsOrder calls.now order.now }
     ensures size { IfOk result (λ found. MatchOption found (Unit {0}) (λ totals. length totals.items ≡ length calls.now)) }
-    ensures totals { IfOk result (λ found. MatchOption found (most_arcs < arc_total (replaced (valued_rules W.value rules.now)).states) (λ totals. (i : ℕ) → Has order.now i → (get_or totals.items i 0 ≡ arc_total (expansion (valued_rules W.value rules.now) (length (valued_rules W.value rules.now)) i).states) × (arc_total (expansion (valued_rules W.value rules.now) (length (valued_rules W.value rules.now)) i).states ≤ most_arcs))) }
+    ensures totals { IfOk result (λ found. MatchOption found (most_arcs < arcs_in (valued_rules W.value rules.now) 0) (λ totals. AreCounts order.now (arcs_in (valued_rules W.value rules.now)) most_arcs totals.items)) }
 {
     let plain = plain_counts(alloc, rules, calls)?;
     let brought = brought_counts(alloc, rules)?;
@@ -138,7 +131,7 @@ struct Measured {
     arcs: u32,
 }
 
-/// Measures the expansion of the root by the rules that it reaches, each behind those that it calls.
+/// Measures the expansion of the root by the rules that it reaches, each after those that it calls.
 fn measure_order<W: Weight>(
     alloc: Global,
     rules: &Rules<'_, W>,
@@ -147,10 +140,7 @@ fn measure_order<W: Weight>(
 ) -> Result<Result<Measured, ReplaceFault>, AllocError>
     requires calls { calls.now ≡ map (λ r. rules_in (calls_in (labels_of rules.now) (arcs_of r.machine.states))) rules.now }
     requires closed { IsClosed calls.now }
-    requires ordered { IsOrdered (at_place calls.now) order.now }
-    requires listed { (j : ℕ) → Has order.now j → j < length calls.now }
-    requires root { Has order.now 0 }
-    requires reached { (j : ℕ) → Has order.now j → Reaches (at_place calls.now) 0 j }
+    requires order { IsOrder calls.now order.now }
     ensures fine { IfOk result (λ r. IfOk r (λ m. IsFine (valued_rules W.value rules.now) × IsTable (valued_rules W.value rules.now) m.shapes.items)) }
     ensures cause { IfOk result (λ r. IfErr r (λ fault. IsCause (valued_rules W.value rules.now) fault)) }
 {

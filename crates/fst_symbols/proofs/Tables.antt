@@ -12,6 +12,8 @@ use Rattle.std.proofs.lemmas.Option.{slice_get-map}
 use Rattle.std.proofs.lemmas.List.Elements.{All-nil, All-push}
 use Rattle.std.proofs.lemmas.Map.Keys.{IsDistinct-push}
 use Rattle.std.proofs.lemmas.Bool.Decides.{nat_tests}
+use Rattle.indexmap.specs.IndexMap.{IndexMap, insert_entry}
+use Rattle.indexmap.proofs.CallerLemmas.{insert_entry-new}
 use Rattle.fst_fields.specs.Decimal.{greatest_label}
 use Rattle.fst_symbols.specs.declared.fault.SymbolsFault.TheVariants.{DuplicateSymbol, DuplicateNumber}
 use Rattle.fst_symbols.specs.Symbols.{IsName, IsTable, Symbol, name_of, number_of}
@@ -22,6 +24,18 @@ use Rattle.fst_symbols.specs.Kept.{ranked_name, symbols_of}
 pub number_of-lookup : (es : List (List ℕ × ℕ)) (name : List ℕ) → lookup (bytes_eq name) es ≡ number_of (symbols_of es) name
 number_of-lookup [] name = refl
 number_of-lookup (e ∷ es) name = ap (λ r. cond (bytes_eq name e.0) (Some e.1) r) (number_of-lookup es name)
+
+-- a name that was looked for has the number that was found
+pub looked_for : (es : List (List ℕ × ℕ)) (key name : List ℕ) (old found : Option ℕ) → key ≡ name → old ≡ lookup (bytes_eq key) es → old ≡ found → number_of (symbols_of es) name ≡ found
+looked_for es key name old found same looked is = sym (number_of-lookup es name) ∙ ap (λ (k : List ℕ). lookup (bytes_eq k) es) (sym same) ∙ sym looked ∙ is
+
+-- a name that was not found goes last, with its number
+pub entries_more : {S : Type 0} (m : IndexMap (List ℕ) ℕ S) (key name : List ℕ) (number : ℕ) (old : Option ℕ) (after : List (List ℕ × ℕ)) → key ≡ name → old ≡ lookup (bytes_eq key) m.entries → old ≡ None → after ≡ insert_entry bytes_eq m.entries key number → after ≡ m.entries ++ (name, number) ∷ []
+entries_more m key name number old after same looked none put = put ∙ insert_entry-new bytes_eq m key number (sym looked ∙ none) ∙ ap (λ (k : List ℕ). m.entries ++ (k, number) ∷ []) same
+
+-- a number that had no rank has no name
+pub number_free : (ss : List Symbol) (number rank before : ℕ) → ranked_name ss rank ≡ name_of ss number → before ≡ rank → before ≡ 0 → name_of ss number ≡ None
+number_free ss number rank before named is zero_is = sym named ∙ ap (ranked_name ss) (sym is ∙ zero_is)
 
 -- one name more is one symbol more
 pub symbols_of-push : (es after : List (List ℕ × ℕ)) (name : List ℕ) (number : ℕ) → after ≡ es ++ (name, number) ∷ [] → symbols_of after ≡ symbols_of es ++ record { name = name; number = number } ∷ []

@@ -2,7 +2,7 @@
 use Rattle.std.specs.Prelude.{ℕ, List, [], ◌∷◌, ◌++◌, is_some, Option, None, Some, Result, Ok, Err, if◌then◌else◌}
 use Rattle.fst_fields.specs.Reading as reading
 use Rattle.fst_fields.specs.Reading.{◌>>=◌}
-use Rattle.fst_fields.specs.Texts.{read_text, row_of}
+use Rattle.fst_fields.specs.Texts.{read_text, row_of, with_row}
 use Rattle.fst_fields.specs.Decimal.{label_of_text}
 use Rattle.fst_symbols.specs.declared.fault.SymbolsFault.{SymbolsFault}
 use Rattle.fst_symbols.specs.declared.fault.SymbolsFault.TheVariants.{BadColumns, BadNumber, DuplicateSymbol, DuplicateNumber, Memory}
@@ -16,14 +16,9 @@ with_symbol line before name number = if is_some (number_of before name) then Er
 abbrev pub symbol_of : ℕ → List (List ℕ) → Result (Option (List ℕ × ℕ)) SymbolsFault
 symbol_of line fields = elim (row_of fields) [ None ↦ Err (BadColumns line) | Some row ↦ elim row [ None ↦ Ok None | Some p ↦ elim (label_of_text p.1) [ None ↦ Err (BadNumber line) | Some n ↦ Ok (Some (p.0, n)) ] ] ]
 
--- the symbols before and that of a name and a number, if there are any
-abbrev pub with_row : ℕ → List Symbol → Option (List ℕ × ℕ) → Result (List Symbol) SymbolsFault
-with_row line before None = Ok before
-with_row line before (Some p) = with_symbol line before p.0 p.1
-
 -- the symbols before and that of a line with these fields; a blank line says nothing
 abbrev pub after_line : ℕ → List Symbol → List (List ℕ) → Result (List Symbol) SymbolsFault
-after_line line before fields = symbol_of line fields >>= with_row line before
+after_line line before fields = symbol_of line fields >>= with_row (λ (ss : List Symbol) row. with_symbol line ss row.0 row.1) before
 
 -- the table of a text, or the first fault of its first faulty line
 abbrev pub table_of_text : List ℕ → Result (List Symbol) SymbolsFault

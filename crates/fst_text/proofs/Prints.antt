@@ -14,7 +14,7 @@ use Rattle.fst_text.specs.declared.fault.PrintFault.TheVariants.{UnknownSymbol}
 use Rattle.fst_text.specs.Options.{Options}
 use Rattle.fst_text.specs.Entries.{Entry, arc_entry, final_entry}
 use Rattle.fst_text.specs.Printed.{entries_at, fields_of_entry, final_entries, other_entries, split_arc, split_state, state_entries, text_of_entries, text_of_line, unnamed_label}
-use Rattle.fst_text.proofs.Naming.{entries-front, fault-as}
+use Rattle.fst_text.proofs.Naming.{entries-behind, entries-front, fault-as}
 
 -- what is read of a state is of the one that stands there
 state-there : {V : Type 0} (states : List (State V)) (q : ℕ) (arcs : List (Arc V ℕ)) → option_map (λ s. s.arcs) (slice_get states q) ≡ Some arcs → (s : State V) × (slice_get states q ≡ Some s) × (s.arcs ≡ arcs)
@@ -83,6 +83,23 @@ others-pushed value kind options start q states old out more low e h =
     let behind = other_entries start (q + 1) (map (valued_state value) (drop (q + 1) states)) in
     texts-append kind options out more (more ++ text behind) first behind e refl ∙ ap (λ (es : List Entry). out ++ text es) (sym (others-step value start q states low)) ∙ h
 
+-- what the lines of the next state leave
+module _ {V : Type 0} (value : V → Cost) (options : Options) (start q : ℕ) (states : List (State V)) (low : q < length states) where
+  abbrev next : List Entry
+  next = cond (q == start) [] (entries_at q (map (valued_state value) states))
+
+  abbrev left : ℕ → List Entry
+  left k = other_entries start k (map (valued_state value) (drop k states))
+
+  splits : unnamed_label options (next ++ left (q + 1)) ≡ unnamed_label options (left q)
+  splits = ap (unnamed_label options) (sym (others-step value start q states low))
+
+  pub others-named : {all : Option ℕ} → unnamed_label options next ≡ None → unnamed_label options (left q) ≡ all → unnamed_label options (left (q + 1)) ≡ all
+  others-named named h = sym (entries-behind options next (left (q + 1)) named) ∙ splits ∙ h
+
+  pub others-fault : {all : Option ℕ} {fault : PrintFault} → option_map UnknownSymbol (unnamed_label options next) ≡ Some fault → unnamed_label options (left q) ≡ all → option_map UnknownSymbol all ≡ Some fault
+  others-fault {all} {fault} unnamed h = fault-as fault (unnamed_label options (next ++ left (q + 1))) all (splits ∙ h) (entries-front fault options next (left (q + 1)) unnamed)
+
 -- a final entry has no labels
 pub final-unnamed : (options : Options) (state : ℕ) (w : Cost) (arcs : List (Arc Cost ℕ)) → unnamed_label options (final_entries state w arcs) ≡ None
 final-unnamed options state w [] = refl
@@ -114,3 +131,17 @@ few-arcs {V} states q arcs h few =
     let count : length (get_or states q s).arcs ≡ length arcs = ap (λ (t : State V). length t.arcs) at ∙ ap length there.2 in
     let sum = get_or-le-sum_by (λ (t : State V). length t.arcs) states q s within in
     omega arith
+
+-- the lines of a state are those of its arcs, and then that of its final weight
+module _ {V : Type 0} (value : V → Cost) (options : Options) (states : List (State V)) (q : ℕ) (arcs : List (Arc V ℕ)) (w : V) (has : option_map (λ s. s.arcs) (slice_get states q) ≡ Some arcs) (ends : option_map (λ s. s.final) (slice_get states q) ≡ Some w) where
+  abbrev front : List Entry
+  front = map (arc_entry q) (map (valued_arc value) arcs)
+
+  abbrev last : List Entry
+  last = final_entries q (value w) (map (valued_arc value) arcs)
+
+  pub state-pushed : (kind : ArcType) (old a b : List ℕ) → a ≡ old ++ text_of_entries kind options front → b ≡ a ++ text_of_entries kind options last → b ≡ old ++ text_of_entries kind options (entries_at q (map (valued_state value) states))
+  state-pushed kind old a b first second = texts-append kind options old a b front last first second ∙ ap (λ (es : List Entry). old ++ text_of_entries kind options es) (sym (entries-read value states q arcs w has ends))
+
+  pub state-named : unnamed_label options front ≡ None → unnamed_label options (entries_at q (map (valued_state value) states)) ≡ None
+  state-named named = ap (unnamed_label options) (entries-read value states q arcs w has ends) ∙ entries-behind options front last named ∙ final-unnamed options q (value w) (map (valued_arc value) arcs)

@@ -1,30 +1,26 @@
-use Rattle.std.proofs.Common.{false, ◌≤◌, sym, subst, ◌∙◌}
-use Rattle.fst_machine.specs.Machine.{most_arcs, most_states, valued}
-use Rattle.fst_rational.specs.Constructions.{star_of}
+use Rattle.std.proofs.Common.{false, sym, subst, ◌∙◌}
+use Rattle.fst_machine.specs.Machine.{valued}
 use Rattle.fst_rational.specs.Relations.{Closes}
 use Rattle.fst_machine.proofs.Valued.{IsMachine-valued}
-use Rattle.fst_rational.proofs.Sizes.{limited_memory, limited_ok, limited_refused, size_fits}
+use Rattle.fst_rational.proofs.Sizes.{fits, limited_memory, limited_ok, limited_refused}
 use Rattle.fst_rational.proofs.Closing.{closure-Closes}
 use Rattle.fst_rational.proofs.close.close_star.Goals as goal
 
 pub returns-in-Some-clause-limits : goal.returns-in-Some-clause-limits
-returns-in-Some-clause-limits g c = limited_refused (star_of g.W.Weight.KIND (valued g.W.Weight.value c.args.a.now)) c.star_size-states.result.0 c.star_size-states.result.1 c.star_size-states.ensures.states c.star_size-states.ensures.arcs c.in-Some.fault (sym c.check_size.ensures ∙ c.in-Some.is)
+returns-in-Some-clause-limits g c = limited_refused c.star_size-needed.ensures.size (c.check_size.ensures ∙ c.in-Some.is)
 
-pub build_star-requires-clause-states : goal.build_star-requires-clause-states
-build_star-requires-clause-states g c = subst (λ n. n ≤ most_states) c.star_size-states.ensures.states (size_fits c.star_size-states.result.0 c.star_size-states.result.1 (sym c.check_size.ensures ∙ c.in_default.is)).0
-
-pub build_star-requires-clause-arcs : goal.build_star-requires-clause-arcs
-build_star-requires-clause-arcs g c = subst (λ n. n ≤ most_arcs) c.star_size-states.ensures.arcs (size_fits c.star_size-states.result.0 c.star_size-states.result.1 (sym c.check_size.ensures ∙ c.in_default.is)).1
+pub build_star-requires : goal.build_star-requires
+build_star-requires g c = fits c.star_size-needed.ensures.size (c.check_size.ensures ∙ c.in_default.is)
 
 pub returns-in-Ok-clause-limits : goal.returns-in-Ok-clause-limits
-returns-in-Ok-clause-limits g c = limited_ok (star_of g.W.Weight.KIND (valued g.W.Weight.value c.args.a.now)) c.star_size-states.result.0 c.star_size-states.result.1 c.star_size-states.ensures.states c.star_size-states.ensures.arcs c.in-Ok.closed (sym c.check_size.ensures ∙ c.in_default.is)
+returns-in-Ok-clause-limits g c = limited_ok c.star_size-needed.ensures.size (c.check_size.ensures ∙ c.in_default.is)
 
 pub returns-in-Ok-clause-relation : goal.returns-in-Ok-clause-relation
 returns-in-Ok-clause-relation g c =
     let value = g.W.Weight.value in
     let kind = g.W.Weight.KIND in
     let a = valued value c.args.a.now in
-    subst (λ m. Closes kind false a m) (sym c.in-Ok.ensures) (closure-Closes kind a (IsMachine-valued value c.args.a.now c.star_size-states.ensures.operand) false)
+    subst (λ m. Closes kind false a m) (sym c.in-Ok.ensures) (closure-Closes kind a (IsMachine-valued value c.args.a.now c.star_size-needed.ensures.operand) false)
 
 pub returns-in-Err-clause-limits : goal.returns-in-Err-clause-limits
-returns-in-Err-clause-limits g c = limited_memory (star_of g.W.Weight.KIND (valued g.W.Weight.value c.args.a.now)) c.star_size-states.result.0 c.star_size-states.result.1 c.star_size-states.ensures.states c.star_size-states.ensures.arcs (sym c.check_size.ensures ∙ c.in_default.is)
+returns-in-Err-clause-limits g c = limited_memory c.star_size-needed.ensures.size (c.check_size.ensures ∙ c.in_default.is)

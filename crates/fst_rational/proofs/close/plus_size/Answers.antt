@@ -2,8 +2,5 @@ use Rattle.std.proofs.Common.{refl}
 use Rattle.fst_rational.proofs.Closing.{plus_counted}
 use Rattle.fst_rational.proofs.close.plus_size.Goals as goal
 
-pub returns-clause-states : goal.returns-clause-states
-returns-clause-states g c = (plus_counted g.W.Weight.value c.args.a.now _ _ c.arc_count.result c.count_onward.result c.start.result c.states-states.ensures.value c.arc_count.ensures c.start.ensures.value c.count_onward.ensures.count refl).0
-
-pub returns-clause-arcs : goal.returns-clause-arcs
-returns-clause-arcs g c = (plus_counted g.W.Weight.value c.args.a.now _ _ c.arc_count.result c.count_onward.result c.start.result c.states-states.ensures.value c.arc_count.ensures c.start.ensures.value c.count_onward.ensures.count refl).1
+pub returns-clause-size : goal.returns-clause-size
+returns-clause-size g c = plus_counted g.W.Weight.value c.args.a.now _ _ c.arc_count.result c.count_onward.result c.start.result c.states-states.ensures.value c.arc_count.ensures c.start.ensures.value c.count_onward.ensures.count refl

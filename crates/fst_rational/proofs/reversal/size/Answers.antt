@@ -5,16 +5,12 @@ use Rattle.fst_machine.proofs.Valued.{IsMachine-valued, arc_total-valued}
 use Rattle.fst_rational.proofs.Backing.{reverse_size}
 use Rattle.fst_rational.proofs.reversal.size.Goals as goal
 
-pub returns-clause-states : goal.returns-clause-states
-returns-clause-states g c =
+pub returns-clause-size : goal.returns-clause-size
+returns-clause-size g c =
     let value = g.W.Weight.value in
     let a = valued value c.args.a.now in
-    let all = (reverse_size g.W.Weight.KIND a (IsMachine-valued value c.args.a.now c.states-states.ensures.machine)).0 in
-    omega (arith, all, length-map c.args.a.now.states (valued_state value), c.states-states.ensures.value)
-
-pub returns-clause-arcs : goal.returns-clause-arcs
-returns-clause-arcs g c =
-    let value = g.W.Weight.value in
-    let a = valued value c.args.a.now in
-    let all = (reverse_size g.W.Weight.KIND a (IsMachine-valued value c.args.a.now c.states-states.ensures.machine)).1 in
-    omega (arith, all, arc_total-valued value c.args.a.now.states, c.arc_count.ensures, c.count_onward.ensures.count)
+    let all = reverse_size g.W.Weight.KIND a (IsMachine-valued value c.args.a.now c.states-states.ensures.machine) in
+    record {
+      states = omega (arith, all.0, length-map c.args.a.now.states (valued_state value), c.states-states.ensures.value);
+      arcs = omega (arith, all.1, arc_total-valued value c.args.a.now.states, c.arc_count.ensures, c.count_onward.ensures.count);
+    }

@@ -1,23 +1,19 @@
-use Rattle.std.proofs.Common.{◌≤◌, sym, subst, ◌∙◌}
-use Rattle.fst_machine.specs.Machine.{most_arcs, most_states, valued}
-use Rattle.fst_rational.specs.Constructions.{union_of}
+use Rattle.std.proofs.Common.{sym, subst, ◌∙◌}
+use Rattle.fst_machine.specs.Machine.{valued}
 use Rattle.fst_rational.specs.Relations.{Unites}
 use Rattle.fst_machine.proofs.Valued.{IsMachine-valued}
-use Rattle.fst_rational.proofs.Sizes.{limited_memory, limited_ok, limited_refused, size_fits}
+use Rattle.fst_rational.proofs.Sizes.{fits, limited_memory, limited_ok, limited_refused}
 use Rattle.fst_rational.proofs.Uniting.{union-Unites}
 use Rattle.fst_rational.proofs.unite.union.Goals as goal
 
 pub returns-in-Some-clause-limits : goal.returns-in-Some-clause-limits
-returns-in-Some-clause-limits g c = limited_refused (union_of g.W.Weight.KIND (valued g.W.Weight.value c.args.a.now) (valued g.W.Weight.value c.args.b.now)) c.size-states.result.0 c.size-states.result.1 c.size-states.ensures.states c.size-states.ensures.arcs c.in-Some.fault (sym c.check_size.ensures ∙ c.in-Some.is)
+returns-in-Some-clause-limits g c = limited_refused c.size-needed.ensures.size (c.check_size.ensures ∙ c.in-Some.is)
 
-pub build-requires-clause-states : goal.build-requires-clause-states
-build-requires-clause-states g c = subst (λ n. n ≤ most_states) c.size-states.ensures.states (size_fits c.size-states.result.0 c.size-states.result.1 (sym c.check_size.ensures ∙ c.in_default.is)).0
-
-pub build-requires-clause-arcs : goal.build-requires-clause-arcs
-build-requires-clause-arcs g c = subst (λ n. n ≤ most_arcs) c.size-states.ensures.arcs (size_fits c.size-states.result.0 c.size-states.result.1 (sym c.check_size.ensures ∙ c.in_default.is)).1
+pub build-requires : goal.build-requires
+build-requires g c = fits c.size-needed.ensures.size (c.check_size.ensures ∙ c.in_default.is)
 
 pub returns-in-Ok-clause-limits : goal.returns-in-Ok-clause-limits
-returns-in-Ok-clause-limits g c = limited_ok (union_of g.W.Weight.KIND (valued g.W.Weight.value c.args.a.now) (valued g.W.Weight.value c.args.b.now)) c.size-states.result.0 c.size-states.result.1 c.size-states.ensures.states c.size-states.ensures.arcs c.in-Ok.union (sym c.check_size.ensures ∙ c.in_default.is)
+returns-in-Ok-clause-limits g c = limited_ok c.size-needed.ensures.size (c.check_size.ensures ∙ c.in_default.is)
 
 pub returns-in-Ok-clause-relation : goal.returns-in-Ok-clause-relation
 returns-in-Ok-clause-relation g c =
@@ -25,7 +21,7 @@ returns-in-Ok-clause-relation g c =
     let kind = g.W.Weight.KIND in
     let a = valued value c.args.a.now in
     let b = valued value c.args.b.now in
-    subst (λ m. Unites kind a b m) (sym c.in-Ok.ensures) (union-Unites kind a b (IsMachine-valued value c.args.a.now c.size-states.ensures.operands.0) (IsMachine-valued value c.args.b.now c.size-states.ensures.operands.1))
+    subst (λ m. Unites kind a b m) (sym c.in-Ok.ensures) (union-Unites kind a b (IsMachine-valued value c.args.a.now c.size-needed.ensures.operands.0) (IsMachine-valued value c.args.b.now c.size-needed.ensures.operands.1))
 
 pub returns-in-Err-clause-limits : goal.returns-in-Err-clause-limits
-returns-in-Err-clause-limits g c = limited_memory (union_of g.W.Weight.KIND (valued g.W.Weight.value c.args.a.now) (valued g.W.Weight.value c.args.b.now)) c.size-states.result.0 c.size-states.result.1 c.size-states.ensures.states c.size-states.ensures.arcs (sym c.check_size.ensures ∙ c.in_default.is)
+returns-in-Err-clause-limits g c = limited_memory c.size-needed.ensures.size (c.check_size.ensures ∙ c.in_default.is)

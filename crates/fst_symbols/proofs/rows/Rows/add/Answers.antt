@@ -1,56 +1,40 @@
-use Rattle.std.proofs.Common.{◌≡◌, ◌≤◌, ◌∙◌, ◌++◌, ◌∷◌, [], suc, List, ℕ, ap, sym, subst, is_some, Some, None, Ok, true, length, arith}
-use Rattle.std.specs.Map.{lookup}
-use Rattle.std.specs.Str.{bytes_eq}
+use Rattle.std.proofs.Common.{◌≡◌, ◌≤◌, ◌∙◌, suc, List, ap, sym, subst, is_some, Some, None, Ok, true, length, arith}
 use Rattle.std.proofs.lemmas.List.{length_push}
-use Rattle.indexmap.proofs.CallerLemmas.{insert_entry-new}
-use Rattle.fst_symbols.specs.Symbols.{IsTable, Symbol, name_of, number_of}
+use Rattle.fst_symbols.specs.Symbols.{IsTable, Symbol, name_of}
 use Rattle.fst_symbols.specs.Kept.{rank_in, ranked_name, symbols_of}
-use Rattle.fst_symbols.proofs.Tables.{length-symbols_of, number_of-lookup, ranked_name-there, symbols_of-push, with_symbol-name, with_symbol-number, with_symbol-both, IsTable-push, named-push, within-push}
+use Rattle.fst_symbols.proofs.Tables.{entries_more, length-symbols_of, looked_for, number_free, ranked_name-there, symbols_of-push, with_symbol-name, with_symbol-number, with_symbol-both, IsTable-push, named-push, within-push}
 use Rattle.fst_symbols.proofs.rows.Rows.add.Goals as goal
 
 pub returns-in-Ok-Some-clause-added : goal.returns-in-Ok-Some-clause-added
 returns-in-Ok-Some-clause-added c =
     let es = c.args.self.now.numbers.entries in
-    let there : number_of (symbols_of es) c.args.name.now ≡ Some c.in-Ok-Some.field-0-0 =
-    sym (number_of-lookup es c.args.name.now) ∙ ap (λ (k : List ℕ). lookup (bytes_eq k) es) (sym c.in_ok-new.ensures) ∙ sym c.in-Ok-Some.ensures.old ∙ c.in-Ok-Some.field-0-is in
+    let there = looked_for es c.in_ok-new.field-0 c.args.name.now _ (Some c.in-Ok-Some.field-0-0) c.in_ok-new.ensures c.in-Ok-Some.ensures.old c.in-Ok-Some.field-0-is in
     with_symbol-name c.args.line (symbols_of es) c.args.name.now c.args.number c.in-Ok-Some.field-0-0 there
 
 pub returns-then-branch-ne0-clause-added : goal.returns-then-branch-ne0-clause-added
 returns-then-branch-ne0-clause-added c =
     let es = c.args.self.now.numbers.entries in
     let rank = rank_in c.args.self.now.places c.args.number in
-    let none : number_of (symbols_of es) c.args.name.now ≡ None =
-    sym (number_of-lookup es c.args.name.now) ∙ ap (λ (k : List ℕ). lookup (bytes_eq k) es) (sym c.in_ok-new.ensures) ∙ sym c.in-Ok-None.ensures.old ∙ c.in-Ok-None.field-0-is in
+    let none = looked_for c.args.self.now.numbers.entries c.in_ok-new.field-0 c.args.name.now _ None c.in_ok-new.ensures c.in-Ok-None.ensures.old c.in-Ok-None.field-0-is in
     let there : is_some (ranked_name (symbols_of es) rank) ≡ true = ranked_name-there (symbols_of es) rank (c.requires.kept.within c.args.number) (λ e. c.if-branch-ne0.true (c.in_ok-put.ensures.before ∙ e)) in
     with_symbol-number c.args.line (symbols_of es) c.args.name.now c.args.number none (ap is_some (sym (c.requires.kept.named c.args.number)) ∙ there)
 
 pub returns-clause-added : goal.returns-clause-added
 returns-clause-added c =
     let es = c.args.self.now.numbers.entries in
-    let name = c.args.name.now in
-    let absent : lookup (bytes_eq c.in_ok-new.field-0) es ≡ None = sym c.in-Ok-None.ensures.old ∙ c.in-Ok-None.field-0-is in
-    let none : number_of (symbols_of es) name ≡ None =
-    sym (number_of-lookup es name) ∙ ap (λ (k : List ℕ). lookup (bytes_eq k) es) (sym c.in_ok-new.ensures) ∙ absent in
-    let free : name_of (symbols_of es) c.args.number ≡ None =
-    sym (c.requires.kept.named c.args.number) ∙ ap (ranked_name (symbols_of es)) (sym c.in_ok-put.ensures.before ∙ c.if-branch-ne0.false) in
-    let more : c.insert.new.self.entries ≡ es ++ (name, c.args.number) ∷ [] =
-    c.in-Ok-None.ensures.entries ∙ insert_entry-new bytes_eq c.args.self.now.numbers c.in_ok-new.field-0 c.args.number absent
-    ∙ ap (λ (k : List ℕ). es ++ (k, c.args.number) ∷ []) c.in_ok-new.ensures in
-    with_symbol-both c.args.line (symbols_of es) name c.args.number none free ∙ ap Ok (sym (symbols_of-push es c.insert.new.self.entries name c.args.number more))
+    let none = looked_for c.args.self.now.numbers.entries c.in_ok-new.field-0 c.args.name.now _ None c.in_ok-new.ensures c.in-Ok-None.ensures.old c.in-Ok-None.field-0-is in
+    let free = number_free (symbols_of c.args.self.now.numbers.entries) c.args.number (rank_in c.args.self.now.places c.args.number) _ (c.requires.kept.named c.args.number) c.in_ok-put.ensures.before c.if-branch-ne0.false in
+    let more = entries_more c.args.self.now.numbers c.in_ok-new.field-0 c.args.name.now c.args.number _ c.insert.new.self.entries c.in_ok-new.ensures c.in-Ok-None.ensures.old c.in-Ok-None.field-0-is c.in-Ok-None.ensures.entries in
+    with_symbol-both c.args.line (symbols_of es) c.args.name.now c.args.number none free ∙ ap Ok (sym (symbols_of-push es c.insert.new.self.entries c.args.name.now c.args.number more))
 
 pub returns-clause-kept : goal.returns-clause-kept
 returns-clause-kept c =
     let es = c.args.self.now.numbers.entries in
     let name = c.args.name.now in
     let s : Symbol = record { name = name; number = c.args.number } in
-    let absent : lookup (bytes_eq c.in_ok-new.field-0) es ≡ None = sym c.in-Ok-None.ensures.old ∙ c.in-Ok-None.field-0-is in
-    let none : number_of (symbols_of es) name ≡ None =
-    sym (number_of-lookup es name) ∙ ap (λ (k : List ℕ). lookup (bytes_eq k) es) (sym c.in_ok-new.ensures) ∙ absent in
-    let free : name_of (symbols_of es) c.args.number ≡ None =
-    sym (c.requires.kept.named c.args.number) ∙ ap (ranked_name (symbols_of es)) (sym c.in_ok-put.ensures.before ∙ c.if-branch-ne0.false) in
-    let more : c.insert.new.self.entries ≡ es ++ (name, c.args.number) ∷ [] =
-    c.in-Ok-None.ensures.entries ∙ insert_entry-new bytes_eq c.args.self.now.numbers c.in_ok-new.field-0 c.args.number absent
-    ∙ ap (λ (k : List ℕ). es ++ (k, c.args.number) ∷ []) c.in_ok-new.ensures in
+    let none = looked_for c.args.self.now.numbers.entries c.in_ok-new.field-0 c.args.name.now _ None c.in_ok-new.ensures c.in-Ok-None.ensures.old c.in-Ok-None.field-0-is in
+    let free = number_free (symbols_of c.args.self.now.numbers.entries) c.args.number (rank_in c.args.self.now.places c.args.number) _ (c.requires.kept.named c.args.number) c.in_ok-put.ensures.before c.if-branch-ne0.false in
+    let more = entries_more c.args.self.now.numbers c.in_ok-new.field-0 c.args.name.now c.args.number _ c.insert.new.self.entries c.in_ok-new.ensures c.in-Ok-None.ensures.old c.in-Ok-None.field-0-is c.in-Ok-None.ensures.entries in
     let symbols = sym (symbols_of-push es c.insert.new.self.entries name c.args.number more) in
     let last : c.in-Ok.rank ≡ suc (length (symbols_of es)) =
     omega (arith, c.in-Ok.ensures.1, c.len.ensures.len, ap length more, length_push es (name, c.args.number), length-symbols_of es) in
