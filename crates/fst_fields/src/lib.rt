@@ -8,7 +8,9 @@
 mod decimal;
 mod laws;
 mod lines;
+mod list;
 
 pub use decimal::{MOST_LABEL, read_decimal, read_label};
 pub use laws::printed_decimal_reads_again;
 pub use lines::{next_field, next_line, read_row};
+pub use list::List;
