@@ -1,6 +1,6 @@
 use Rattle.std.proofs.Common.{List, ℕ, length, sym, subst, arith}
 use Rattle.fst_machine.specs.Machine.{valued}
-use Rattle.fst_machine.specs.Graph.{graph_of, nexts}
+use Rattle.fst_machine.specs.Graph.{graph_of}
 use Rattle.fst_machine.specs.BreadthFirst.{Grows}
 use Rattle.fst_machine.proofs.Walking.{taken_within, marked_goes_on, marked_few, graph_nexts, nexts_within}
 use Rattle.fst_machine.proofs.breadth_first.walk.Goals as goal
