@@ -5,20 +5,9 @@ ghost use Rattle.fst_bytes.specs.Spelling.{long, signed, text, word};
 ghost use Rattle.fst_semiring.specs.Names.{name_of};
 
 use byteorder::{ByteOrder, LittleEndian};
+use fst_fields::append;
 use fst_semiring::ArcType;
 use std::alloc::AllocError;
-
-/// Appends bytes where there is room.
-pub fn append(out: &mut Vec<u8>, bytes: &[u8])
-    requires { length out.old.items + length bytes.now ≤ vec_capacity out.old }
-    ensures items { out.new.items ≡ out.old.items ++ bytes.now }
-    ensures len { length out.new.items ≡ length out.old.items + length bytes.now }
-    ensures room { vec_capacity out.old ≤ vec_capacity out.new }
-{
-    let Ok(()) = out.extend_from_slice(bytes) else {
-        unreachable!()
-    };
-}
 
 /// Appends a number in four bytes where there is room.
 #[tactic(auto, unfolding(crate::specs::Spelling::word))]
@@ -47,16 +36,14 @@ pub fn append_long(out: &mut Vec<u8>, number: u64)
 }
 
 /// Appends a number with a sign in eight bytes where there is room.
-#[tactic(auto, unfolding(crate::specs::Spelling::signed))]
+#[tactic(auto, unfolding(crate::specs::Spelling::signed, crate::specs::Spelling::long))]
 pub fn append_signed(out: &mut Vec<u8>, number: i64)
     requires { length out.old.items + 8 ≤ vec_capacity out.old }
     ensures items { out.new.items ≡ out.old.items ++ signed number }
     ensures len { length out.new.items ≡ length out.old.items + 8 }
     ensures room { vec_capacity out.old ≤ vec_capacity out.new }
 {
-    let mut bytes = [0; 8];
-    LittleEndian::write_i64(&mut bytes, number);
-    append(out, &bytes);
+    append_long(out, number.cast_unsigned());
 }
 
 /// Appends a text after its length where there is room.

@@ -14,10 +14,11 @@ mod room;
 mod weight_field;
 
 pub use appending::{
-    append, append_arc_type, append_long, append_signed, append_text, append_word, push_arc_type,
+    append_arc_type, append_long, append_signed, append_text, append_word, push_arc_type,
     push_long, push_word,
 };
 pub use fault::{FileFault, Stopped, WeightFieldFault, expect_end, fault_at, short_of};
+pub use fst_fields::append;
 pub use name::read_arc_type;
 pub use number::{expect_word, read_bytes, read_count, read_label, read_long, read_word};
 pub use room::most_that_fit;

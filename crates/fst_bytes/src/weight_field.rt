@@ -9,9 +9,10 @@ ghost use Rattle.fst_semiring.specs.Keys.{key_of};
 ghost use Rattle.fst_bytes.specs.Spelling.{HasField, weight_field};
 ghost use Rattle.fst_bytes.specs.Reading.{cost_of_numbers, file_weight_at, has_best, integer_at, integers_at, is_small, non_zero_weight_at, number_count, numbers_at, weight_at};
 
-use crate::appending::{append, append_signed};
+use crate::appending::append_signed;
 use crate::fault::{FileFault, WeightFieldFault, fault_at, short_of};
 use byteorder::{ByteOrder, LittleEndian};
+use fst_fields::append;
 use fst_semiring::{ArcType, Key, LIMIT, Weight, is_zero};
 use std::alloc::AllocError;
 

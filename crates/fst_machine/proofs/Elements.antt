@@ -1,5 +1,7 @@
 -- What stands in a list, and lists in which nothing stands twice.
-use Rattle.std.proofs.Common.{◌≡◌, ◌⊎◌, inl, inr, ℕ, ◌<◌, ◌≤◌, zero, suc, List, [], ◌∷◌, ◌++◌, Some, length, slice_get, sym, refl, ap, subst, arith}
+use Rattle.std.proofs.Common.{◌≡◌, ◌⊎◌, inl, inr, ℕ, ◌<◌, ◌≤◌, ◌||◌, Bool, true, false, true≢false, zero, suc, List, [], ◌∷◌, ◌++◌, Some, length, slice_get, sym, refl, ap, subst, arith}
+use Rattle.std.specs.Bool.{Decides}
+use Rattle.std.specs.List.{list_any}
 use Rattle.std.proofs.lemmas.List.{length-append}
 use Rattle.std.proofs.lemmas.Bool.{cases_eq}
 use Rattle.fst_machine.specs.BreadthFirst.{Has, Apart}
@@ -21,6 +23,25 @@ Has-append_cases {X} (z ∷ xs) ys x (inr h) = by_rest (Has-append_cases xs ys x
     by_rest : Has xs x ⊎ Has ys x → Has (z ∷ xs) x ⊎ Has ys x
     by_rest (inl r) = inl (inr r)
     by_rest (inr r) = inr r
+
+-- what stands in the list, as a test of equality finds it
+module _ {X : Type 0} (eq : X → X → Bool) (same : (x y : X) → Decides (eq x y) (x ≡ y)) where
+  pub Has-any : (xs : List X) (x : X) → Has xs x → list_any (eq x) xs ≡ true
+  Has-any [] x h = absurd h
+  Has-any (z ∷ xs) x (inl e) = ap (λ b. b || list_any (eq x) xs) ((same x z).1 (sym e))
+  Has-any (z ∷ xs) x (inr h) = by (eq x z) (Has-any xs x h)
+    where
+      by : (b : Bool) → list_any (eq x) xs ≡ true → (b || list_any (eq x) xs) ≡ true
+      by true e = refl
+      by false e = e
+
+  pub any-Has : (xs : List X) (x : X) → list_any (eq x) xs ≡ true → Has xs x
+  any-Has [] x e = absurd (true≢false (sym e))
+  any-Has (z ∷ xs) x e = by (eq x z) refl e (any-Has xs x)
+    where
+      by : (b : Bool) → eq x z ≡ b → (b || list_any (eq x) xs) ≡ true → (list_any (eq x) xs ≡ true → Has xs x) → Has (z ∷ xs) x
+      by true here e more = inl (sym ((same x z).0 here))
+      by false there e more = inr (more e)
 
 -- what is in a place stands in the list
 pub at_Has : {X : Type 0} (xs : List X) (k : ℕ) (x : X) → slice_get xs k ≡ Some x → Has xs x

@@ -6,15 +6,15 @@ use Rattle.std.specs.Option.{option_map}
 use Rattle.std.proofs.lemmas.Bool.{cases_lt, cases_eq}
 use Rattle.std.proofs.lemmas.Grind.{flat_map-append}
 use Rattle.std.proofs.lemmas.List.{get_or-set_same, get_or-set_other, get_or_past, take-append-le, take_more, map_more, length-append}
-use Rattle.std.proofs.lemmas.Option.{slice_get-map, get_or_from_slice_get, slice_get_within}
+use Rattle.std.proofs.lemmas.Option.{slice_get-map, slice_get_read, get_or_from_slice_get, slice_get_within}
 use Rattle.fst_semiring.specs.Cost.{Cost}
 use Rattle.fst_machine.specs.Machine.{Arc, State, Machine, IsArc, IsMachine, valued, valued_arc, valued_state}
 use Rattle.fst_machine.specs.Graph.{Graph, graph_of, nexts, no_state}
 use Rattle.fst_machine.specs.BreadthFirst.{Has, Apart, Grows, After, IsWalked}
 use Rattle.fst_machine.specs.Marks.{Marks}
-use Rattle.fst_machine.specs.Walking.{IsWalking}
+use Rattle.fst_machine.specs.Walking.{IsMarkedWalk, IsWalking}
 use Rattle.fst_machine.proofs.Arcs.{mapped_some}
-use Rattle.fst_machine.proofs.Elements.{Has-append_left, Has-append_right, Has-append_cases, Apart_below}
+use Rattle.fst_machine.proofs.Elements.{at_Has, Has-append_left, Has-append_right, Has-append_cases, Apart_below}
 use Rattle.fst_machine.proofs.Walks.{Grows-then, Grows-front, Grows-Apart}
 use Rattle.fst_machine.proofs.Pairs.{arrivals}
 
@@ -40,6 +40,13 @@ found_within seen names i marks h = by_place (cases_lt i (length seen))
     by_place : (i < length seen) ⊎ (length seen ≤ i) → i < length seen
     by_place (inl low) = low
     by_place (inr past) = absurd (let wrong : false ≡ true = sym (get_or_past seen i false past) ∙ (marks i).1 h in cc)
+
+-- a number that is taken from those that were found stands there, and is one of those that there are
+pub taken_within : (seen : List Bool) (names : List ℕ) (count taken n : ℕ) → Marks seen names → length seen ≡ count → taken < length names → n ≡ get_or names taken n → (slice_get names taken ≡ Some n) × (n < count)
+taken_within seen names count taken n marks size low is =
+    let there : slice_get names taken ≡ Some n = slice_get_read names (length names) taken n refl low is in
+    let marked = found_within seen names n marks (at_Has names taken n there) in
+    (there, omega (arith, marked, size))
 
 -- no marks, no numbers
 pub Marks-none : (seen : List Bool) → ((i : ℕ) → get_or seen i false ≡ false) → Marks seen []
@@ -104,6 +111,18 @@ grows_more next old names new xs i x low at grown grows =
 -- different states are no more than there are
 pub walking_few : (g : Graph ℕ) (start : ℕ) (seen : List Bool) (names : List ℕ) (taken : ℕ) → IsWalking g start names taken → Marks seen names → length names ≤ length seen
 walking_few g start seen names taken w marks = Apart_below (length seen) names (walking_apart g start names taken w) (λ k h. found_within seen names k marks h)
+
+-- a walk that marks what it finds follows the arcs of one more
+pub marked_goes_on : (g : Graph ℕ) (start : ℕ) (seen marked : List Bool) (names new : List ℕ) (taken n count : ℕ) → IsMarkedWalk g start seen names taken count → slice_get names taken ≡ Some n → Grows names (nexts (g.arcs n)) new → Marks marked new → length marked ≡ length seen → IsMarkedWalk g start marked new (taken + 1) count
+marked_goes_on g start seen marked names new taken n count w at grows marks size = record {
+  walking = walking_goes_on g start names new taken n w.walking at grows;
+  marks = marks;
+  size = size ∙ w.size;
+}
+
+-- it finds no more than there are
+pub marked_few : (g : Graph ℕ) (start : ℕ) (seen : List Bool) (names : List ℕ) (taken count : ℕ) → IsMarkedWalk g start seen names taken count → length names ≤ count
+marked_few g start seen names taken count w = let few = walking_few g start seen names taken w.walking w.marks in omega (arith, few, w.size)
 
 module _ {V : Type 0} (value : V → Cost) (m : Machine V) where
   -- the arcs of a state, as the graph of the machine's values has them

@@ -12,7 +12,7 @@ mod state_list;
 
 use fst_semiring::Weight;
 pub use state_list::StateList;
-use std::alloc::{AllocError, AllocFailed, Global};
+use std::alloc::{AllocError, Global};
 use std::marker::Model;
 
 /// The greatest number of states of a machine.
@@ -39,17 +39,6 @@ impl From<AllocError> for GrowFault {
     ghost from_gives = { λ _ e. e ≡ faults.Memory };
 
     fn from(_e: AllocError) -> GrowFault {
-        GrowFault::Memory
-    }
-}
-
-impl<T: Drop> From<AllocFailed<T>> for GrowFault {
-    ghost use Rattle.std.specs.Prelude.{◌≡◌};
-    ghost use Rattle.fst_machine.specs.declared.fst.GrowFault.TheVariants as faults;
-
-    ghost from_gives = { λ _ e. e ≡ faults.Memory };
-
-    fn from(_e: AllocFailed<T>) -> GrowFault {
         GrowFault::Memory
     }
 }

@@ -61,7 +61,9 @@ impl<V: Copy> Kept<V> {
             return Err(GrowFault::TooManyStates);
         }
         let alloc = *self.slots.allocator();
-        self.slots.push(Slot::new(alloc, last))?;
+        let Ok(()) = self.slots.push(Slot::new(alloc, last)) else {
+            return Err(GrowFault::Memory);
+        };
         Ok(number as u32)
     }
 

@@ -66,14 +66,15 @@ plus_same a = by_order (cost_cmp a a)
     by_order Equal = refl
     by_order Greater = refl
 
+-- the better and the worse of two are one of them
+picks : (o : Ordering) (a b : Cost) → ((ranked o a b ≡ a) ⊎ (ranked o a b ≡ b)) × ((ranked o b a ≡ a) ⊎ (ranked o b a ≡ b))
+picks Less a b = (inl refl, inr refl)
+picks Equal a b = (inl refl, inr refl)
+picks Greater a b = (inr refl, inl refl)
+
 -- Plus is one of the two: the path property
 pub plus_picks : (a b : Cost) → (plus a b ≡ a) ⊎ (plus a b ≡ b)
-plus_picks a b = by_order (cost_cmp a b)
-  where
-    by_order : (o : Ordering) → (ranked o a b ≡ a) ⊎ (ranked o a b ≡ b)
-    by_order Less = inl refl
-    by_order Equal = inl refl
-    by_order Greater = inr refl
+plus_picks a b = (picks (cost_cmp a b) a b).0
 
 -- Zero is neutral in Plus
 pub plus_infinite : (a : Cost) → plus a infinite ≡ a
@@ -130,9 +131,4 @@ worse_infinite (finite a b) = refl
 worse_infinite infinite = refl
 
 pub worse_picks : (a b : Cost) → (worse a b ≡ a) ⊎ (worse a b ≡ b)
-worse_picks a b = by_order (cost_cmp a b)
-  where
-    by_order : (o : Ordering) → (ranked o b a ≡ a) ⊎ (ranked o b a ≡ b)
-    by_order Less = inr refl
-    by_order Equal = inr refl
-    by_order Greater = inl refl
+worse_picks a b = (picks (cost_cmp a b) a b).1

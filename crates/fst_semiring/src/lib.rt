@@ -11,6 +11,7 @@
 mod arc_type;
 mod boolean;
 mod choice;
+mod extended;
 mod key;
 mod lexicographic;
 mod minmax;

@@ -8,7 +8,7 @@ ghost use Rattle.fst_semiring.specs.Cost.{finite};
 ghost use Rattle.fst_semiring.specs.WeightText.{cost_of_pair, magnitude_of_text, number_of_text};
 ghost use Rattle.fst_semiring.specs.Semiring.{IsSmall, IsWithin};
 
-use fst_fields::read_decimal;
+use fst_fields::{append, read_decimal};
 use itoa::Buffer;
 use std::alloc::AllocError;
 
@@ -110,18 +110,6 @@ pub fn push_number(out: &mut Vec<u8>, number: i64) -> Result<(), AllocError>
 {
     let mut buffer = Buffer::new();
     out.extend_from_slice(buffer.format(number).as_bytes())
-}
-
-/// Appends bytes where there is room.
-fn append(out: &mut Vec<u8>, bytes: &[u8])
-    requires { length out.old.items + length bytes.now ≤ vec_capacity out.old }
-    ensures items { out.new.items ≡ out.old.items ++ bytes.now }
-    ensures len { length out.new.items ≡ length out.old.items + length bytes.now }
-    ensures room { vec_capacity out.old ≤ vec_capacity out.new }
-{
-    let Ok(()) = out.extend_from_slice(bytes) else {
-        unreachable!()
-    };
 }
 
 /// Appends two numbers with a comma between them. An `Err` changes nothing.

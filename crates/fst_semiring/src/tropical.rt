@@ -4,52 +4,52 @@ ghost use Rattle.std.specs.Prelude.{◌≡◌, true, refl};
 ghost use Rattle.fst_semiring.specs.Cost.{Cost};
 
 use crate::arc_type::ArcType;
+use crate::extended::{Extended, WideExtended};
 use crate::key::Key;
-use crate::number::{LIMIT, narrow_number, push_number, read_number};
+use crate::number::{add_wide, subtract_wide};
 use crate::weight::{BadWeight, Weight};
 use std::alloc::AllocError;
 use std::cmp::Ordering;
 use std::marker::Model;
 
-/// A whole number of absolute value at most 10 to the 18, or infinity. It takes 8 bytes: the number past
-/// the limit stands for infinity.
+/// A whole number of absolute value at most 10 to the 18, or infinity. It takes 8 bytes.
 #[derive(Clone, Copy, Debug, PartialEq, Eq)]
 pub struct Tropical {
-    number: i64,
+    number: Extended,
 }
 
 impl Model for Tropical {
-    ghost use Rattle.std.specs.Prelude.{pos, neg_ℤ, ◌≤ℤ◌};
     ghost use Rattle.fst_semiring.specs.Cost.{Cost};
-    ghost use Rattle.fst_semiring.specs.Packed.{cost_below, number_of};
+    ghost use Rattle.fst_semiring.specs.Semiring.{IsCost};
+    ghost use Rattle.fst_semiring.specs.declared.arc_type.ArcType.TheVariants as kinds;
 
     ghost Value = { Cost };
 
-    ghost view = { λ t. cost_below (pos 1000000000000000000) t.number };
+    ghost view = { λ t. t.number };
 
-    ghost invariant = { λ t. (neg_ℤ (pos 1000000000000000000) ≤ℤ t.number) × (t.number ≤ℤ pos 1000000000000000001) };
+    ghost invariant = { λ t. IsCost kinds.Tropical t.number };
 
-    ghost inverse = { λ v. record { number = number_of (pos 1000000000000000001) v } };
+    ghost inverse = { λ v. record { number = v } };
 }
 
-/// A tropical weight with a number of 128 bits. The greatest of these stands for infinity.
+/// A tropical weight with a number of 128 bits.
 #[derive(Clone, Copy, Debug, PartialEq, Eq)]
 pub struct WideTropical {
-    number: i128,
+    number: WideExtended,
 }
 
 impl Model for WideTropical {
-    ghost use Rattle.std.specs.Prelude.{pos, ◌≤ℤ◌};
     ghost use Rattle.fst_semiring.specs.Cost.{Cost};
-    ghost use Rattle.fst_semiring.specs.Packed.{cost_below, number_of};
+    ghost use Rattle.fst_semiring.specs.Semiring.{IsCost};
+    ghost use Rattle.fst_semiring.specs.declared.arc_type.ArcType.TheVariants as kinds;
 
     ghost Value = { Cost };
 
-    ghost view = { λ t. cost_below (pos 170141183460469231731687303715884105726) t.number };
+    ghost view = { λ t. t.number };
 
-    ghost invariant = { λ t. t.number ≤ℤ pos 170141183460469231731687303715884105727 };
+    ghost invariant = { λ t. IsCost kinds.Tropical t.number };
 
-    ghost inverse = { λ v. record { number = number_of (pos 170141183460469231731687303715884105727) v } };
+    ghost inverse = { λ v. record { number = v } };
 }
 
 impl Weight for Tropical {
@@ -70,107 +70,69 @@ impl Weight for Tropical {
     ghost wide_value = { λ t. t };
 
     fn zero() -> Tropical {
-        Tropical { number: LIMIT + 1 }
+        let number = Extended::infinity();
+        Tropical { number }
     }
 
     fn one() -> Tropical {
-        Tropical { number: 0 }
+        let number = Extended::number(0);
+        Tropical { number }
     }
 
     fn widen(self) -> WideTropical {
-        if self.number > LIMIT {
-            WideTropical { number: i128::MAX }
-        } else {
-            WideTropical {
-                number: i128::from(self.number),
-            }
-        }
+        let number = self.number.widen();
+        WideTropical { number }
     }
 
     fn narrow(wide: WideTropical) -> Option<Tropical> {
-        if wide.number == i128::MAX {
-            return Some(Tropical::zero());
-        }
-        let number = narrow_number(wide.number)?;
+        let number = Extended::narrow(wide.number)?;
         Some(Tropical { number })
     }
 
     fn wide_compare(a: WideTropical, b: WideTropical) -> Ordering {
-        a.number.cmp(&b.number)
+        a.number.compare(b.number)
     }
 
     fn wide_times(a: WideTropical, b: WideTropical) -> WideTropical {
-        if a.number == i128::MAX {
-            a
-        } else if b.number == i128::MAX {
-            b
-        } else {
-            WideTropical {
-                number: a.number + b.number,
+        match (a.number.value(), b.number.value()) {
+            (None, _) => a,
+            (_, None) => b,
+            (Some(first), Some(second)) => {
+                let number = WideExtended::number(add_wide(first, second));
+                WideTropical { number }
             }
         }
     }
 
     fn wide_divide(a: WideTropical, by: WideTropical) -> WideTropical {
-        if a.number == i128::MAX {
-            a
-        } else {
-            WideTropical {
-                number: a.number - by.number,
+        match (a.number.value(), by.number.value()) {
+            (Some(first), Some(second)) => {
+                let number = WideExtended::number(subtract_wide(first, second));
+                WideTropical { number }
             }
+            _ => a,
         }
     }
 
     fn key(wide: WideTropical) -> Key {
-        if wide.number == i128::MAX {
-            Key {
-                class: 2,
-                first: 0,
-                second: 0,
-            }
-        } else {
-            Key {
-                class: 1,
-                first: wide.number,
-                second: 0,
-            }
-        }
+        wide.number.key()
     }
 
     fn read_weight(field: &[u8]) -> Result<Tropical, BadWeight> {
-        if field == b"Infinity".as_slice() {
-            return Ok(Tropical::zero());
-        }
-        match read_number(field) {
-            Some(number) => Ok(Tropical { number }),
-            None => Err(BadWeight),
-        }
+        let number = Extended::read(field)?;
+        Ok(Tropical { number })
     }
 
     fn from_key(key: Key) -> Option<Tropical> {
-        match key {
-            Key {
-                class: 2,
-                first: 0,
-                second: 0,
-            } => Some(Tropical::zero()),
-            Key {
-                class: 1,
-                first,
-                second: 0,
-            } => {
-                let number = narrow_number(first)?;
-                Some(Tropical { number })
-            }
-            _ => None,
+        if key.class == 0 {
+            return None;
         }
+        let number = Extended::from_key(key)?;
+        Some(Tropical { number })
     }
 
     fn push_text(self, out: &mut Vec<u8>) -> Result<(), AllocError> {
-        if self.number > LIMIT {
-            return out.extend_from_slice(b"Infinity");
-        }
-        push_number(out, self.number)
+        self.number.push_text(out)
     }
 
     ghost cancels_by_kind = { refl };

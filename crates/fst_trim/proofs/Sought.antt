@@ -1,18 +1,17 @@
 -- Which arc of a list the one in a place among those that lead to kept states is.
-use Rattle.std.proofs.Common.{◌≡◌, ◌⊎◌, inl, inr, ℕ, ◌+◌, ◌<◌, ◌≤◌, zero, suc, List, [], ◌∷◌, Some, length, map, get_or, drop, slice_get, Option, refl, sym, ap, ◌∙◌, subst, arith}
+use Rattle.std.proofs.Common.{◌≡◌, ◌⊎◌, inl, inr, ℕ, ◌+◌, ◌<◌, ◌≤◌, zero, suc, List, [], ◌∷◌, Some, length, map, get_or, drop, slice_get, Option, sym, ap, ◌∙◌, subst, arith}
 use Rattle.std.specs.Option.{option_map, IfSome}
 use Rattle.std.proofs.lemmas.Bool.{cases_eq}
 use Rattle.std.proofs.lemmas.List.{length-map}
-use Rattle.std.proofs.lemmas.Option.{get_or_from_slice_get, slice_get-get_or, slice_get_within}
+use Rattle.std.proofs.lemmas.Option.{slice_get-get_or, slice_get_within}
 use Rattle.fst_semiring.specs.Cost.{Cost}
 use Rattle.fst_machine.specs.Machine.{Arc, State, Machine, IsMachine, valued, valued_arc, valued_state}
 use Rattle.fst_machine.specs.Graph.{graph_of}
 use Rattle.fst_machine.specs.BreadthFirst.{Has}
-use Rattle.fst_machine.specs.Connected.{IsConnected, IsKeptAt}
-use Rattle.fst_machine.specs.Cycles.{IsUseful}
+use Rattle.fst_machine.specs.Connected.{IsKeptAt}
 use Rattle.fst_machine.proofs.Arcs.{mapped_some}
 use Rattle.fst_machine.proofs.Connected.{Kept_from}
-use Rattle.fst_machine.proofs.Elements.{Has_at, at_Has}
+use Rattle.fst_machine.proofs.Elements.{at_Has}
 use Rattle.fst_trim.specs.KeptPaths.{IsConnectedOn}
 use Rattle.fst_trim.proofs.Looking.{arc_from, look, reached_within}
 

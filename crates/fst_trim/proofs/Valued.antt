@@ -1,5 +1,5 @@
 -- What holds of a machine holds of the machine with each weight as its value.
-use Rattle.std.proofs.Common.{◌≡◌, ◌↔◌, ℕ, ◌+◌, Bool, true, false, cond, List, [], ◌∷◌, Some, length, get_or, map, map-id, slice_get, sum_by, count_by, filter, refl, sym, ap, ◌∙◌, subst, arith, is_lt, nat_cmp}
+use Rattle.std.proofs.Common.{◌≡◌, ◌↔◌, ℕ, ◌+◌, Bool, true, false, cond, List, [], ◌∷◌, Some, get_or, map, map-id, slice_get, sum_by, count_by, filter, refl, sym, ap, ◌∙◌, subst, arith, is_lt, nat_cmp}
 use Rattle.std.specs.List.Sorted.{IsPermutation, IsStableByKey, ties}
 use Rattle.std.specs.Bool.{Decides}
 use Rattle.std.specs.Option.{option_map}

@@ -1,6 +1,6 @@
 //! Why words are not read.
 
-use std::alloc::{AllocError, AllocFailed};
+use std::alloc::AllocError;
 
 /// Why words are not read.
 #[derive(Clone, Copy, Debug, PartialEq, Eq)]

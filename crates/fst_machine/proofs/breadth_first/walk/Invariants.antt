@@ -1,16 +1,11 @@
-use Rattle.std.proofs.Common.{◌≡◌, ◌-◌, length}
+use Rattle.std.proofs.Common.{◌-◌, length}
 use Rattle.fst_machine.specs.Machine.{valued}
 use Rattle.fst_machine.specs.Graph.{graph_of}
-use Rattle.fst_machine.specs.Marks.{Marks}
-use Rattle.fst_machine.specs.Walking.{IsWalking}
+use Rattle.fst_machine.specs.Walking.{IsMarkedWalk}
 use Rattle.fst_machine.proofs.breadth_first.walk.Given as goal
 
 abbrev pub invariant-loop-taken : goal.invariant-loop-taken
-invariant-loop-taken g l = record {
-  walking : IsWalking (graph_of (valued g.W.Weight.value l.fst)) l.start l.names.items l.taken;
-  marks : Marks l.seen.items l.names.items;
-  size : length l.seen.items ≡ length l.fst.states;
-}
+invariant-loop-taken g l = IsMarkedWalk (graph_of (valued g.W.Weight.value l.fst)) l.start l.seen.items l.names.items l.taken (length l.fst.states)
 
 abbrev pub decreases-loop-taken : goal.decreases-loop-taken
 decreases-loop-taken g l = length l.fst.states - l.taken

@@ -1,9 +1,9 @@
-use Rattle.std.proofs.Common.{◌≡◌, ◌<◌, Some, get_or, slice_get, length, refl, ◌∙◌, arith}
-use Rattle.std.proofs.lemmas.Option.{slice_get_read, slice_get-get_or}
+use Rattle.std.proofs.Common.{get_or, length, ◌∙◌, arith}
+use Rattle.std.proofs.lemmas.Option.{slice_get-get_or}
 use Rattle.fst_machine.specs.Machine.{valued}
 use Rattle.fst_machine.specs.Graph.{graph_of}
 use Rattle.fst_machine.proofs.Elements.{at_Has}
-use Rattle.fst_machine.proofs.Walking.{found_within}
+use Rattle.fst_machine.proofs.Walking.{taken_within}
 use Rattle.fst_trim.specs.Sources.{pairs_from}
 use Rattle.fst_trim.proofs.Looking.{final_within, pairs_are, source_within}
 use Rattle.fst_trim.proofs.Backward.{back_begins, back_goes_on, back_marks, back_few}
@@ -21,22 +21,20 @@ loop-taken-init g c =
 
 pub of-states-requires : goal.of-states-requires
 of-states-requires g c =
-    let names = c.loop-taken.names.items in
-    let low : c.loop-taken.taken < length names = omega arith in
-    let there : slice_get names c.loop-taken.taken ≡ Some c.index.result.now = slice_get_read names (length names) c.loop-taken.taken c.index.result.now refl low c.index.ensures in
-    let marked = found_within c.loop-taken.seen.items names c.index.result.now c.loop-taken.invariant.marks (at_Has names c.loop-taken.taken c.index.result.now there) in
-    (length c.args.fst.now.states, pairs_from 0 c.args.fst.now.states, c.in_ok-sources.ensures, omega (arith, marked, c.loop-taken.invariant.size))
+    let l = c.loop-taken in
+    let states = c.args.fst.now.states in
+    let at = taken_within l.seen.items l.names.items (length states) l.taken c.index.result.now l.invariant.marks l.invariant.size (omega arith) c.index.ensures in
+    (length states, pairs_from 0 states, c.in_ok-sources.ensures, at.1)
 
 pub find_each-requires-clause-within : goal.find_each-requires-clause-within
 find_each-requires-clause-within g c k d within =
-    let names = c.loop-taken.names.items in
-    let low : c.loop-taken.taken < length names = omega arith in
-    let there : slice_get names c.loop-taken.taken ≡ Some c.index.result.now = slice_get_read names (length names) c.loop-taken.taken c.index.result.now refl low c.index.ensures in
-    let marked = found_within c.loop-taken.seen.items names c.index.result.now c.loop-taken.invariant.marks (at_Has names c.loop-taken.taken c.index.result.now there) in
+    let l = c.loop-taken in
+    let states = c.args.fst.now.states in
+    let at = taken_within l.seen.items l.names.items (length states) l.taken c.index.result.now l.invariant.marks l.invariant.size (omega arith) c.index.ensures in
     let p = get_or c.of-states.result.now k d in
     let has = at_Has c.of-states.result.now k p (slice_get-get_or c.of-states.result.now k d within) in
-    let pair = (c.of-states.ensures (length c.args.fst.now.states) (pairs_from 0 c.args.fst.now.states) c.in_ok-sources.ensures (omega (arith, marked, c.loop-taken.invariant.size)) p).0 has in
-    omega (arith, source_within g.W.Weight.value c.args.fst.now p c.index.result.now pair, c.loop-taken.invariant.size)
+    let pair = (c.of-states.ensures (length states) (pairs_from 0 states) c.in_ok-sources.ensures at.1 p).0 has in
+    omega (arith, source_within g.W.Weight.value c.args.fst.now p c.index.result.now pair, l.invariant.size)
 
 pub loop-taken-smaller : goal.loop-taken-smaller
 loop-taken-smaller g c =
@@ -45,19 +43,18 @@ loop-taken-smaller g c =
 
 pub loop-taken-preserved : goal.loop-taken-preserved
 loop-taken-preserved g c =
+    let l = c.loop-taken in
     let value = g.W.Weight.value in
     let m = c.args.fst.now in
-    let names = c.loop-taken.names.items in
+    let names = l.names.items in
     let q = c.index.result.now in
     let f = c.in_ok-find_each.ensures in
-    let low : c.loop-taken.taken < length names = omega arith in
-    let there : slice_get names c.loop-taken.taken ≡ Some q = slice_get_read names (length names) c.loop-taken.taken q refl low c.index.ensures in
-    let marked = found_within c.loop-taken.seen.items names q c.loop-taken.invariant.marks (at_Has names c.loop-taken.taken q there) in
-    let leads = c.of-states.ensures (length m.states) (pairs_from 0 m.states) c.in_ok-sources.ensures (omega (arith, marked, c.loop-taken.invariant.size)) in
+    let at = taken_within l.seen.items names (length m.states) l.taken q l.invariant.marks l.invariant.size (omega arith) c.index.ensures in
+    let leads = c.of-states.ensures (length m.states) (pairs_from 0 m.states) c.in_ok-sources.ensures at.1 in
     record {
-      walking = back_goes_on (graph_of (valued value m)) names c.find_each.new.names.items c.of-states.result.now c.loop-taken.taken q c.loop-taken.invariant.walking there (λ p. ((λ has. (pairs_are value m p q).0 ((leads p).0 has)), (λ arc. (leads p).1 ((pairs_are value m p q).1 arc)))) f.grows;
+      walking = back_goes_on (graph_of (valued value m)) names c.find_each.new.names.items c.of-states.result.now l.taken q l.invariant.walking at.0 (λ p. ((λ has. (pairs_are value m p q).0 ((leads p).0 has)), (λ arc. (leads p).1 ((pairs_are value m p q).1 arc)))) f.grows;
       marks = f.marks;
-      size = f.size ∙ c.loop-taken.invariant.size;
+      size = f.size ∙ l.invariant.size;
     }
 
 pub returns-clause-marks : goal.returns-clause-marks
