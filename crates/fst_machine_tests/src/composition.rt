@@ -1,8 +1,5 @@
 //! Compositions of small tropical machines, written out from the definition by hand.
 
-ghost use Rattle.std.specs.Prelude.{◌<◌, ◌≤◌};
-ghost use Rattle.fst_machine.specs.Machine.{most_states};
-
 use crate::machines::{chain, is_text, machine, same};
 use fst_compose::{ComposeFault, ComposeKey, compose, expand, key_final};
 use fst_machine::Fst;
@@ -91,15 +88,20 @@ fn gives_the_arcs_of_one_name(rt: HostRuntime) -> Result<(), Fail> {
     let (first, second) = (a.states(), b.states());
     let sorted = is_sorted(&a, Side::Output);
     assert!(rt; first > 0 && second > 0 && sorted);
-    let key = |second| ComposeKey {
+    let here = ComposeKey {
         first: 0,
-        second,
+        second: 0,
         filter: 1,
     };
-    let arcs = expand(alloc, &a, &b, key(0))?;
+    let there = ComposeKey {
+        first: 0,
+        second: 1,
+        filter: 1,
+    };
+    let arcs = expand(alloc, &a, &b, here)?;
     assert!(rt; arcs.len() == 1);
-    assert!(rt; arcs[0].ilabel == 0 && arcs[0].olabel == 9 && arcs[0].next == key(1));
-    assert!(rt; key_final(&a, &b, key(0)) == Tropical::zero().widen());
+    assert!(rt; arcs[0].ilabel == 0 && arcs[0].olabel == 9 && arcs[0].next == there);
+    assert!(rt; key_final(&a, &b, here) == Tropical::zero().widen());
     Ok(())
 }
 

@@ -3,7 +3,7 @@
 use crate::machines::{is_text, machine};
 use fst_machine::{Fst, WideFst};
 use fst_semiring::Tropical;
-use fst_trim::{Connected, Links, connect_kept};
+use fst_trim::{Connected, Link, Links, connect_kept};
 use std::test::Fail;
 
 const TEXT: &[u8] = b"0 1 5 0\n0 1 0 0\n1 0 2 2\n1 1 0 3\n1 1 0 0\n";
@@ -18,20 +18,17 @@ static LINKS: [[&[End]; 2]; 3] = [
     [&[(1, 0)], &[(0, 0), (0, 1), (1, 1), (1, 2)]],
 ];
 
+/// Whether links lead to these ends, in this order.
+fn are_ends<V: Copy>(links: &[Link<V>], ends: &[End]) -> bool {
+    links.len() == ends.len()
+        && links.iter().zip(ends).all(|(link, (next, place))| link.next == *next
+            && link.place == *place)
+}
+
 /// Whether the links of state 0 and those of state 1 are these, and there are no others.
 fn are_links<V: Copy>(links: &Links<V>, wanted: &[&[End]; 2]) -> bool {
-    if links.len() != 2 {
-        return false;
-    }
-    for (state, ends) in [0, 1].iter().zip(wanted) {
-        let own = links.links(*state);
-        let all = own.iter().zip(ends.iter()).all(|(link, (next, place))| link.next == *next
-            && link.place == *place);
-        if own.len() != ends.len() || !all {
-            return false;
-        }
-    }
-    true
+    let [first, second] = wanted;
+    links.len() == 2 && are_ends(links.links(0), first) && are_ends(links.links(1), second)
 }
 
 #[test]

@@ -1,6 +1,8 @@
 //! Worked examples of weights, their texts and their keys, and of Plus, Times and division, written out by hand.
 
-use fst_semiring::{ArcType, Boolean, Key, LIMIT, Lexicographic, MinMax, Tropical, Weight};
+use fst_semiring::{
+    ArcType, Boolean, Key, LIMIT, Lexicographic, MinMax, Tropical, Weight, is_zero,
+};
 use std::alloc::{AllocError, Global};
 use std::cmp::Ordering;
 use std::process::Abort;
@@ -310,6 +312,7 @@ fn check<W: Weight>(rt: &impl Abort, alloc: Global, rows: &Rows) -> Result<(), F
     let (one, zero) = (W::key(W::one().widen()), W::key(W::zero().widen()));
     assert_eq!(rt; (one.class, zero.class), rows.ends);
     assert_eq!(rt; (one.first, zero.first), (0, 0));
+    assert!(rt; is_zero(W::zero()) && !is_zero(W::one()));
     Ok(())
 }
 

@@ -20,6 +20,3 @@ pub use fault::WalkFault;
 pub use names::{NameArc, Names};
 pub use table::NameTable;
 pub use walking::{Room, Walked, walk};
-
-#[cfg(test)]
-mod tests;

@@ -5,6 +5,6 @@ mod Loops
 mod Pairs
 mod Labels
 mod Digits
-mod PlannedFiles
+pub mod PlannedFiles
 pub mod PlanLemmas
 pub mod PrefixLemmas

@@ -5,7 +5,7 @@ use Rattle.std.proofs.lemmas.Option.{slice_get-get_or}
 use Rattle.std.specs.List.{filter_map, list_all, slice_get}
 use Rattle.fst_words.specs.declared.plan.Plan.{Plan}
 use Rattle.fst_words.specs.PlanLaws.{IsWhole}
-use Rattle.fst_words.specs.Plans.{are_labels, flags_fit, inputs_fit, is_allowed, is_replace, labels_fit, outputs_fit, pair_labels, pair_machines, rule_labels}
+use Rattle.fst_words.specs.Plans.{are_labels, flags_fit, input_files, inputs_fit, is_allowed, is_replace, labels_fit, outputs_fit, pair_labels, pair_machines, rule_labels}
 use Rattle.fst_words.specs.Values.{label_of}
 
 -- ---- pairs of a machine and a label
@@ -100,6 +100,15 @@ has_place plan k whole lt = go (is_replace plan.command) refl lt
         let pairs = label_count plan.names in
         (is, omega arith)
     go false is lt = absurd (omega arith)
+
+-- there is a label for each machine
+pub label_for_each : (plan : Plan) → IsWhole plan → is_replace plan.command ≡ true
+    → length (rule_labels plan) ≡ length (input_files plan)
+label_for_each plan whole rules =
+    let count = value_count label_of (pair_labels plan.names) (all_labels plan whole rules) in
+    let labels = label_count plan.names in
+    let machines = machine_count plan.names in
+    rw rules (omega arith)
 
 -- the label in a place
 pub rule_label_at : (plan : Plan) (k : ℕ) (text : List ℕ) (label : Option ℕ) → IsWhole plan → k < length (rule_labels plan)

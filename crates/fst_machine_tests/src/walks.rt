@@ -3,8 +3,8 @@
 ghost use Rattle.std.specs.Prelude.{[], Some};
 ghost use Rattle.std.proofs.lemmas.Bool.Decides.{Decides-eqb};
 
-use crate::{NameArc, Names, Room, walk};
 use fst_semiring::{Tropical, Weight};
+use fst_walk::{NameArc, Names, Room, walk};
 use std::alloc::AllocError;
 use std::marker::Model;
 use std::test::Fail;
