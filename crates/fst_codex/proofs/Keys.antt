@@ -1,5 +1,6 @@
 -- Entries found by their keys.
 use Rattle.std.proofs.Common.{◌≡◌, inl, inr, ℕ, ℤ, ◌||◌, ◌&&◌, eqb, int_eq, zero, suc, Bool, true, false, not, List, [], ◌∷◌, ◌++◌, Some, map, slice_get, refl, sym, ap, subst, ◌∙◌, true≢false, if◌then◌else◌}
+use Rattle.std.specs.Bool.{Decides}
 use Rattle.std.specs.List.{list_any}
 use Rattle.std.proofs.lemmas.List.{map-append}
 use Rattle.std.proofs.lemmas.Bool.{eq-eqb, eqb-true}
@@ -8,35 +9,19 @@ use Rattle.indexmap.specs.IndexSet.{insert_key}
 use Rattle.fst_semiring.specs.Cost.{Cost, best, class_of, finite, first_of, infinite, second_of}
 use Rattle.fst_machine.specs.BreadthFirst.{Has, Grows}
 use Rattle.fst_machine.proofs.Arcs.{mapped_at}
+use Rattle.fst_machine.proofs.Elements.{any-Has, Has-any}
 use Rattle.fst_codex.specs.declared.coder.EntryKey.{EntryKey}
 use Rattle.fst_codex.specs.Coding.{GrowsBy, entry_key}
 use Rattle.fst_codex.specs.Table.{Entry}
 
-module _ {K : Type 0} (eq : K → K → Bool) (same : (x y : K) → eq x y ≡ true → x ≡ y) (own : (x : K) → eq x x ≡ true) where
-  any_Has : (ks : List K) (k : K) → Has ks k → list_any (eq k) ks ≡ true
-  any_Has [] k h = absurd h
-  any_Has (x ∷ xs) k (inl e) = ap (λ b. b || list_any (eq k) xs) (ap (eq k) e ∙ own k)
-  any_Has (x ∷ xs) k (inr h) = by (eq k x) (any_Has xs k h)
-    where
-      by : (b : Bool) → list_any (eq k) xs ≡ true → (b || list_any (eq k) xs) ≡ true
-      by true e = refl
-      by false e = e
-
-  Has_any : (ks : List K) (k : K) → list_any (eq k) ks ≡ true → Has ks k
-  Has_any [] k e = absurd (true≢false (sym e))
-  Has_any (x ∷ xs) k e = by (eq k x) refl e (Has_any xs k)
-    where
-      by : (b : Bool) → eq k x ≡ b → (b || list_any (eq k) xs) ≡ true → (list_any (eq k) xs ≡ true → Has xs k) → Has (x ∷ xs) k
-      by true here e more = inl (sym (same k x here))
-      by false there e more = inr (more e)
-
+module _ {K : Type 0} (eq : K → K → Bool) (same : (x y : K) → Decides (eq x y) (x ≡ y)) where
   -- the keys with one more, where it was new
   pub grows_by : (ks new : List K) (k : K) (fresh : Bool) → fresh ≡ not (list_any (eq k) ks) → new ≡ insert_key eq ks k → GrowsBy fresh ks k new
   grows_by ks new k fresh says put = by (list_any (eq k) ks) refl
     where
       by : (b : Bool) → list_any (eq k) ks ≡ b → GrowsBy fresh ks k new
-      by true e = subst (λ f. GrowsBy f ks k new) (sym (says ∙ ap not e)) (Has_any ks k e, put ∙ ap (λ c. if c then ks else ks ++ k ∷ []) e)
-      by false e = subst (λ f. GrowsBy f ks k new) (sym (says ∙ ap not e)) ((λ h. true≢false (sym (any_Has ks k h) ∙ e)), put ∙ ap (λ c. if c then ks else ks ++ k ∷ []) e)
+      by true e = subst (λ f. GrowsBy f ks k new) (sym (says ∙ ap not e)) (any-Has eq same ks k e, put ∙ ap (λ c. if c then ks else ks ++ k ∷ []) e)
+      by false e = subst (λ f. GrowsBy f ks k new) (sym (says ∙ ap not e)) ((λ h. true≢false (sym (Has-any eq same ks k h) ∙ e)), put ∙ ap (λ c. if c then ks else ks ++ k ∷ []) e)
 
 both : (a b : Bool) → (a && b) ≡ true → (a ≡ true) × (b ≡ true)
 both true b e = (refl, e)
@@ -56,8 +41,11 @@ same_tells a b e =
     let second : a.second ≡ b.second = (Decides-int_eq a.second b.second).0 four.1 in
     λ i. record { ilabel = eqb-true a.ilabel b.ilabel one.0 i; olabel = eqb-true a.olabel b.olabel two.0 i; class = eqb-true a.class b.class three.0 i; first = first i; second = second i }
 
-pub same_own : (a : EntryKey) → same_key a a ≡ true
+same_own : (a : EntryKey) → same_key a a ≡ true
 same_own a = rw (eq-eqb a.ilabel a.ilabel refl, eq-eqb a.olabel a.olabel refl, eq-eqb a.class a.class refl, (Decides-int_eq a.first a.first).1 refl, (Decides-int_eq a.second a.second).1 refl) refl
+
+pub same_decides : (a b : EntryKey) → Decides (same_key a b) (a ≡ b)
+same_decides a b = (same_tells a b, λ e. ap (same_key a) (sym e) ∙ same_own a)
 
 -- the entry of a key
 cost_of : ℕ → ℤ → ℤ → Cost

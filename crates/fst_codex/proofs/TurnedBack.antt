@@ -13,6 +13,7 @@ use Rattle.fst_semiring.specs.declared.arc_type.ArcType.{ArcType}
 use Rattle.fst_semiring.specs.Semiring.{InRange}
 use Rattle.fst_semiring.proofs.Laws.{times_only_zero}
 use Rattle.fst_machine.specs.Machine.{Arc, IsArc, IsMachine, Machine, State, arc_total, valued_arc}
+use Rattle.fst_machine.specs.declared.path.Step.{Step}
 use Rattle.fst_machine.proofs.Arcs.{at_mapped}
 use Rattle.fst_trim.specs.FirstArcs.{HasTwoLabels, IsFirstArc, Meets}
 use Rattle.fst_trim.proofs.Places.{NoneAbove, first_found, read_here}
@@ -21,6 +22,10 @@ use Rattle.fst_codex.specs.declared.decoding.DecodeFault.TheVariants.{NotAccepto
 use Rattle.fst_codex.specs.Parts.{DecodesArcs, DecodesStates}
 use Rattle.fst_codex.specs.Decoded.{Decodes, IsOutside, PassesRange, decoded, decoded_arc, decoded_state, entry_at, joined_weight, with_entry}
 use Rattle.fst_codex.specs.Table.{Entry, IsEntry, IsTable, Table, valued_entry, valued_table}
+
+-- a label is outside of the entries that were read where it is outside of their values
+pub outside_valued : {V X : Type 0} (value : V → Cost) (es read : List (Entry V)) (m : Machine X) (found : Option Step) → read ≡ es → IsFirstArc (IsOutside (length read)) m found → IsFirstArc (IsOutside (length (map (valued_entry value) es))) m found
+outside_valued value es read m found same h = subst (λ (n : ℕ). IsFirstArc (IsOutside n) m found) (ap length same ∙ sym (length-map es (valued_entry value))) h
 
 -- an arc in this place whose label is not past the numbers
 pub inside : {V : Type 0} (numbers : ℕ) (arcs : List (Arc V ℕ)) (place : ℕ) (a : Arc V ℕ) → slice_get arcs place ≡ Some a → a.ilabel ≤ numbers → IsOutside numbers arcs place → ⊥

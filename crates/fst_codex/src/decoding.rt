@@ -13,7 +13,7 @@ use crate::codex::Codex;
 use fst_machine::{Fst, FstArc, StateList, Step};
 use fst_semiring::Weight;
 use fst_trim::not_acceptor_at;
-use std::alloc::{AllocError, AllocFailed, Global};
+use std::alloc::{AllocError, Global};
 
 /// Why a machine is not decoded. The first of these that holds is given, and of each the first arc by state, then
 /// place.
@@ -47,17 +47,6 @@ impl From<AllocError> for DecodeFault {
     ghost from_gives = { λ _ e. e ≡ faults.Memory };
 
     fn from(_e: AllocError) -> DecodeFault {
-        DecodeFault::Memory
-    }
-}
-
-impl<T: Drop> From<AllocFailed<T>> for DecodeFault {
-    ghost use Rattle.std.specs.Prelude.{◌≡◌};
-    ghost use Rattle.fst_codex.specs.declared.decoding.DecodeFault.TheVariants as faults;
-
-    ghost from_gives = { λ _ e. e ≡ faults.Memory };
-
-    fn from(_e: AllocFailed<T>) -> DecodeFault {
         DecodeFault::Memory
     }
 }
@@ -147,7 +136,9 @@ fn decode_arcs<W: Weight>(
         let Some(decoded) = decode_arc(codex, *arc) else {
             return Err(DecodeFault::Overflow { state });
         };
-        out.push(decoded)?;
+        let Ok(()) = out.push(decoded) else {
+            return Err(DecodeFault::Memory);
+        };
     }
     Ok(())
 }

@@ -10,11 +10,15 @@ mod codices;
 #[cfg(test)]
 mod composition;
 #[cfg(test)]
+mod desks;
+#[cfg(test)]
 mod faults;
 #[cfg(test)]
 mod forms;
 #[cfg(test)]
 mod operations;
+#[cfg(test)]
+mod plans;
 #[cfg(test)]
 mod replacement;
 #[cfg(test)]

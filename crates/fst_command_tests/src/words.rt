@@ -88,13 +88,19 @@ fn told(alloc: Global, plan: &Plan) -> Result<String, Fail> {
     Ok(out)
 }
 
+/// Words as they are read.
+pub(crate) fn owned(alloc: Global, words: &[&str]) -> Result<Vec<String>, AllocError> {
+    let mut list = Vec::new(alloc);
+    for word in words {
+        list.push(String::from_str(alloc, word)?)?;
+    }
+    Ok(list)
+}
+
 /// What the words come to, in one text.
 fn answer(alloc: Global, words: &[&str]) -> Result<String, Fail> {
-    let mut owned = Vec::new(alloc);
-    for word in words {
-        owned.push(String::from_str(alloc, word)?)?;
-    }
-    match read_words(alloc, owned.as_slice()) {
+    let words = owned(alloc, words)?;
+    match read_words(alloc, words.as_slice()) {
         Ok(plan) => told(alloc, &plan),
         Err(WordsFault::Usage) => Ok(String::from_str(alloc, "usage")?),
         Err(WordsFault::Memory) => Ok(String::from_str(alloc, "memory")?),

@@ -1,5 +1,5 @@
 -- Names in a table.
-use Rattle.std.proofs.Common.{◌≡◌, ◌⊎◌, inl, inr, ℕ, ◌+◌, ◌<◌, ◌≤◌, ◌||◌, Bool, true, false, List, [], ◌∷◌, ◌++◌, Some, length, slice_get, refl, sym, ap, ◌∙◌, true≢false, if◌then◌else◌, arith}
+use Rattle.std.proofs.Common.{◌≡◌, ◌⊎◌, inl, inr, ℕ, ◌+◌, ◌<◌, ◌≤◌, Bool, true, false, List, [], ◌∷◌, ◌++◌, Some, length, slice_get, refl, sym, ap, ◌∙◌, true≢false, if◌then◌else◌, arith}
 use Rattle.std.specs.Bool.{Decides}
 use Rattle.std.specs.List.{list_any}
 use Rattle.std.proofs.lemmas.List.{length-append}
@@ -7,34 +7,17 @@ use Rattle.std.proofs.lemmas.Option.{slice_get_within}
 use Rattle.indexmap.specs.IndexSet.{insert_key}
 use Rattle.fst_machine.specs.BreadthFirst.{Has, Grows}
 use Rattle.fst_machine.proofs.Arcs.{append_at}
-use Rattle.fst_machine.proofs.Elements.{at_Has}
+use Rattle.fst_machine.proofs.Elements.{at_Has, any-Has, Has-any}
 use Rattle.fst_walk.specs.Making.{Passes}
 
 module _ {K : Type 0} (eq : K → K → Bool) (same : (x y : K) → Decides (eq x y) (x ≡ y)) where
-  any_Has : (ks : List K) (k : K) → Has ks k → list_any (eq k) ks ≡ true
-  any_Has [] k h = absurd h
-  any_Has (x ∷ xs) k (inl e) = ap (λ b. b || list_any (eq k) xs) ((same k x).1 (sym e))
-  any_Has (x ∷ xs) k (inr h) = by (eq k x) (any_Has xs k h)
-    where
-      by : (b : Bool) → list_any (eq k) xs ≡ true → (b || list_any (eq k) xs) ≡ true
-      by true e = refl
-      by false e = e
-
-  Has_any : (ks : List K) (k : K) → list_any (eq k) ks ≡ true → Has ks k
-  Has_any [] k e = absurd (true≢false (sym e))
-  Has_any (x ∷ xs) k e = by (eq k x) refl e (Has_any xs k)
-    where
-      by : (b : Bool) → eq k x ≡ b → (b || list_any (eq k) xs) ≡ true → (list_any (eq k) xs ≡ true → Has xs k) → Has (x ∷ xs) k
-      by true here e more = inl (sym ((same k x).0 here))
-      by false there e more = inr (more e)
-
   -- a key that is put in is new, or was there
   pub put_grows : (ks new : List K) (k : K) → new ≡ insert_key eq ks k → Grows ks (k ∷ []) new
   put_grows ks new k put = by (list_any (eq k) ks) refl
     where
       by : (b : Bool) → list_any (eq k) ks ≡ b → Grows ks (k ∷ []) new
-      by true e = inl (Has_any ks k e, sym (put ∙ ap (λ c. if c then ks else ks ++ k ∷ []) e))
-      by false e = inr ((λ h. true≢false (sym (any_Has ks k h) ∙ e)), sym (put ∙ ap (λ c. if c then ks else ks ++ k ∷ []) e))
+      by true e = inl (any-Has eq same ks k e, sym (put ∙ ap (λ c. if c then ks else ks ++ k ∷ []) e))
+      by false e = inr ((λ h. true≢false (sym (Has-any eq same ks k h) ∙ e)), sym (put ∙ ap (λ c. if c then ks else ks ++ k ∷ []) e))
 
 -- and where it is new, it stands last
 pub put_last : {K : Type 0} (ks new : List K) (k : K) (place : ℕ) → Grows ks (k ∷ []) new → slice_get new place ≡ Some k → (new ≡ ks) ⊎ (length new ≡ place + 1)

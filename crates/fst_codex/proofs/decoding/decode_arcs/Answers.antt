@@ -28,7 +28,7 @@ loop-arc-preserved g c =
     let decode = decoded_arc kind t in
     let so_far = map (valued_arc value) (take i c.args.arcs.now) in
     let written : map (valued_arc value) c.push.new.self.items ≡ map decode so_far ++ decode (valued_arc value a) ∷ [] =
-    ap (map (valued_arc value)) c.in_ok-push.ensures.items ∙ (map-append (valued_arc value) c.loop-arc.out.items (d ∷ []) ∙ (ap (λ (xs : List (Arc Cost ℕ)). xs ++ valued_arc value d ∷ []) c.loop-arc.invariant.put ∙ ap (λ (b : Arc Cost ℕ). map decode so_far ++ b ∷ []) c.in-Some.ensures.0)) in
+    ap (map (valued_arc value)) c.in-Ok.ensures.items ∙ (map-append (valued_arc value) c.loop-arc.out.items (d ∷ []) ∙ (ap (λ (xs : List (Arc Cost ℕ)). xs ++ valued_arc value d ∷ []) c.loop-arc.invariant.put ∙ ap (λ (b : Arc Cost ℕ). map decode so_far ++ b ∷ []) c.in-Some.ensures.0)) in
     let read : map decode (map (valued_arc value) (take (i + 1) c.args.arcs.now)) ≡ map decode so_far ++ decode (valued_arc value a) ∷ [] =
     ap (map decode) (items_more (valued_arc value) c.args.arcs.now i a c.loop-arc-test.true c.arc-item.is) ∙ map-append decode so_far (valued_arc value a ∷ []) in
     let good : InRange (decode (valued_arc value a)).weight = subst (λ (b : Arc Cost ℕ). InRange b.weight) c.in-Some.ensures.0 c.in-Some.ensures.1 in

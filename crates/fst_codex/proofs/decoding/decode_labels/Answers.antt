@@ -1,17 +1,15 @@
 use Rattle.std.proofs.Common.{◌≡◌, ◌∙◌, ℕ, None, Some, length, map, sym, ap, subst}
-use Rattle.std.proofs.lemmas.List.{length-map}
 use Rattle.fst_machine.specs.Machine.{IsMachine, valued, valued_state}
 use Rattle.fst_machine.proofs.Valued.{IsMachine-valued, IsMachine-unvalued}
 use Rattle.fst_trim.specs.FirstArcs.{IsFirstArc}
 use Rattle.fst_codex.specs.Decoded.{IsOutside, decoded}
-use Rattle.fst_codex.specs.Table.{valued_entry, valued_table}
-use Rattle.fst_codex.proofs.TurnedBack.{IsMachine-decoded, IsTable-valued, states_fault}
+use Rattle.fst_codex.specs.Table.{valued_table}
+use Rattle.fst_codex.proofs.TurnedBack.{IsMachine-decoded, IsTable-valued, outside_valued, states_fault}
 use Rattle.fst_codex.proofs.decoding.decode_labels.Goals as goal
 
 pub returns-in-Some-outside_at : goal.returns-in-Some-outside_at
 returns-in-Some-outside_at g c =
-    let count : length c.entries.result.now ≡ length (map (valued_entry g.W.Weight.value) c.args.codex.now.entries) = ap length c.entries.ensures.value ∙ sym (length-map c.args.codex.now.entries (valued_entry g.W.Weight.value)) in
-    (c.in_default.ensures, c.in-Some-outside_at.step, subst (λ (n : ℕ). IsFirstArc (IsOutside n) c.args.fst.now (Some c.in-Some-outside_at.step)) count c.in-Some-outside_at.ensures, c.label_at-label.ensures)
+    (c.in_default.ensures, c.in-Some-outside_at.step, outside_valued g.W.Weight.value c.args.codex.now.entries c.entries.result.now c.args.fst.now (Some c.in-Some-outside_at.step) c.entries.ensures.value c.in-Some-outside_at.ensures, c.label_at-label.ensures)
 
 pub decode_states-requires : goal.decode_states-requires
 decode_states-requires g c = subst (λ (n : ℕ). IsFirstArc (IsOutside n) c.args.fst.now None) (ap length c.entries.ensures.value) c.in_default-outside_at.ensures
@@ -29,13 +27,11 @@ into_machine-requires g c =
 pub returns-in-Ok : goal.returns-in-Ok
 returns-in-Ok g c =
     let value = g.W.Weight.value in
-    let count : length c.entries.result.now ≡ length (map (valued_entry value) c.args.codex.now.entries) = ap length c.entries.ensures.value ∙ sym (length-map c.args.codex.now.entries (valued_entry value)) in
     let made : valued value c.into_machine.result ≡ decoded g.W.Weight.KIND (valued_table value c.args.codex.now) (valued value c.args.fst.now) =
     ap (valued value) c.into_machine.ensures ∙ (λ i. record { start = c.start.ensures.value i; states = c.in-Ok.ensures.decoded.0 i }) in
-    (c.in_default.ensures, subst (λ (n : ℕ). IsFirstArc (IsOutside n) c.args.fst.now None) count c.in_default-outside_at.ensures, c.in-Ok.ensures.decoded.1, made)
+    (c.in_default.ensures, outside_valued g.W.Weight.value c.args.codex.now.entries c.entries.result.now c.args.fst.now None c.entries.ensures.value c.in_default-outside_at.ensures, c.in-Ok.ensures.decoded.1, made)
 
 pub returns-in-Err : goal.returns-in-Err
 returns-in-Err g c =
     let value = g.W.Weight.value in
-    let count : length c.entries.result.now ≡ length (map (valued_entry value) c.args.codex.now.entries) = ap length c.entries.ensures.value ∙ sym (length-map c.args.codex.now.entries (valued_entry value)) in
-    states_fault g.W.Weight.KIND value (valued_table value c.args.codex.now) c.args.fst.now c.in-Err.fault c.in_default.ensures (subst (λ (n : ℕ). IsFirstArc (IsOutside n) c.args.fst.now None) count c.in_default-outside_at.ensures) c.in-Err.ensures.decoded
+    states_fault g.W.Weight.KIND value (valued_table value c.args.codex.now) c.args.fst.now c.in-Err.fault c.in_default.ensures (outside_valued g.W.Weight.value c.args.codex.now.entries c.entries.result.now c.args.fst.now None c.entries.ensures.value c.in_default-outside_at.ensures) c.in-Err.ensures.decoded
