@@ -6,6 +6,7 @@
 #![tactic(auto)]
 
 mod fifo;
+mod heap;
 mod lifo;
 mod marks;
 mod queue;
