@@ -1,6 +1,6 @@
 -- A heap of states by key, with the place of each state in it.
-use Rattle.std.specs.Prelude.{◌≡◌, ◌≢◌, ◌⊎◌, ◌↔◌, ℕ, ◌+◌, ◌*◌, ◌<◌, ◌≤◌, pos, false, true, List, [], ◌∷◌, Option, Some, None, map, length, get_or}
-use Rattle.std.specs.Ordering.{is_gt, is_lt}
+use Rattle.std.specs.Prelude.{◌≡◌, ◌≢◌, ◌⊎◌, ◌↔◌, ℕ, ◌+◌, ◌*◌, ◌<◌, ◌≤◌, pos, false, List, [], Option, Some, None, map, length, get_or}
+use Rattle.std.specs.Ordering.{is_gt}
 use Rattle.fst_semiring.specs.declared.key.Key.{Key}
 use Rattle.fst_semiring.specs.Keys.{key_cmp}
 use Rattle.fst_queue.specs.Members.{Has}
@@ -64,3 +64,16 @@ SamePresent old new = (q : ℕ) → (get_or new q 0 ≡ 0) ↔ (get_or old q 0 �
 -- a place that has another below it in the first n, of which c is one that is not worse than the other
 abbrev pub IsBestBelow : ℕ → (ℕ → Key) → ℕ → ℕ → Type 0
 IsBestBelow n k p c = IsBelow p c × (c < n) × ((d : ℕ) → IsBelow p d → d < n → NoWorse (k c) (k d))
+
+-- a heap in order
+pub record Heaped (heap places : List ℕ) (keys : List Key) : Type 0 where
+  pub linked : Linked heap places (length keys)
+  pub ordered : Ordered (length heap) (key_in keys heap)
+
+-- the states of a heap with their keys
+abbrev pub entries_of : List Key → List ℕ → List (ℕ × Key)
+entries_of keys heap = map (λ state. (state, key_at keys state)) heap
+
+-- no key of a state of the heap betters that of this state
+abbrev pub IsBest : List Key → List ℕ → ℕ → Type 0
+IsBest keys heap state = (q : ℕ) → Has heap q → NoWorse (key_at keys state) (key_at keys q)

@@ -3,11 +3,11 @@
 //! Below place p stand places 2p + 1 and 2p + 2, and no state is better than the one above it. The table of places
 //! holds for each state 0, or its place in the heap and one; so a state is found in constant time.
 
-ghost use Rattle.std.specs.Prelude.{◌≡◌, ◌+◌, ◌*◌, ◌<◌, ◌≤◌, ℕ, length, MatchOption, OnOk, get_or};
+ghost use Rattle.std.specs.Prelude.{◌≡◌, ◌≢◌, ◌+◌, ◌*◌, ◌<◌, ◌≤◌, ℕ, length, IfSome, MatchOption, OnErr, OnOk, get_or, set};
 ghost use Rattle.std.specs.Ordering.{is_lt};
-ghost use Rattle.std.specs.List.{swap};
 ghost use Rattle.fst_semiring.specs.Keys.{key_cmp};
-ghost use Rattle.fst_queue.specs.Heap.{key_at, key_in, no_key, Falling, IsBestBelow, Linked, Ordered, Rising, SamePresent};
+ghost use Rattle.fst_queue.specs.Heap.{key_at, key_in, Falling, Heaped, IsBest, IsBestBelow, Linked, Ordered, Rising, SamePresent};
+ghost use Rattle.fst_queue.specs.Members.{Adds, Has, Takes};
 
 use fst_semiring::Key;
 use std::alloc::AllocError;
@@ -146,4 +146,101 @@ pub(crate) fn grow_keys(keys: &mut Vec<Key>, state: u32) -> Result<(), AllocErro
         keys.resize(wanted, none)?;
     }
     Ok(())
+}
+
+/// Puts a state that has no place into the heap. An `Err` changes nothing.
+fn enter(
+    heap: &mut Vec<u32>,
+    places: &mut Vec<usize>,
+    keys: &mut Vec<Key>,
+    state: u32,
+    key: Key,
+) -> Result<(), AllocError>
+    requires heaped { Heaped heap.old.items places.old.items keys.old.items }
+    requires place { state < length places.old.items }
+    requires low { state < length keys.old.items }
+    requires absent { get_or places.old.items state 0 ≡ 0 }
+    ensures heaped { Heaped heap.new.items places.new.items keys.new.items }
+    ensures adds { OnOk result (Adds heap.old.items state heap.new.items) }
+    ensures keys { OnOk result (keys.new.items ≡ set keys.old.items state key) }
+    ensures err { OnErr result (heap.new.items ≡ heap.old.items) }
+    ensures err_keys { OnErr result (keys.new.items ≡ keys.old.items) }
+{
+    let at = heap.len();
+    heap.push(state)?;
+    places[state as usize] = at + 1;
+    keys[state as usize] = key;
+    rise(heap, places, keys, at);
+    Ok(())
+}
+
+/// Gives a state that has a place a new key.
+fn rekey(heap: &mut Vec<u32>, places: &mut Vec<usize>, keys: &mut Vec<Key>, state: u32, key: Key)
+    requires heaped { Heaped heap.old.items places.old.items keys.old.items }
+    requires place { state < length places.old.items }
+    requires low { state < length keys.old.items }
+    requires present { 0 < get_or places.old.items state 0 }
+    ensures heaped { Heaped heap.new.items places.new.items keys.new.items }
+    ensures adds { Adds heap.old.items state heap.new.items }
+    ensures keys { keys.new.items ≡ set keys.old.items state key }
+{
+    let at = places[state as usize] - 1;
+    let before = keys[state as usize];
+    keys[state as usize] = key;
+    if is_better(key, before) {
+        rise(heap, places, keys, at);
+    } else {
+        fall(heap, places, keys, at);
+    }
+}
+
+/// Puts a state into the heap, or gives it a new key where it is there. An `Err` changes neither the heap nor a key.
+///
+/// Takes time logarithmic in the heap, apart from growth.
+pub(crate) fn insert(
+    heap: &mut Vec<u32>,
+    places: &mut Vec<usize>,
+    keys: &mut Vec<Key>,
+    state: u32,
+    key: Key,
+) -> Result<(), AllocError>
+    requires { Heaped heap.old.items places.old.items keys.old.items }
+    ensures heaped { Heaped heap.new.items places.new.items keys.new.items }
+    ensures adds { OnOk result (Adds heap.old.items state heap.new.items) }
+    ensures key { OnOk result (key_at keys.new.items state ≡ key) }
+    ensures others { (q : ℕ) → q ≢ state → key_at keys.new.items q ≡ key_at keys.old.items q }
+    ensures err { OnErr result (heap.new.items ≡ heap.old.items) }
+    ensures err_keys { OnErr result ((q : ℕ) → key_at keys.new.items q ≡ key_at keys.old.items q) }
+{
+    grow_places(places, state)?;
+    grow_keys(keys, state)?;
+    if places[state as usize] == 0 {
+        enter(heap, places, keys, state, key)?;
+    } else {
+        rekey(heap, places, keys, state, key);
+    }
+    Ok(())
+}
+
+/// Takes the state in the first place out of the heap; `None` exactly where the heap is empty.
+///
+/// Takes time logarithmic in the heap, and no memory.
+pub(crate) fn leave(heap: &mut Vec<u32>, places: &mut Vec<usize>, keys: &Vec<Key>) -> Option<u32>
+    requires { Heaped heap.old.items places.old.items keys.now.items }
+    ensures heaped { Heaped heap.new.items places.new.items keys.now.items }
+    ensures takes { Takes heap.old.items result heap.new.items }
+    ensures best { IfSome result (λ state. IsBest keys.now.items heap.old.items state) }
+{
+    if heap.is_empty() {
+        return None;
+    }
+    let state = heap[0];
+    let last = heap.len() - 1;
+    exchange(heap, places, 0, last);
+    heap.truncate(last);
+    places[state as usize] = 0;
+    if last > 0 {
+        fall(heap, places, keys, 0);
+    }
+    Some(state)
 }

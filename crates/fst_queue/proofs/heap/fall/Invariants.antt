@@ -7,7 +7,7 @@ invariant-loop-below l = record {
   linked : Linked l.heap.items l.places.items (length l.keys.items);
   within : l.at < length l.heap.items;
   falling : Falling (length l.heap.items) (key_in l.keys.items l.heap.items) l.at;
-  same : SamePresent l.initial.places.items l.places.items
+  same : SamePresent l.initial.places.items l.places.items;
 }
 
 abbrev pub decreases-loop-below : goal.decreases-loop-below

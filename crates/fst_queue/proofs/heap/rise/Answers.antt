@@ -1,4 +1,4 @@
-use Rattle.std.proofs.Common.{◌≡◌, ◌∙◌, ◌<◌, ◌/◌, ◌-◌, false, true, length, subst, sym, arith, ℕ, rules}
+use Rattle.std.proofs.Common.{◌≡◌, ◌∙◌, ◌/◌, ◌-◌, true, length, subst, sym, arith, ℕ, rules}
 use Rattle.fst_queue.specs.Heap.{key_in, IsBelow, NoWorse, Rising}
 use Rattle.fst_queue.proofs.Exchange.{SamePresent-trans}
 use Rattle.fst_queue.proofs.HeapOrder.{better_NoWorse, keys_exchanged, rises}

@@ -1,4 +1,4 @@
-use Rattle.std.proofs.Common.{◌≡◌, ◌<◌, ◌∷◌, ◌++◌, [], Some, length, subst, rules}
+use Rattle.std.proofs.Common.{◌≡◌, ◌<◌, ◌∷◌, Some, length, subst, rules}
 use Rattle.fst_queue.specs.Members.{Takes}
 use Rattle.fst_queue.proofs.Members.{Marks-taken, first_takes, marked_within}
 use Rattle.fst_queue.proofs.fifo.FifoStateQueue.take.Goals as goal

@@ -1,4 +1,4 @@
-use Rattle.std.proofs.Common.{◌≡◌, ◌∷◌, ◌++◌, [], ◌∙◌, ap, sym, subst}
+use Rattle.std.proofs.Common.{◌≡◌, ◌∷◌, ◌++◌, [], sym, subst}
 use Rattle.fst_queue.specs.Members.{Has, Apart, Adds}
 use Rattle.fst_queue.proofs.Members.{Apart-push, Marks-put, pushed_adds, unmarked}
 use Rattle.fst_queue.proofs.lifo.LifoStateQueue.put.Goals as goal
