@@ -99,15 +99,15 @@ entries_put keys new heap put state key adds is others q k = ((λ h. after ((ent
 -- a take, as the entries show it
 pub entries_taken : (keys : List Key) (heap left : List ℕ) (result : Option ℕ) → Takes heap result left → IfSome result (λ s. IsBest keys heap s) → TakesBest (entries_of keys heap) result (entries_of keys left)
 entries_taken keys heap left None takes best = (ap (entries_of keys) takes.0, ap (entries_of keys) takes.1)
-entries_taken keys heap left (Some state) takes best = (
-  key_at keys state,
-  (entries_Has keys heap state (key_at keys state)).1 (takes.0, refl),
-  (λ q k h. no_worse q k ((entries_Has keys heap q k).0 h)),
-  λ q k. (
+entries_taken keys heap left (Some state) takes best = record {
+  key = key_at keys state;
+  had = (entries_Has keys heap state (key_at keys state)).1 (takes.0, refl);
+  best = λ q k h. no_worse q k ((entries_Has keys heap q k).0 h);
+  left = λ q k. (
     (λ h. let m = (entries_Has keys left q k).0 h in let old = (takes.1 q).0 m.0 in ((entries_Has keys heap q k).1 (old.0, m.1), old.1)),
     λ h. let m = (entries_Has keys heap q k).0 h.0 in (entries_Has keys left q k).1 ((takes.1 q).1 (m.0, h.1), m.1),
-  ),
-)
+  );
+}
   where
     no_worse : (q : ℕ) (k : Key) → Has heap q × (k ≡ key_at keys q) → NoWorse (key_at keys state) k
     no_worse q k m = subst (λ x. NoWorse (key_at keys state) x) (sym m.1) (best q m.0)

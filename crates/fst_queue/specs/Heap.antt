@@ -1,5 +1,6 @@
 -- A heap of states by key, with the place of each state in it.
-use Rattle.std.specs.Prelude.{◌≡◌, ◌≢◌, ◌⊎◌, ◌↔◌, ℕ, ◌+◌, ◌*◌, ◌<◌, ◌≤◌, pos, false, List, [], Option, Some, None, map, length, get_or}
+use Rattle.std.specs.Prelude.{◌≡◌, ◌≢◌, ◌⊎◌, ◌↔◌, ℕ, ◌+◌, ◌*◌, ◌<◌, ◌≤◌, pos, false}
+use Rattle.std.specs.Prelude.{List, [], Option, Some, None, map, length, get_or}
 use Rattle.std.specs.Ordering.{is_gt}
 use Rattle.fst_semiring.specs.declared.key.Key.{Key}
 use Rattle.fst_semiring.specs.Keys.{key_cmp}
@@ -17,10 +18,17 @@ states_of entries = map (λ e. e.0) entries
 abbrev pub Rekeys : List (ℕ × Key) → ℕ → Key → List (ℕ × Key) → Type 0
 Rekeys old state key new = (q : ℕ) (k : Key) → Has new (q, k) ↔ (((q ≡ state) × (k ≡ key)) ⊎ ((q ≢ state) × Has old (q, k)))
 
--- the entries after a take: a state leaves whose key no other key betters
+-- a state leaves whose key no other key betters
+pub record BestLeaves (old : List (ℕ × Key)) (state : ℕ) (new : List (ℕ × Key)) : Type 0 where
+  pub key : Key
+  pub had : Has old (state, key)
+  pub best : (q : ℕ) (k : Key) → Has old (q, k) → NoWorse key k
+  pub left : (q : ℕ) (k : Key) → Has new (q, k) ↔ (Has old (q, k) × (q ≢ state))
+
+-- the entries after a take
 abbrev pub TakesBest : List (ℕ × Key) → Option ℕ → List (ℕ × Key) → Type 0
 TakesBest old None new = (old ≡ []) × (new ≡ [])
-TakesBest old (Some state) new = (key : Key) × Has old (state, key) × ((q : ℕ) (k : Key) → Has old (q, k) → NoWorse key k) × ((q : ℕ) (k : Key) → Has new (q, k) ↔ (Has old (q, k) × (q ≢ state)))
+TakesBest old (Some state) new = BestLeaves old state new
 
 -- the key of a state that never had one
 abbrev pub no_key : Key

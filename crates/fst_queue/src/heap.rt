@@ -59,7 +59,7 @@ fn exchange(heap: &mut Vec<u32>, places: &mut Vec<usize>, a: usize, b: usize)
 /// The place below another whose state is not worse than the other's there; `None` exactly where none is below it.
 fn best_below(heap: &Vec<u32>, places: &Vec<usize>, keys: &Vec<Key>, at: usize) -> Option<usize>
     requires linked { Linked heap.now.items places.now.items (length keys.now.items) }
-    ensures { MatchOption result (length heap.now.items ≤ 2 * at + 1) (λ c. IsBestBelow (length heap.now.items) (key_in keys.now.items heap.now.items) at c) }
+    ensures { let n = length heap.now.items in MatchOption result (n ≤ 2 * at + 1) (λ c. IsBestBelow n (key_in keys.now.items heap.now.items) at c) }
 {
     let len = heap.len();
     if at >= len / 2 {
