@@ -50,6 +50,8 @@ impl StateQueue for BestFirst {
     ghost members = { states_of };
 
     /// Adds a state with its key. A state that is present gets the new key.
+    ///
+    /// Takes time logarithmic in the members, apart from growth; memory only to grow.
     fn put(&mut self, state: u32, key: Key) -> Result<(), AllocError>
         ensures ok { OnOk result (Adds (states_of self.old) state (states_of self.new)) }
         ensures err { OnErr result (self.new ≡ self.old) }
@@ -59,7 +61,7 @@ impl StateQueue for BestFirst {
         insert(&mut self.heap, &mut self.places, &mut self.keys, state, key)
     }
 
-    /// Takes a state whose key no other betters.
+    /// Takes a state whose key no other betters. Takes time logarithmic in the members, and no memory.
     fn take(&mut self) -> Option<u32>
         ensures takes { Takes (states_of self.old) result (states_of self.new) }
         ensures apart { Apart (states_of self.new) }
@@ -68,6 +70,7 @@ impl StateQueue for BestFirst {
         leave(&mut self.heap, &mut self.places, &self.keys)
     }
 
+    /// Whether there is no member. Takes constant time and no memory.
     fn is_empty(&self) -> bool {
         self.heap.is_empty()
     }

@@ -47,7 +47,9 @@ impl Lifo {
 impl StateQueue for Lifo {
     ghost members = { λ q. q };
 
-    /// Adds a state behind the others. A state that is present keeps its place. The key says nothing.
+    /// Adds a state after the others. A state that is present keeps its place. The key says nothing.
+    ///
+    /// Takes constant time, apart from growth; memory only to grow.
     fn put(&mut self, state: u32, _key: Key) -> Result<(), AllocError>
         ensures ok { OnOk result (Adds self.old state self.new) }
         ensures err { OnErr result (self.new ≡ self.old) }
@@ -63,7 +65,7 @@ impl StateQueue for Lifo {
         Ok(())
     }
 
-    /// Takes the state that was put last.
+    /// Takes the state that was put last. Takes constant time and no memory.
     fn take(&mut self) -> Option<u32>
         ensures takes { Takes self.old result self.new }
         ensures apart { Apart self.new }
@@ -74,6 +76,7 @@ impl StateQueue for Lifo {
         Some(state)
     }
 
+    /// Whether there is no member. Takes constant time and no memory.
     fn is_empty(&self) -> bool {
         self.states.is_empty()
     }
