@@ -1,0 +1,6 @@
+pub mod Members
+pub mod Exchange
+pub mod HeapOrder
+pub mod HeapMembers
+pub mod HeapPuts
+pub mod HeapTakes

@@ -1,0 +1,128 @@
+-- What puts and takes do to the members and to the marks.
+use Rattle.std.proofs.Common.{◌≡◌, ◌≢◌, ◌⊎◌, inl, inr, ℕ, ◌<◌, ◌≤◌, Bool, true, false, List, [], ◌∷◌, ◌++◌, Some, length, set, get_or, sym, refl, ap, ◌∙◌, subst}
+use Rattle.std.specs.Bool.{Decides}
+use Rattle.std.proofs.lemmas.Bool.{cases_lt, cases_eq}
+use Rattle.std.proofs.lemmas.List.{get_or-set_same, get_or-set_other, get_or_past}
+use Rattle.fst_queue.specs.Members.{Has, Apart, Adds, Takes}
+use Rattle.fst_queue.specs.Orders.{Marks}
+
+pub Has-append_left : {X : Type 0} (xs ys : List X) (x : X) → Has xs x → Has (xs ++ ys) x
+Has-append_left [] ys x h = absurd h
+Has-append_left (z ∷ xs) ys x (inl e) = inl e
+Has-append_left (z ∷ xs) ys x (inr h) = inr (Has-append_left xs ys x h)
+
+pub Has-append_right : {X : Type 0} (xs ys : List X) (x : X) → Has ys x → Has (xs ++ ys) x
+Has-append_right [] ys x h = h
+Has-append_right (z ∷ xs) ys x h = inr (Has-append_right xs ys x h)
+
+-- one more element after the others
+pub Has-push : {X : Type 0} (xs : List X) (y x : X) → Has (xs ++ y ∷ []) x → Has xs x ⊎ (x ≡ y)
+Has-push [] y x (inl e) = inr (sym e)
+Has-push [] y x (inr none) = absurd none
+Has-push (z ∷ xs) y x (inl e) = inl (inl e)
+Has-push {X} (z ∷ xs) y x (inr h) = by_rest (Has-push xs y x h)
+  where
+    by_rest : Has xs x ⊎ (x ≡ y) → Has (z ∷ xs) x ⊎ (x ≡ y)
+    by_rest (inl r) = inl (inr r)
+    by_rest (inr e) = inr e
+
+pub Apart-push : {X : Type 0} (xs : List X) (x : X) → Apart xs → (Has xs x → ⊥) → Apart (xs ++ x ∷ [])
+Apart-push [] x apart new = ((λ h. h), tt)
+Apart-push {X} (z ∷ xs) x apart new = ((λ h. by_part (Has-push xs x z h)), Apart-push xs x apart.1 (λ h. new (inr h)))
+  where
+    by_part : Has xs z ⊎ (z ≡ x) → ⊥
+    by_part (inl front) = apart.0 front
+    by_part (inr e) = new (inl e)
+
+-- without the last element
+pub Apart-pop : {X : Type 0} (xs : List X) (x : X) → Apart (xs ++ x ∷ []) → Apart xs × (Has xs x → ⊥)
+Apart-pop [] x apart = (tt, λ h. h)
+Apart-pop {X} (z ∷ xs) x apart =
+    let rest = Apart-pop xs x apart.1 in
+    (((λ h. apart.0 (Has-append_left xs (x ∷ []) z h)), rest.0), λ h. none h rest.1)
+  where
+    none : Has (z ∷ xs) x → (Has xs x → ⊥) → ⊥
+    none (inl e) absent = apart.0 (Has-append_right xs (x ∷ []) z (inl (sym e)))
+    none (inr h) absent = absent h
+
+-- a state that is put after the others
+pub pushed_adds : (old new : List ℕ) (state : ℕ) → new ≡ old ++ state ∷ [] → Adds old state new
+pushed_adds old new state is q = ((λ h. Has-push old state q (subst (λ xs. Has xs q) is h)), λ h. subst (λ xs. Has xs q) (sym is) (there h))
+  where
+    there : Has old q ⊎ (q ≡ state) → Has (old ++ state ∷ []) q
+    there (inl h) = Has-append_left old (state ∷ []) q h
+    there (inr e) = Has-append_right old (state ∷ []) q (inl (sym e))
+
+-- the state that was put last leaves
+pub popped_takes : (old new : List ℕ) (state : ℕ) → old ≡ new ++ state ∷ [] → Apart old → Apart new × Takes old (Some state) new
+popped_takes old new state is apart =
+    let rest = Apart-pop new state (subst (λ xs. Apart xs) is apart) in (
+      rest.0,
+      (
+        subst (λ xs. Has xs state) (sym is) (Has-append_right new (state ∷ []) state (inl refl)),
+        λ q. (
+          (λ h. (subst (λ xs. Has xs q) (sym is) (Has-append_left new (state ∷ []) q h), λ e. rest.1 (subst (λ (n : ℕ). Has new n) e h))),
+          λ h. still q h.1 (Has-push new state q (subst (λ xs. Has xs q) is h.0)),
+        ),
+      ),
+    )
+  where
+    still : (q : ℕ) → q ≢ state → Has new q ⊎ (q ≡ state) → Has new q
+    still q other (inl h) = h
+    still q other (inr e) = absurd (other e)
+
+-- the state that was put first leaves
+pub first_takes : (old new : List ℕ) (state : ℕ) → old ≡ state ∷ new → Apart old → Apart new × Takes old (Some state) new
+first_takes old new state is apart =
+    let rest : Apart (state ∷ new) = subst (λ xs. Apart xs) is apart in (
+      rest.1,
+      (
+        subst (λ xs. Has xs state) (sym is) (inl refl),
+        λ q. (
+          (λ h. (subst (λ xs. Has xs q) (sym is) (inr h), λ e. rest.0 (subst (λ (n : ℕ). Has new n) e h))),
+          λ h. still q h.1 (subst (λ xs. Has xs q) is h.0),
+        ),
+      ),
+    )
+  where
+    still : (q : ℕ) → q ≢ state → Has (state ∷ new) q → Has new q
+    still q other (inl e) = absurd (other (sym e))
+    still q other (inr h) = h
+
+-- a member has a mark
+pub marked_within : (marks : List Bool) (states : List ℕ) (q : ℕ) → Marks marks states → Has states q → q < length marks
+marked_within marks states q are h = by_place (cases_lt q (length marks))
+  where
+    by_place : (q < length marks) ⊎ (length marks ≤ q) → q < length marks
+    by_place (inl low) = low
+    by_place (inr past) = absurd (let wrong : false ≡ true = sym (get_or_past marks q false past) ∙ (are q).1 h in cc)
+
+-- a state without a mark is no member
+pub unmarked : (marks : List Bool) (states : List ℕ) (q : ℕ) (b : Bool) → Marks marks states → b ≡ get_or marks q false → b ≡ false → Has states q → ⊥
+unmarked marks states q b are is false_is h = let wrong : true ≡ false = sym ((are q).1 h) ∙ sym is ∙ false_is in cc
+
+-- a new member gets its mark, in marks that have grown
+pub Marks-put : (marks grown : List Bool) (old new : List ℕ) (state : ℕ) → Marks marks old → ((q : ℕ) → get_or grown q false ≡ get_or marks q false) → state < length grown → Adds old state new → Marks (set grown state true) new
+Marks-put marks grown old new state are same room adds q = by_place (cases_eq q state)
+  where
+    by_place : (q ≡ state) ⊎ (q ≡ state → ⊥) → Decides (get_or (set grown state true) q false) (Has new q)
+    by_place (inl here) = ((λ marked. (adds q).1 (inr here)), λ h. ap (λ (j : ℕ). get_or (set grown state true) j false) here ∙ get_or-set_same grown state true false room)
+    by_place (inr other) =
+        let kept : get_or (set grown state true) q false ≡ get_or marks q false = get_or-set_other grown state q true false other ∙ same q in
+        ((λ marked. (adds q).1 (inl ((are q).0 (sym kept ∙ marked)))), λ h. kept ∙ (are q).1 (old_one ((adds q).0 h)))
+      where
+        old_one : Has old q ⊎ (q ≡ state) → Has old q
+        old_one (inl h) = h
+        old_one (inr e) = absurd (other e)
+
+-- a member that leaves loses its mark
+pub Marks-taken : (marks : List Bool) (old new : List ℕ) (state : ℕ) → Marks marks old → Takes old (Some state) new → Marks (set marks state false) new
+Marks-taken marks old new state are takes q = by_place (cases_eq q state)
+  where
+    by_place : (q ≡ state) ⊎ (q ≡ state → ⊥) → Decides (get_or (set marks state false) q false) (Has new q)
+    by_place (inl here) =
+        let cleared : get_or (set marks state false) q false ≡ false = ap (λ (j : ℕ). get_or (set marks state false) j false) here ∙ get_or-set_same marks state false false (marked_within marks old state are takes.0) in
+        ((λ marked. absurd (let wrong : false ≡ true = sym cleared ∙ marked in cc)), λ h. absurd (((takes.1 q).0 h).1 here))
+    by_place (inr other) =
+        let kept : get_or (set marks state false) q false ≡ get_or marks q false = get_or-set_other marks state q false false other in
+        ((λ marked. (takes.1 q).1 ((are q).0 (sym kept ∙ marked), other)), λ h. kept ∙ (are q).1 ((takes.1 q).0 h).0)

@@ -1,0 +1,21 @@
+//! Orders of states: which state a search of distances looks at next.
+//!
+//! A `StateQueue` has states as its members, each once, and gives one of them back at each `take`. Which one that is
+//! each queue says by a clause of its own: `Fifo` the one that was put first, `Lifo` the one that was put last, and
+//! `BestFirst` one whose last key no other betters. A search is right with every queue; only its time differs.
+//!
+//! Each queue knows its members by a table over the numbers of the states, so that no list is searched. The tables grow
+//! at least twice as long where a state is past their end, and never shrink.
+#![tactic(auto)]
+
+mod best_first;
+mod fifo;
+mod heap;
+mod lifo;
+mod marks;
+mod queue;
+
+pub use best_first::BestFirst;
+pub use fifo::Fifo;
+pub use lifo::Lifo;
+pub use queue::StateQueue;
