@@ -12,7 +12,7 @@ use Rattle.std.proofs.lemmas.Option.{slice_get-get_or}
 use Rattle.fst_machine.proofs.Arcs.{mapped_some}
 use Rattle.fst_semiring.specs.Cost.{Cost, best, finite, infinite}
 use Rattle.fst_semiring.specs.declared.arc_type.ArcType.{ArcType}
-use Rattle.fst_machine.specs.Machine.{Arc, State, Machine, IsArc, IsMachine, arc_total, changed, most_arcs, most_states, valued_arc, valued_state, with_arc}
+use Rattle.fst_machine.specs.Machine.{Arc, State, Machine, IsArc, IsMachine, arc_total, changed, valued_arc, valued_state, with_arc}
 use Rattle.fst_machine.specs.Graph.{no_state}
 use Rattle.fst_machine.specs.Continuing.{leaving}
 use Rattle.fst_rational.specs.Changing.{goings, onward}

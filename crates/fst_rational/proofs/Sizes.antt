@@ -1,10 +1,10 @@
 -- Results that are too big, and those that are not.
-use Rattle.std.proofs.Common.{◌≡◌, ◌⊎◌, inl, inr, ℕ, ◌<◌, ◌≤◌, nat_lt, Bool, true, false, Option, None, Some, Ok, Err, length, refl, sym, ap, subst, ◌∙◌, arith, if◌then◌else◌}
+use Rattle.std.proofs.Common.{◌≡◌, ◌⊎◌, inl, inr, ℕ, ◌<◌, ◌≤◌, nat_lt, Bool, true, false, Option, None, Some, Ok, Err, refl, sym, ap, subst, ◌∙◌, arith, if◌then◌else◌}
 use Rattle.std.specs.Prelude.{Result}
 use Rattle.std.proofs.lemmas.Bool.{cases_lt}
 use Rattle.std.proofs.lemmas.Bool.Decides.{nat_tests}
 use Rattle.fst_semiring.specs.Cost.{Cost}
-use Rattle.fst_machine.specs.Machine.{Machine, arc_total, most_arcs, most_states}
+use Rattle.fst_machine.specs.Machine.{Machine, most_arcs, most_states}
 use Rattle.fst_rational.specs.declared.fault.RationalFault.{RationalFault}
 use Rattle.fst_rational.specs.declared.fault.RationalFault.TheVariants.{TooManyStates, TooManyArcs, Memory}
 use Rattle.fst_rational.specs.Limits.{IsLimited, IsSize, IsSmall, size_fault}

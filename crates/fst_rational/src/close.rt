@@ -8,31 +8,12 @@ ghost use Rattle.fst_rational.specs.Limits.{IsLimited, IsSize, IsSmall};
 ghost use Rattle.fst_rational.specs.Relations.{Closes};
 
 use crate::change::{Carrying, count_onward, put_entry, put_states};
+use crate::construction::{Construction, construct};
 use crate::fault::RationalFault;
-use crate::size::{check_size, entries};
+use crate::size::entries;
 use fst_machine::{Fst, FstArc, StateList};
 use fst_semiring::Weight;
 use std::alloc::{AllocError, Global};
-
-/// How many states and arcs a star has, and with it what holds of the operand.
-fn star_size<W: Weight>(a: &Fst<W>) -> (u32, u32)
-    ensures operand { IsMachine W.value a.now }
-    ensures size { IsSize (star_of W.KIND (valued W.value a.now)) result }
-{
-    let states = a.states();
-    let arcs = a.arc_count() + count_onward(a, Some(0)) + entries(a.start());
-    (states + 1, arcs)
-}
-
-/// How many states and arcs a plus has, and with it what holds of the operand.
-fn plus_size<W: Weight>(a: &Fst<W>) -> (u32, u32)
-    ensures operand { IsMachine W.value a.now }
-    ensures size { IsSize (plus_of (valued W.value a.now)) result }
-{
-    let states = a.states();
-    let arcs = a.arc_count() + count_onward(a, a.start());
-    (states, arcs)
-}
 
 /// The final weight of the new start of a star: One, which is the product of no triples.
 fn weight_of_none<W: Weight>() -> W
@@ -101,35 +82,43 @@ fn build_plus<W: Weight>(
     Ok(list.into_machine(a.start()))
 }
 
-/// The star of a machine, unless it is too big.
-fn close_star<W: Weight>(alloc: Global, a: &Fst<W>) -> Result<Fst<W>, RationalFault>
-    ensures limits { IsLimited (star_of W.KIND (valued W.value a.now)) result }
-    ensures machine { IfOk result (λ m. valued W.value m ≡ star_of W.KIND (valued W.value a.now)) }
-    ensures relation { IfOk result (λ m. Closes W.KIND false (valued W.value a.now) (valued W.value m)) }
-{
-    let needed = star_size(a);
-    if let Some(fault) = check_size(needed) {
-        return Err(fault);
+/// The star of a machine.
+#[derive(Drop)]
+struct Starring<'a, W: Weight> {
+    a: &'a Fst<W>,
+}
+
+impl<'a, W: Weight> Construction<W> for Starring<'a, W> {
+    ghost machine = { λ s. star_of W.KIND (valued W.value s.a.now) };
+
+    fn size(&self) -> (u32, u32) {
+        let states = self.a.states();
+        let own = self.a.arc_count() + count_onward(self.a, Some(0));
+        (states + 1, own + entries(self.a.start()))
     }
-    match build_star(alloc, a, needed) {
-        Ok(closed) => Ok(closed),
-        Err(_) => Err(RationalFault::Memory),
+
+    fn build(&self, alloc: Global, needed: (u32, u32)) -> Result<Fst<W>, AllocError> {
+        build_star(alloc, self.a, needed)
     }
 }
 
-/// The plus of a machine, unless it is too big.
-fn close_plus<W: Weight>(alloc: Global, a: &Fst<W>) -> Result<Fst<W>, RationalFault>
-    ensures limits { IsLimited (plus_of (valued W.value a.now)) result }
-    ensures machine { IfOk result (λ m. valued W.value m ≡ plus_of (valued W.value a.now)) }
-    ensures relation { IfOk result (λ m. Closes W.KIND true (valued W.value a.now) (valued W.value m)) }
-{
-    let needed = plus_size(a);
-    if let Some(fault) = check_size(needed) {
-        return Err(fault);
+/// The plus of a machine.
+#[derive(Drop)]
+struct Repeating<'a, W: Weight> {
+    a: &'a Fst<W>,
+}
+
+impl<'a, W: Weight> Construction<W> for Repeating<'a, W> {
+    ghost machine = { λ s. plus_of (valued W.value s.a.now) };
+
+    fn size(&self) -> (u32, u32) {
+        let states = self.a.states();
+        let arcs = self.a.arc_count() + count_onward(self.a, self.a.start());
+        (states, arcs)
     }
-    match build_plus(alloc, a, needed) {
-        Ok(closed) => Ok(closed),
-        Err(_) => Err(RationalFault::Memory),
+
+    fn build(&self, alloc: Global, needed: (u32, u32)) -> Result<Fst<W>, AllocError> {
+        build_plus(alloc, self.a, needed)
     }
 }
 
@@ -142,9 +131,11 @@ pub fn closure<W: Weight>(alloc: Global, a: &Fst<W>, plus: bool) -> Result<Fst<W
     ensures machine { IfOk result (λ m. valued W.value m ≡ closure_of W.KIND plus (valued W.value a.now)) }
     ensures relation { IfOk result (λ m. Closes W.KIND plus (valued W.value a.now) (valued W.value m)) }
 {
+    // What holds of the operand.
+    let _states = a.states();
     if plus {
-        close_plus(alloc, a)
+        construct(alloc, &Repeating { a })
     } else {
-        close_star(alloc, a)
+        construct(alloc, &Starring { a })
     }
 }

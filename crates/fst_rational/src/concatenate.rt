@@ -8,8 +8,8 @@ ghost use Rattle.fst_rational.specs.Limits.{IsLimited, IsSize, IsSmall};
 ghost use Rattle.fst_rational.specs.Relations.{Concatenates};
 
 use crate::change::{Carrying, count_onward, put_states};
+use crate::construction::{Construction, construct};
 use crate::fault::RationalFault;
-use crate::size::check_size;
 use fst_machine::{Fst, StateList};
 use fst_semiring::Weight;
 use std::alloc::{AllocError, Global};
@@ -23,18 +23,6 @@ fn shifted(shift: u32, start: Option<u32>) -> Option<u32>
         Some(start) => Some(shift + start),
         None => None,
     }
-}
-
-/// How many states and arcs a concatenation has, and with it what holds of the operands.
-fn size<W: Weight>(a: &Fst<W>, b: &Fst<W>) -> (u32, u32)
-    ensures operands { IsMachine W.value a.now × IsMachine W.value b.now }
-    ensures size { IsSize (concat_of (valued W.value a.now) (valued W.value b.now)) result }
-{
-    let front = a.states();
-    let back = b.states();
-    let target = shifted(front, b.start());
-    let arcs = a.arc_count() + count_onward(a, target) + b.arc_count();
-    (front + back, arcs)
 }
 
 /// The concatenation, which is not too big; what it needs is reserved at once.
@@ -66,6 +54,29 @@ fn build<W: Weight>(
     Ok(list.into_machine(a.start()))
 }
 
+/// The concatenation of two machines.
+#[derive(Drop)]
+struct Joining<'a, W: Weight> {
+    a: &'a Fst<W>,
+    b: &'a Fst<W>,
+}
+
+impl<'a, W: Weight> Construction<W> for Joining<'a, W> {
+    ghost machine = { λ s. concat_of (valued W.value s.a.now) (valued W.value s.b.now) };
+
+    fn size(&self) -> (u32, u32) {
+        let front = self.a.states();
+        let back = self.b.states();
+        let target = shifted(front, self.b.start());
+        let arcs = self.a.arc_count() + count_onward(self.a, target) + self.b.arc_count();
+        (front + back, arcs)
+    }
+
+    fn build(&self, alloc: Global, needed: (u32, u32)) -> Result<Fst<W>, AllocError> {
+        build(alloc, self.a, self.b, needed)
+    }
+}
+
 /// The concatenation of two machines: the states of the first, which are not final and go on from each final
 /// weight by an epsilon arc with this weight to the start of the second, if it has one; then the states of the
 /// second. (Mohri 2009, section 3.1.) A concatenation that is too big is refused before anything of it is made.
@@ -74,12 +85,7 @@ pub fn concat<W: Weight>(alloc: Global, a: &Fst<W>, b: &Fst<W>) -> Result<Fst<W>
     ensures machine { IfOk result (λ m. valued W.value m ≡ concat_of (valued W.value a.now) (valued W.value b.now)) }
     ensures relation { IfOk result (λ m. Concatenates W.KIND (valued W.value a.now) (valued W.value b.now) (valued W.value m)) }
 {
-    let needed = size(a, b);
-    if let Some(fault) = check_size(needed) {
-        return Err(fault);
-    }
-    match build(alloc, a, b, needed) {
-        Ok(joined) => Ok(joined),
-        Err(_) => Err(RationalFault::Memory),
-    }
+    // What holds of the operands.
+    let _states = (a.states(), b.states());
+    construct(alloc, &Joining { a, b })
 }

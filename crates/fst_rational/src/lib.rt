@@ -7,6 +7,7 @@
 mod change;
 mod close;
 mod concatenate;
+mod construction;
 mod fault;
 mod labels;
 mod pairs;

@@ -9,22 +9,12 @@ ghost use Rattle.fst_rational.specs.Limits.{IsLimited, IsSize, IsSmall};
 ghost use Rattle.fst_rational.specs.Relations.{Reverses};
 
 use crate::change::{count_onward, put_onward};
+use crate::construction::{Construction, construct};
 use crate::fault::RationalFault;
-use crate::size::check_size;
 use fst_machine::{Fst, FstArc, StateList};
 use fst_semiring::Weight;
 use std::alloc::{AllocError, Global};
 use std::marker::Model;
-
-/// How many states and arcs a reversal has, and with it what holds of the operand.
-fn size<W: Weight>(a: &Fst<W>) -> (u32, u32)
-    ensures operand { IsMachine W.value a.now }
-    ensures size { IsSize (reverse_of W.KIND (valued W.value a.now)) result }
-{
-    let states = a.states();
-    let arcs = a.arc_count() + count_onward(a, Some(0));
-    (states + 1, arcs)
-}
 
 /// Puts the epsilon arcs to the final states, one place further on, behind those of a list.
 fn put_finals<W: Weight>(own: &mut Vec<FstArc<W>>, a: &Fst<W>) -> Result<(), AllocError>
@@ -182,6 +172,26 @@ fn build<W: Weight>(alloc: Global, a: &Fst<W>, needed: (u32, u32)) -> Result<Fst
     Ok(list.into_machine(Some(0)))
 }
 
+/// The reversal of a machine.
+#[derive(Drop)]
+struct Reversing<'a, W: Weight> {
+    a: &'a Fst<W>,
+}
+
+impl<'a, W: Weight> Construction<W> for Reversing<'a, W> {
+    ghost machine = { λ s. reverse_of W.KIND (valued W.value s.a.now) };
+
+    fn size(&self) -> (u32, u32) {
+        let states = self.a.states();
+        let arcs = self.a.arc_count() + count_onward(self.a, Some(0));
+        (states + 1, arcs)
+    }
+
+    fn build(&self, alloc: Global, needed: (u32, u32)) -> Result<Fst<W>, AllocError> {
+        build(alloc, self.a, needed)
+    }
+}
+
 /// The reversal of a machine: a new start, which is not final, with an epsilon arc to each final state, by
 /// number, with its final weight; then the states one place further on, of which the old start alone is final,
 /// with weight One, and which have the arcs that led to them, by their old source and place. (Mohri 2009, section
@@ -191,12 +201,7 @@ pub fn reverse<W: Weight>(alloc: Global, a: &Fst<W>) -> Result<Fst<W>, RationalF
     ensures machine { IfOk result (λ m. valued W.value m ≡ reverse_of W.KIND (valued W.value a.now)) }
     ensures relation { IfOk result (λ m. Reverses W.KIND (valued W.value a.now) (valued W.value m)) }
 {
-    let needed = size(a);
-    if let Some(fault) = check_size(needed) {
-        return Err(fault);
-    }
-    match build(alloc, a, needed) {
-        Ok(turned) => Ok(turned),
-        Err(_) => Err(RationalFault::Memory),
-    }
+    // What holds of the operand.
+    let _states = a.states();
+    construct(alloc, &Reversing { a })
 }

@@ -7,21 +7,12 @@ ghost use Rattle.fst_rational.specs.Limits.{IsLimited, IsSize, IsSmall};
 ghost use Rattle.fst_rational.specs.Relations.{Unites};
 
 use crate::change::{Carrying, put_entry, put_states};
+use crate::construction::{Construction, construct};
 use crate::fault::RationalFault;
-use crate::size::{check_size, entries};
+use crate::size::entries;
 use fst_machine::{Fst, FstArc, StateList};
 use fst_semiring::Weight;
 use std::alloc::{AllocError, Global};
-
-/// How many states and arcs a union has, and with it what holds of the operands.
-fn size<W: Weight>(a: &Fst<W>, b: &Fst<W>) -> (u32, u32)
-    ensures operands { IsMachine W.value a.now × IsMachine W.value b.now }
-    ensures size { IsSize (union_of W.KIND (valued W.value a.now) (valued W.value b.now)) result }
-{
-    let states = a.states() + b.states() + 1;
-    let arcs = a.arc_count() + b.arc_count() + entries(a.start()) + entries(b.start());
-    (states, arcs)
-}
 
 /// Puts the new start, which enters both operands, as the first state. The list `own` is for its arcs.
 fn put_start<W: Weight>(
@@ -41,6 +32,28 @@ fn put_start<W: Weight>(
     put_entry(own, behind, b.start())?;
     list.push(W::zero(), own)?;
     Ok(())
+}
+
+/// The union of two machines.
+#[derive(Drop)]
+struct Uniting<'a, W: Weight> {
+    a: &'a Fst<W>,
+    b: &'a Fst<W>,
+}
+
+impl<'a, W: Weight> Construction<W> for Uniting<'a, W> {
+    ghost machine = { λ s. union_of W.KIND (valued W.value s.a.now) (valued W.value s.b.now) };
+
+    fn size(&self) -> (u32, u32) {
+        let states = self.a.states() + self.b.states() + 1;
+        let own = self.a.arc_count() + self.b.arc_count();
+        let arcs = own + entries(self.a.start()) + entries(self.b.start());
+        (states, arcs)
+    }
+
+    fn build(&self, alloc: Global, needed: (u32, u32)) -> Result<Fst<W>, AllocError> {
+        build(alloc, self.a, self.b, needed)
+    }
 }
 
 /// The union, which is not too big; what it needs is reserved at once.
@@ -81,12 +94,7 @@ pub fn union<W: Weight>(alloc: Global, a: &Fst<W>, b: &Fst<W>) -> Result<Fst<W>,
     ensures machine { IfOk result (λ m. valued W.value m ≡ union_of W.KIND (valued W.value a.now) (valued W.value b.now)) }
     ensures relation { IfOk result (λ m. Unites W.KIND (valued W.value a.now) (valued W.value b.now) (valued W.value m)) }
 {
-    let needed = size(a, b);
-    if let Some(fault) = check_size(needed) {
-        return Err(fault);
-    }
-    match build(alloc, a, b, needed) {
-        Ok(union) => Ok(union),
-        Err(_) => Err(RationalFault::Memory),
-    }
+    // What holds of the operands.
+    let _states = (a.states(), b.states());
+    construct(alloc, &Uniting { a, b })
 }

@@ -1,27 +1,14 @@
-use Rattle.std.proofs.Common.{sym, subst, ◌∙◌}
 use Rattle.fst_machine.specs.Machine.{valued}
 use Rattle.fst_rational.specs.Relations.{Unites}
 use Rattle.fst_machine.proofs.Valued.{IsMachine-valued}
-use Rattle.fst_rational.proofs.Sizes.{fits, limited_memory, limited_ok, limited_refused}
+use Rattle.fst_rational.proofs.Made.{made}
 use Rattle.fst_rational.proofs.Uniting.{union-Unites}
 use Rattle.fst_rational.proofs.unite.union.Goals as goal
 
-pub returns-in-Some-clause-limits : goal.returns-in-Some-clause-limits
-returns-in-Some-clause-limits g c = limited_refused c.size-needed.ensures.size (c.check_size.ensures ∙ c.in-Some.is)
-
-pub build-requires : goal.build-requires
-build-requires g c = fits c.size-needed.ensures.size (c.check_size.ensures ∙ c.in_default.is)
-
-pub returns-in-Ok-clause-limits : goal.returns-in-Ok-clause-limits
-returns-in-Ok-clause-limits g c = limited_ok c.size-needed.ensures.size (c.check_size.ensures ∙ c.in_default.is)
-
-pub returns-in-Ok-clause-relation : goal.returns-in-Ok-clause-relation
-returns-in-Ok-clause-relation g c =
+pub returns-clause-relation : goal.returns-clause-relation
+returns-clause-relation g c =
     let value = g.W.Weight.value in
     let kind = g.W.Weight.KIND in
     let a = valued value c.args.a.now in
     let b = valued value c.args.b.now in
-    subst (λ m. Unites kind a b m) (sym c.in-Ok.ensures) (union-Unites kind a b (IsMachine-valued value c.args.a.now c.size-needed.ensures.operands.0) (IsMachine-valued value c.args.b.now c.size-needed.ensures.operands.1))
-
-pub returns-in-Err-clause-limits : goal.returns-in-Err-clause-limits
-returns-in-Err-clause-limits g c = limited_memory c.size-needed.ensures.size (c.check_size.ensures ∙ c.in_default.is)
+    made (valued value) (Unites kind a b) c.construct.result c.construct.ensures.machine (union-Unites kind a b (IsMachine-valued value c.args.a.now c.states.ensures.machine) (IsMachine-valued value c.args.b.now c.states-2.ensures.machine))

@@ -1,0 +1,48 @@
+//! Machines whose size is known before anything of them is made.
+
+ghost use Rattle.std.specs.Prelude.{◌≡◌, IfOk};
+ghost use Rattle.fst_machine.specs.Machine.{valued};
+ghost use Rattle.fst_rational.specs.Limits.{IsLimited, IsSize, IsSmall};
+
+use crate::fault::RationalFault;
+use crate::size::check_size;
+use fst_machine::Fst;
+use fst_semiring::Weight;
+use std::alloc::{AllocError, Global};
+
+/// An operation on the machines that it holds.
+pub(crate) trait Construction<W: Weight> {
+    ghost use Rattle.fst_semiring.specs.Cost.{Cost};
+    ghost use Rattle.fst_machine.specs.Machine.{Machine};
+
+    /// The machine of the construction.
+    ghost machine: { Self → Machine Cost };
+
+    /// How many states and arcs the machine has.
+    fn size(&self) -> (u32, u32)
+        ensures { IsSize (machine self.now) result };
+
+    /// The machine, which is not too big; what it needs is reserved at once.
+    fn build(&self, alloc: Global, needed: (u32, u32)) -> Result<Fst<W>, AllocError>
+        requires { IsSmall (machine self.now) }
+        ensures { IfOk result (λ m. valued W.value m ≡ machine self.now) };
+}
+
+/// The machine of a construction. One that is too big is refused before anything of it is made.
+pub(crate) fn construct<W: Weight, C: Construction<W>>(
+    alloc: Global,
+    construction: &C,
+) -> Result<Fst<W>, RationalFault>
+    ensures limits { IsLimited (C.machine construction.now) result }
+    ensures machine { IfOk result (λ m. valued W.value m ≡ C.machine construction.now) }
+{
+    let needed = construction.size();
+    if let Some(fault) = check_size(needed) {
+        return Err(fault);
+    }
+    match construction.build(alloc, needed) {
+        Ok(made) => Ok(made),
+        // A lack of memory becomes a fault here alone.
+        Err(_) => Err(RationalFault::Memory),
+    }
+}
