@@ -1,5 +1,27 @@
 -- How exactly a memory desk behaves: what it keeps, and what each call makes of that.
-use Rattle.std.specs.Prelude.{◌≡◌, ℕ, ◌<◌, ◌≤◌, ◌⊎◌, Bool, nat_eq, if◌then◌else◌, List, [], ◌∷◌, ◌++◌, length, take, Option, None, Some, IsSome, Result, Ok, Err}
+use Rattle.std.specs.Prelude.{
+  ◌≡◌,
+  ℕ,
+  ◌<◌,
+  ◌≤◌,
+  ◌⊎◌,
+  Bool,
+  nat_eq,
+  if◌then◌else◌,
+  List,
+  [],
+  ◌∷◌,
+  ◌++◌,
+  length,
+  take,
+  Option,
+  None,
+  Some,
+  IsSome,
+  Result,
+  Ok,
+  Err,
+}
 use Rattle.std.specs.Str.{bytes_eq}
 use Rattle.fst_desk.specs.Seen.{Files, Seen, raised}
 use Rattle.fst_desk.specs.declared.edge.FetchFault.{FetchFault}

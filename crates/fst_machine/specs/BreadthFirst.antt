@@ -41,7 +41,8 @@ pub record IsBreadthFirst {N : Type 0} (g : Graph N) (start : N) (names : List N
   pub apart : Apart names
   pub closed : (i k : ℕ) (z : N) → LeadsTo g names z i k → Has names z
   pub found : (n : ℕ) (z : N) → slice_get names n ≡ Some z → 0 < n → (i : ℕ) × (k : ℕ) × IsLeastPair g names z i k × (i < n)
-  pub ordered : (n m : ℕ) (y z : N) (i k j l : ℕ) → 0 < n → n < m → slice_get names n ≡ Some y → slice_get names m ≡ Some z → IsLeastPair g names y i k → IsLeastPair g names z j l → Precedes i k j l
+  pub ordered : (n m : ℕ) (y z : N) (i k j l : ℕ) → 0 < n → n < m → slice_get names n ≡ Some y → slice_get names m ≡ Some z
+      → IsLeastPair g names y i k → IsLeastPair g names z j l → Precedes i k j l
 
 -- The same by how a walk makes it. The names grow by each of these that they do not have yet.
 abbrev pub Grows : {N : Type 0} → List N → List N → List N → Type 0

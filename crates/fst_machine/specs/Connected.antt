@@ -18,7 +18,8 @@ abbrev pub Kept : List ℕ → List (Arc Cost ℕ) → List (Arc Cost ℕ) → T
 Kept kept [] [] = Unit {0}
 Kept kept [] (b ∷ new) = ⊥
 Kept kept (a ∷ arcs) [] = (Has kept a.next → ⊥) × Kept kept arcs []
-Kept kept (a ∷ arcs) (b ∷ new) = ((Has kept a.next → ⊥) × Kept kept arcs (b ∷ new)) ⊎ ((slice_get kept b.next ≡ Some a.next) × (letter_of b ≡ letter_of a) × Kept kept arcs new)
+Kept kept (a ∷ arcs) (b ∷ new) = ((Has kept a.next → ⊥) × Kept kept arcs (b ∷ new))
+    ⊎ ((slice_get kept b.next ≡ Some a.next) × (letter_of b ≡ letter_of a) × Kept kept arcs new)
 
 -- The arc in place k of these is the one in place j of those that lead to kept states.
 abbrev pub IsKeptAt : List ℕ → List (Arc Cost ℕ) → ℕ → ℕ → Type 0

@@ -34,7 +34,8 @@ pub record Stays {N M : Type 0} (f : N → M) (g : Graph N) (Domain : N → Type
 
 -- A path of h is, renamed, a path of g from n to a final name, then the epsilon arc with that name's final
 -- weight, and then a path from c.
-pub record GoesOn {N M : Type 0} (f : N → M) (g : Graph N) (h : Graph M) (Domain : N → Type 0) (c : M) (n : N) (path : List (Transition M)) (last : M) : Type 0 where
+pub record GoesOn {N M : Type 0} (f : N → M) (g : Graph N) (h : Graph M) (Domain : N
+    → Type 0) (c : M) (n : N) (path : List (Transition M)) (last : M) : Type 0 where
   pub old : List (Transition N)
   pub end : N
   pub leads : IsPath g n old end

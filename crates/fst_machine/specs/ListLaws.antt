@@ -20,5 +20,6 @@ pub record BreadthFirstLaws {N : Type 0} (g : Graph N) (start : N) (names : List
 -- The order of paths is total, different successful paths do not tie, and the first n are one list.
 pub record PathOrderLaws {N : Type 0} (kind : ArcType) (g : Graph N) : Type 0 where
   pub total : IsTotalOrder {K = WeightedPath N} path_cmp
-  pub apart : (a b : WeightedPath N) → IsSuccessful kind g a.path a.weight → IsSuccessful kind g b.path b.weight → (a ≡ b) ⊎ ((path_cmp a b ≡ Less) ⊎ (path_cmp b a ≡ Less))
+  pub apart : (a b : WeightedPath N) → IsSuccessful kind g a.path a.weight → IsSuccessful kind g b.path b.weight
+      → (a ≡ b) ⊎ ((path_cmp a b ≡ Less) ⊎ (path_cmp b a ≡ Less))
   pub first : (n : ℕ) (one two : List (WeightedPath N)) → IsFirst kind g n one → IsFirst kind g n two → one ≡ two

@@ -11,7 +11,8 @@ use Rattle.fst_machine.specs.Relation.{IsSuccessful}
 
 -- Two successful paths, of which the first writes what the second reads, with their triple: what the first
 -- reads, what the second writes, and the product of their weights.
-pub record IsMatchingPair {N M : Type 0} (kind : ArcType) (a : Graph N) (b : Graph M) (one : List (Transition N)) (two : List (Transition M)) (x z : List ℕ) (w : Cost) : Type 0 where
+pub record IsMatchingPair {N M : Type 0} (kind : ArcType) (a : Graph N) (b : Graph M) (one : List (Transition N)) (two : List (Transition M))
+    (x z : List ℕ) (w : Cost) : Type 0 where
   pub first_weight : Cost
   pub second_weight : Cost
   pub first : IsSuccessful kind a one first_weight

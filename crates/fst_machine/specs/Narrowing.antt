@@ -22,7 +22,8 @@ pub record IsFirstPast (m : Machine Cost) (state : ℕ) : Type 0 where
 -- The fault names a state only where it is the first of the machine with a number past the range, and where there
 -- is one, nothing but a lack of memory comes before it.
 abbrev pub Overflows : {X : Type 0} → Machine Cost → Result X NarrowFault → Type 0
-Overflows m result = (state : ℕ) → (IsErrOf result (Overflow state) → IsFirstPast m state) × (IsFirstPast m state → IsErrOf result (Overflow state) ⊎ IsErrOf result Memory)
+Overflows m result = (state : ℕ)
+    → (IsErrOf result (Overflow state) → IsFirstPast m state) × (IsFirstPast m state → IsErrOf result (Overflow state) ⊎ IsErrOf result Memory)
 
 -- what a fault says of the machine
 abbrev pub IsCause : Machine Cost → NarrowFault → Type 0

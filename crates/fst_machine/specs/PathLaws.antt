@@ -21,7 +21,8 @@ pub record PathLaws {N : Type 0} (kind : ArcType) (g : Graph N) : Type 0 where
   pub read : (walk : List (N × ℕ)) (p q : N) → IsWalk g p walk q → (path : List (Transition N)) × IsPath g p path q × (places path ≡ walk)
   pub fixed : (one two : List (Transition N)) (p q r : N) → IsPath g p one q → IsPath g p two r → arc_places one ≡ arc_places two → (one ≡ two) × (q ≡ r)
   pub says : (p : N) (x y : List ℕ) (w : Cost) → RelFrom kind g p x y w ↔ (SaysEnd kind g p x y w ⊎ SaysArc kind g p x y w)
-  pub silent : (p q : N) (place : ℕ) (x y : List ℕ) (w : Cost) → slice_get (g.arcs p) place ≡ Some (epsilon_arc (one_of kind) q) → RelFrom kind g q x y w → RelFrom kind g p x y w
+  pub silent : (p q : N) (place : ℕ) (x y : List ℕ) (w : Cost) → slice_get (g.arcs p) place ≡ Some (epsilon_arc (one_of kind) q)
+      → RelFrom kind g q x y w → RelFrom kind g p x y w
 
 -- What two lists of letters say together, and what one says turned round; the product of values of the arc type
 -- is one, and its numbers are within as many times the bound of its factors as there are factors.

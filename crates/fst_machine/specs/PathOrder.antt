@@ -23,7 +23,8 @@ arc_places path = map (λ t. t.place) path
 
 -- by weight, the better first, then by number of arcs, the fewer first, then by the places of the arcs
 abbrev pub path_cmp : {N : Type 0} → WeightedPath N → WeightedPath N → Ordering
-path_cmp a b = ordering_then (cost_cmp a.weight b.weight) (ordering_then (nat_cmp (length a.path) (length b.path)) (slice_cmp nat_cmp (arc_places a.path) (arc_places b.path)))
+path_cmp a b = ordering_then (cost_cmp a.weight b.weight) (ordering_then (nat_cmp (length a.path) (length b.path)) (slice_cmp nat_cmp
+    (arc_places a.path) (arc_places b.path)))
 
 -- each path of the list comes before all that stand behind it
 abbrev pub Ascends : {N : Type 0} → List (WeightedPath N) → Type 0
@@ -36,4 +37,5 @@ pub record IsFirst {N : Type 0} (kind : ArcType) (g : Graph N) (n : ℕ) (paths 
   pub few : length paths ≤ n
   pub ascends : Ascends paths
   pub successful : (a : WeightedPath N) → Has paths a → IsSuccessful kind g a.path a.weight
-  pub others : (b : WeightedPath N) → IsSuccessful kind g b.path b.weight → Has paths b ⊎ ((length paths ≡ n) × ((a : WeightedPath N) → Has paths a → path_cmp a b ≡ Less))
+  pub others : (b : WeightedPath N) → IsSuccessful kind g b.path b.weight
+      → Has paths b ⊎ ((length paths ≡ n) × ((a : WeightedPath N) → Has paths a → path_cmp a b ≡ Less))

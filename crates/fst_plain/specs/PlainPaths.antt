@@ -59,7 +59,8 @@ pub record ListsPaths (kind : ArcType) (g : Graph ℕ) (k : ℕ) (listed : List 
 -- these are the paths from a start with less than k arcs, each with its end and product
 pub record ArePartsBelow (kind : ArcType) (g : Graph ℕ) (start k : ℕ) (parts : List Part) : Type 0 where
   pub only : (a : Part) → Has parts a → IsPath g start a.path a.end × (length a.path < k) × (a.product ≡ product kind (letters a.path))
-  pub all : (path : List (Transition ℕ)) (end : ℕ) → IsPath g start path end → length path < k → Has parts (record { path = path; end = end; product = product kind (letters path) })
+  pub all : (path : List (Transition ℕ)) (end : ℕ) → IsPath g start path end → length path < k
+      → Has parts (record { path = path; end = end; product = product kind (letters path) })
 
 -- each ends at a state, and its product fits
 abbrev pub AllGood : ℕ → ℕ → List PlainPart → Type 0

@@ -72,7 +72,8 @@ closure_of kind false a = star_of kind a
 -- the arcs that lead back from the place r to the place q: those of a state that lead to r, in order
 abbrev pub arcs_back : ℕ → ℕ → List (Arc Cost ℕ) → List (Arc Cost ℕ)
 arcs_back r q [] = []
-arcs_back r q (a ∷ arcs) = if a.next == r then record { ilabel = a.ilabel; olabel = a.olabel; weight = a.weight; next = q } ∷ arcs_back r q arcs else arcs_back r q arcs
+arcs_back r q (a ∷ arcs) = if a.next == r then record { ilabel = a.ilabel; olabel = a.olabel; weight = a.weight; next = q } ∷ arcs_back r q arcs
+    else arcs_back r q arcs
 
 -- those of all states, by the place of the state, of which the first is q
 abbrev pub turned_arcs : ℕ → ℕ → List (State Cost) → List (Arc Cost ℕ)

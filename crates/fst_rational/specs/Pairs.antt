@@ -20,11 +20,21 @@ old_label field = elim (label_of_text field) [ None ↦ None | Some n ↦ if n =
 
 -- the pairs before and one more, where its old label is new among them
 abbrev pub with_pair : ℕ → List Pair → ℕ → ℕ → Result (List Pair) PairsFault
-with_pair line before old new = if list_any (nat_eq old) (map (λ p. p.old) before) then Err (Duplicate line) else Ok (before ++ record { old = old; new = new } ∷ [])
+with_pair line before old new = if list_any (nat_eq old) (map (λ p. p.old) before) then Err (Duplicate line)
+    else Ok (before ++ record { old = old; new = new } ∷ [])
 
 -- the labels of a line with these fields; a blank line has none
 abbrev pub pair_of : ℕ → List (List ℕ) → Result (Option (ℕ × ℕ)) PairsFault
-pair_of line fields = elim (row_of fields) [ None ↦ Err (BadColumns line) | Some row ↦ elim row [ None ↦ Ok None | Some p ↦ elim (old_label p.0) [ None ↦ Err (BadLabel line) | Some o ↦ elim (label_of_text p.1) [ None ↦ Err (BadLabel line) | Some n ↦ Ok (Some (o, n)) ] ] ] ]
+pair_of line fields = elim (row_of fields) [
+  | None ↦ Err (BadColumns line)
+  | Some row ↦ elim row [
+    | None ↦ Ok None
+    | Some p ↦ elim (old_label p.0) [
+      | None ↦ Err (BadLabel line)
+      | Some o ↦ elim (label_of_text p.1) [ None ↦ Err (BadLabel line) | Some n ↦ Ok (Some (o, n)) ]
+    ]
+  ]
+]
 
 -- the pairs before and that of a line with these fields; a blank line says nothing
 abbrev pub after_line : ℕ → List Pair → List (List ℕ) → Result (List Pair) PairsFault

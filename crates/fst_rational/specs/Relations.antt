@@ -24,7 +24,8 @@ Projects kind true a m = (x y : List ℕ) (w : Cost) → Triple kind m x y w ↔
 
 -- relabelling: the old labels of each string are replaced, and what became epsilon is dropped
 abbrev pub Relabels : ArcType → List Pair → List Pair → Machine Cost → Machine Cost → Type 0
-Relabels kind reads writes a m = (x y : List ℕ) (w : Cost) → Triple kind m x y w ↔ ((u v : List ℕ) × Triple kind a u v w × (x ≡ replaced reads u) × (y ≡ replaced writes v))
+Relabels kind reads writes a m = (x y : List ℕ) (w : Cost)
+    → Triple kind m x y w ↔ ((u v : List ℕ) × Triple kind a u v w × (x ≡ replaced reads u) × (y ≡ replaced writes v))
 
 -- union: the triples of both
 abbrev pub Unites : ArcType → Machine Cost → Machine Cost → Machine Cost → Type 0
@@ -58,7 +59,8 @@ pub record Said : Type 0 where
 -- A triple is the product of these, each a triple of a; of none it is the empty strings and One.
 abbrev pub IsProductOf : ArcType → Machine Cost → List Said → List ℕ → List ℕ → Cost → Type 0
 IsProductOf kind a [] x y w = (x ≡ []) × (y ≡ []) × (w ≡ one_of kind)
-IsProductOf kind a (t ∷ triples) x y w = IsProduct kind (λ u v k. (t ≡ record { input = u; output = v; weight = k }) × Triple kind a u v k) (IsProductOf kind a triples) x y w
+IsProductOf kind a (t ∷ triples) x y w = IsProduct kind
+    (λ u v k. (t ≡ record { input = u; output = v; weight = k }) × Triple kind a u v k) (IsProductOf kind a triples) x y w
 
 -- the list has an element
 abbrev pub IsFilled : List Said → Type 0

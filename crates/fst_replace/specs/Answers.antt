@@ -23,7 +23,8 @@ Recurs rules result = (label : ℕ) → IsExact result (Recursive label) (IsRecu
 -- No rule is recursive, and the defined machine has too many states; or it has not, and has too many arcs.
 pub record IsLimited {X : Type 0} (rules : List (Labelled Cost)) (result : Result X ReplaceFault) : Type 0 where
   pub states : IsExact result TooManyStates (HasNoRecursion (called rules) × (most_states < length (replaced rules).states))
-  pub arcs : IsExact result TooManyArcs (HasNoRecursion (called rules) × (length (replaced rules).states ≤ most_states) × (most_arcs < arc_total (replaced rules).states))
+  pub arcs : IsExact result TooManyArcs
+      (HasNoRecursion (called rules) × (length (replaced rules).states ≤ most_states) × (most_arcs < arc_total (replaced rules).states))
 
 -- what a fault says of the rules; running out of memory is no cause
 abbrev pub IsCause : List (Labelled Cost) → ReplaceFault → Type 0

@@ -55,7 +55,8 @@ blocks machine q (c ∷ calls) = map (carried q false (Some c.next)) (machine c.
 abbrev pub expanded : List ℕ → (ℕ → Machine Cost) → Machine Cost → Machine Cost
 expanded labels machine m = record {
   start = m.start;
-  states = entered_states labels (λ r. shape_of (machine r)) (length m.states) m.states ++ blocks machine (length m.states) (calls_in labels (arcs_of m.states));
+  states = entered_states labels (λ r. shape_of (machine r)) (length m.states) m.states
+      ++ blocks machine (length m.states) (calls_in labels (arcs_of m.states));
 }
 
 -- The expansion of the rule in place i, in which calls are replaced to this depth.

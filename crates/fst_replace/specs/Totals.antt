@@ -55,7 +55,8 @@ standing shape calls = flat_map (λ c. standing_call (shape c.rule).size c) call
 pub record IsTable (rules : List (Labelled Cost)) (shapes : List Shape) : Type 0 where
   pub size : length shapes ≡ length rules
   pub within : (i : ℕ) → Reaches (called rules) 0 i → i < length rules
-  pub expands : (i : ℕ) → Reaches (called rules) 0 i → expansion rules (length rules) i ≡ expanded (labels_of rules) (expansion rules (length rules)) (machine_at rules i)
+  pub expands : (i : ℕ) → Reaches (called rules) 0 i
+      → expansion rules (length rules) i ≡ expanded (labels_of rules) (expansion rules (length rules)) (machine_at rules i)
   pub kept : (i : ℕ) → Reaches (called rules) 0 i → shape_at shapes i ≡ shape_of (expansion rules (length rules) i)
   pub starts : (i : ℕ) → Reaches (called rules) 0 i → IfSome (shape_at shapes i).start (λ s. s < (shape_at shapes i).size)
   pub machine : IsMachine (λ v. v) (replaced rules)

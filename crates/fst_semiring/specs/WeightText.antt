@@ -1,5 +1,26 @@
 -- The text of a weight in the text form of a machine, by arc type.
-use Rattle.std.specs.Prelude.{◌≡◌, ℕ, ℤ, pos, neg_ℤ, List, [], ◌∷◌, Option, Some, None, Result, Ok, Err, option_and_then, nat_le, codes, ◌==◌, ◌++◌, if◌then◌else◌}
+use Rattle.std.specs.Prelude.{
+  ◌≡◌,
+  ℕ,
+  ℤ,
+  pos,
+  neg_ℤ,
+  List,
+  [],
+  ◌∷◌,
+  Option,
+  Some,
+  None,
+  Result,
+  Ok,
+  Err,
+  option_and_then,
+  nat_le,
+  codes,
+  ◌==◌,
+  ◌++◌,
+  if◌then◌else◌,
+}
 use Rattle.std.specs.Fmt.{signed_decimal}
 use Rattle.std.specs.Option.{option_map}
 use Rattle.std.specs.Str.{bytes_eq}
@@ -28,13 +49,15 @@ cost_of_number number = option_map (λ n. finite n (pos 0)) number
 
 -- two numbers with one comma between them
 abbrev pub cost_of_pair : List ℕ → Option Cost
-cost_of_pair text = option_and_then (λ a. option_map (λ b. finite a b) (number_of_text (after_first (λ c. c == 44) text))) (number_of_text (before_first (λ c. c == 44) text))
+cost_of_pair text = option_and_then
+    (λ a. option_map (λ b. finite a b) (number_of_text (after_first (λ c. c == 44) text))) (number_of_text (before_first (λ c. c == 44) text))
 
 -- the value that a weight text stands for, if it is one of the arc type
 abbrev pub cost_of_text : ArcType → List ℕ → Option Cost
 cost_of_text Boolean text = if bytes_eq text (codes "0") then Some infinite else (if bytes_eq text (codes "1") then Some (finite (pos 0) (pos 0)) else None)
 cost_of_text Tropical text = if bytes_eq text (codes "Infinity") then Some infinite else cost_of_number (number_of_text text)
-cost_of_text MinMax text = if bytes_eq text (codes "Infinity") then Some infinite else (if bytes_eq text (codes "-Infinity") then Some best else cost_of_number (number_of_text text))
+cost_of_text MinMax text = if bytes_eq text (codes "Infinity") then Some infinite
+    else (if bytes_eq text (codes "-Infinity") then Some best else cost_of_number (number_of_text text))
 cost_of_text Lexicographic text = if bytes_eq text (codes "Infinity,Infinity") then Some infinite else cost_of_pair text
 
 -- what was read is this value, or nothing was, where there is none

@@ -10,11 +10,18 @@ use Rattle.fst_symbols.specs.Symbols.{Symbol, name_of, number_of}
 
 -- the symbols before and one more, where its name and then its number are new
 abbrev pub with_symbol : ℕ → List Symbol → List ℕ → ℕ → Result (List Symbol) SymbolsFault
-with_symbol line before name number = if is_some (number_of before name) then Err (DuplicateSymbol line) else (if is_some (name_of before number) then Err (DuplicateNumber line) else Ok (before ++ record { name = name; number = number } ∷ []))
+with_symbol line before name number = if is_some (number_of before name) then Err (DuplicateSymbol line)
+    else (if is_some (name_of before number) then Err (DuplicateNumber line) else Ok (before ++ record { name = name; number = number } ∷ []))
 
 -- the name and the number of a line with these fields; a blank line has none
 abbrev pub symbol_of : ℕ → List (List ℕ) → Result (Option (List ℕ × ℕ)) SymbolsFault
-symbol_of line fields = elim (row_of fields) [ None ↦ Err (BadColumns line) | Some row ↦ elim row [ None ↦ Ok None | Some p ↦ elim (label_of_text p.1) [ None ↦ Err (BadNumber line) | Some n ↦ Ok (Some (p.0, n)) ] ] ]
+symbol_of line fields = elim (row_of fields) [
+  | None ↦ Err (BadColumns line)
+  | Some row ↦ elim row [
+    | None ↦ Ok None
+    | Some p ↦ elim (label_of_text p.1) [ None ↦ Err (BadNumber line) | Some n ↦ Ok (Some (p.0, n)) ]
+  ]
+]
 
 -- the symbols before and that of a line with these fields; a blank line says nothing
 abbrev pub after_line : ℕ → List Symbol → List (List ℕ) → Result (List Symbol) SymbolsFault

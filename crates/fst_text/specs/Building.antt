@@ -1,8 +1,47 @@
 -- A machine that is being built line by line.
-use Rattle.std.specs.Prelude.{◌≡◌, ◌≢◌, ◌≤◌, ℕ, true, ◌+◌, ◌-◌, ◌<◌, ◌==◌, Bool, List, [], ◌∷◌, ◌++◌, length, replicate, nat_le, nat_lt, Option, Some, None, IfSome, Result, Ok, if◌then◌else◌}
+use Rattle.std.specs.Prelude.{
+  ◌≡◌,
+  ◌≢◌,
+  ◌≤◌,
+  ℕ,
+  true,
+  ◌+◌,
+  ◌-◌,
+  ◌<◌,
+  ◌==◌,
+  Bool,
+  List,
+  [],
+  ◌∷◌,
+  ◌++◌,
+  length,
+  replicate,
+  nat_le,
+  nat_lt,
+  Option,
+  Some,
+  None,
+  IfSome,
+  Result,
+  Ok,
+  if◌then◌else◌,
+}
 use Rattle.fst_semiring.specs.declared.arc_type.ArcType.{ArcType}
 use Rattle.fst_semiring.specs.Cost.{Cost, infinite}
-use Rattle.fst_machine.specs.Machine.{Machine, State, arc_total, bare_state, changed, greatest_label, most_arcs, most_states, no_states, valued, with_arc, with_final}
+use Rattle.fst_machine.specs.Machine.{
+  Machine,
+  State,
+  arc_total,
+  bare_state,
+  changed,
+  greatest_label,
+  most_arcs,
+  most_states,
+  no_states,
+  valued,
+  with_arc,
+  with_final,
+}
 use Rattle.fst_text.specs.declared.fault.TextFault.{TextFault}
 use Rattle.fst_text.specs.Options.{Options}
 use Rattle.fst_text.specs.declared.places.Places.{Places}
@@ -42,11 +81,16 @@ place_of kept b n = if kept then n else elim (b.found n) [ None ↦ length b.mac
 
 -- with a state more at the end, which has this number
 abbrev pub with_state : Building → ℕ → Building
-with_state b n = record { found = with_place b.found n (length b.machine.states); machine = record { start = b.machine.start; states = b.machine.states ++ bare_state infinite ∷ [] } }
+with_state b n = record {
+  found = with_place b.found n (length b.machine.states);
+  machine = record { start = b.machine.start; states = b.machine.states ++ bare_state infinite ∷ [] };
+}
 
 -- with a state for this number
 abbrev pub with_number : Bool → Building → ℕ → Building
-with_number kept b n = if kept then record { found = b.found; machine = record { start = b.machine.start; states = grown (n + 1) b.machine.states } } else elim (b.found n) [ None ↦ with_state b n | Some place ↦ b ]
+with_number kept b n = if kept
+    then record { found = b.found; machine = record { start = b.machine.start; states = grown (n + 1) b.machine.states } }
+    else elim (b.found n) [ None ↦ with_state b n | Some place ↦ b ]
 
 -- the start, which is this state where there was none
 abbrev pub or_start : ℕ → Option ℕ → Option ℕ
@@ -60,7 +104,9 @@ with_states kept b (final_entry state w) = with_number kept b state
 
 -- the states with what the entry adds to one of them
 abbrev pub with_line : Bool → Building → Entry → List (State Cost) → List (State Cost)
-with_line kept b (arc_entry source a) states = changed (with_arc (record { ilabel = a.ilabel; olabel = a.olabel; weight = a.weight; next = place_of kept (with_number kept b source) a.next })) states (place_of kept b source)
+with_line kept b (arc_entry source a) states = changed
+    (with_arc (record { ilabel = a.ilabel; olabel = a.olabel; weight = a.weight; next = place_of kept (with_number kept b source) a.next }))
+    states (place_of kept b source)
 with_line kept b (final_entry state w) states = changed (with_final w) states (place_of kept b state)
 
 -- the place of the first state of an entry
@@ -72,7 +118,10 @@ first_place kept b (final_entry state w) = place_of kept b state
 abbrev pub with_entry : Bool → Building → Entry → Building
 with_entry kept b e =
     let more = with_states kept b e in
-    record { found = more.found; machine = record { start = or_start (first_place kept b e) more.machine.start; states = with_line kept b e more.machine.states } }
+    record {
+      found = more.found;
+      machine = record { start = or_start (first_place kept b e) more.machine.start; states = with_line kept b e more.machine.states };
+    }
 
 -- what still fits
 abbrev pub room_of : Bool → Building → Room
@@ -93,7 +142,8 @@ with_read kept b read = read >>= λ e. Ok (with_entry kept b e)
 -- with a line of these fields; a blank one adds nothing
 abbrev pub after_line : ArcType → Options → ℕ → Building → List (List ℕ) → Result Building TextFault
 after_line kind options line b [] = Ok b
-after_line kind options line b (f ∷ fs) = with_read options.keep_state_numbering b (entry_of_fields kind options line (room_of options.keep_state_numbering b) (f ∷ fs))
+after_line kind options line b (f ∷ fs) = with_read options.keep_state_numbering b
+    (entry_of_fields kind options line (room_of options.keep_state_numbering b) (f ∷ fs))
 
 -- nothing is known and there is no state
 abbrev pub nothing_built : Building
@@ -110,5 +160,6 @@ said value (Final state weight) = final_entry state (value weight)
 
 -- A building has room for an entry, whose labels are in range, and whose weight is not Zero where it is an arc.
 abbrev pub HasRoomFor : Bool → Building → Entry → Type 0
-HasRoomFor kept b (arc_entry source a) = ((room_of kept b).state source ≡ true) × ((room_of kept b).states source a.next ≡ true) × ((room_of kept b).arc ≡ true) × (a.ilabel ≤ greatest_label) × (a.olabel ≤ greatest_label) × (a.weight ≢ infinite)
+HasRoomFor kept b (arc_entry source a) = ((room_of kept b).state source ≡ true) × ((room_of kept b).states source a.next ≡ true)
+    × ((room_of kept b).arc ≡ true) × (a.ilabel ≤ greatest_label) × (a.olabel ≤ greatest_label) × (a.weight ≢ infinite)
 HasRoomFor kept b (final_entry state w) = (room_of kept b).state state ≡ true

@@ -86,7 +86,8 @@ acceptor_line kind options line room (s ∷ d ∷ l ∷ w ∷ []) = arc_line kin
 acceptor_line kind options line room _ = Err (BadColumns line)
 
 abbrev pub entry_of_fields : ArcType → Options → ℕ → Room → List (List ℕ) → Result Entry TextFault
-entry_of_fields kind options line room fields = if options.acceptor then acceptor_line kind options line room fields else transducer_line kind options line room fields
+entry_of_fields kind options line room fields = if options.acceptor then acceptor_line kind options line room fields
+    else transducer_line kind options line room fields
 
 -- no more than 4,194,304 states, where the entries before and then these numbers are named
 abbrev pub fits : Bool → List Entry → List ℕ → Bool
@@ -104,11 +105,14 @@ room_behind kept before = record {
 abbrev pub entries_of_lines : ArcType → Options → ℕ → List Entry → List (List (List ℕ)) → Result (List Entry) TextFault
 entries_of_lines kind options line before [] = Ok before
 entries_of_lines kind options line before ([] ∷ lines) = entries_of_lines kind options (line + 1) before lines
-entries_of_lines kind options line before ((f ∷ fs) ∷ lines) = entry_of_fields kind options line (room_behind options.keep_state_numbering before) (f ∷ fs) >>= λ e. entries_of_lines kind options (line + 1) (before ++ e ∷ []) lines
+entries_of_lines kind options line before ((f ∷ fs) ∷ lines) =
+    entry_of_fields kind options line (room_behind options.keep_state_numbering before) (f ∷ fs)
+    >>= λ e. entries_of_lines kind options (line + 1) (before ++ e ∷ []) lines
 
 -- the machine of a text, or the first fault of its first faulty line
 abbrev pub machine_of_text : ArcType → Options → List ℕ → Result (Machine Cost) TextFault
-machine_of_text kind options text = entries_of_lines kind options 1 [] (map fields_of (lines_of text)) >>= λ es. Ok (machine_of_entries options.keep_state_numbering es)
+machine_of_text kind options text = entries_of_lines kind options 1 [] (map fields_of (lines_of text))
+    >>= λ es. Ok (machine_of_entries options.keep_state_numbering es)
 
 -- what was returned, seen by view, is what reading gives, or memory ran out
 abbrev pub Gives : {X Y : Type 0} → (X → Y) → Result X TextFault → Result Y TextFault → Type 0

@@ -22,4 +22,5 @@ pub record HasWeights (kind : ArcType) (m : Machine Cost) : Type 0 where
 -- a machine with a start that is printed and compiled with the same options and state numbers kept is the
 -- same machine
 abbrev pub CompilesBack : ArcType → Options → Machine Cost → Type 0
-CompilesBack kind options m = (text : List ℕ) → HasTables options → IsMachine (λ v. v) m → HasWeights kind m → IsSome m.start → options.keep_state_numbering ≡ true → text_of_machine kind options m ≡ Ok text → machine_of_text kind options text ≡ Ok m
+CompilesBack kind options m = (text : List ℕ) → HasTables options → IsMachine (λ v. v) m → HasWeights kind m → IsSome m.start
+    → options.keep_state_numbering ≡ true → text_of_machine kind options m ≡ Ok text → machine_of_text kind options text ≡ Ok m

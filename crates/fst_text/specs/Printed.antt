@@ -44,7 +44,8 @@ text_of_label label = elim label.symbols [ None ↦ Some (decimal label.number) 
 
 -- the labels of an arc that are printed; an acceptor's arc has one
 abbrev pub labels_of_arc : Options → Arc Cost ℕ → List Label
-labels_of_arc options a = if options.acceptor then record { symbols = options.isymbols; number = a.ilabel } ∷ [] else record { symbols = options.isymbols; number = a.ilabel } ∷ record { symbols = options.osymbols; number = a.olabel } ∷ []
+labels_of_arc options a = if options.acceptor then record { symbols = options.isymbols; number = a.ilabel } ∷ []
+    else record { symbols = options.isymbols; number = a.ilabel } ∷ record { symbols = options.osymbols; number = a.olabel } ∷ []
 
 -- the field of a label; one without a name is not printed
 abbrev pub field_of_label : Label → List ℕ

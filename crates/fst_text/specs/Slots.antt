@@ -1,5 +1,27 @@
 -- What is known of where the states of written numbers stand, as a table by number and a table of slots tell it.
-use Rattle.std.specs.Prelude.{◌≡◌, ◌≢◌, ℕ, ◌+◌, ◌-◌, ◌*◌, ◌/◌, ◌%◌, ◌^◌, ◌==◌, Bool, true, List, drop, get_or, length, nat_lt, Option, Some, None, if◌then◌else◌}
+use Rattle.std.specs.Prelude.{
+  ◌≡◌,
+  ◌≢◌,
+  ℕ,
+  ◌+◌,
+  ◌-◌,
+  ◌*◌,
+  ◌/◌,
+  ◌%◌,
+  ◌^◌,
+  ◌==◌,
+  Bool,
+  true,
+  List,
+  drop,
+  get_or,
+  length,
+  nat_lt,
+  Option,
+  Some,
+  None,
+  if◌then◌else◌,
+}
 use Rattle.std.specs.List.{position_or_len}
 use Rattle.fst_text.specs.declared.places.flat_table.Slot.{Slot}
 
