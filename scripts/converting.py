@@ -54,6 +54,8 @@ def run(words, work):
         sys.exit(f"{words.prog}: {refusal}")
     except OSError as fault:
         sys.exit(f"{words.prog}: {fault.filename or 'the output'}: {fault.strerror}")
+    except KeyboardInterrupt:
+        sys.exit(130)
 
 
 def read_lines(place, name):
@@ -66,6 +68,8 @@ def read_lines(place, name):
 
 def write_whole(outputs):
     """Writes pairs of a name and its bytes. A file gets its name when all of them are whole, so that none is half written."""
+    if len({name for name, _ in outputs}) < len(outputs):
+        raise Refused("two outputs have one name")
     whole = []
     try:
         for name, data in outputs:
@@ -165,7 +169,8 @@ class Symbols:
                 self.numbers[symbol] = int(number)
                 taken.add(int(number))
         self.epsilon = next((symbol for symbol, number in self.numbers.items() if number == 0), EPSILON)
-        self.numbers.setdefault(self.epsilon, 0)
+        if self.numbers.setdefault(self.epsilon, 0) != 0:
+            raise Refused(f"{name}: {EPSILON} has another number than 0")
         self.next = max(self.numbers.values()) + 1
 
     def add(self, symbol):
