@@ -66,36 +66,48 @@ def read_lines(place, name):
             yield (line.removeprefix("\ufeff") if place.line == 1 else line).removesuffix("\n").removesuffix("\r")
 
 
+def write_draft(path, data):
+    """Writes a file beside the path, with the rights that the path has or would get, and gives its name."""
+    mask = os.umask(0)
+    os.umask(mask)
+    rights = os.stat(path).st_mode if os.path.exists(path) else 0o666 & ~mask
+    handle, draft = tempfile.mkstemp(dir=os.path.dirname(path), prefix=".draft-")
+    try:
+        with os.fdopen(handle, "wb") as file:
+            file.write(data)
+        os.chmod(draft, rights)
+    except OSError:
+        os.unlink(draft)
+        raise
+    return draft
+
+
 def write_whole(outputs):
     """Writes pairs of a name and its bytes. A file gets its name when all of them are whole, so that none is half written."""
     if len({name for name, _ in outputs}) < len(outputs):
         raise Refused("two outputs have one name")
-    whole = []
+    drafts, name = [], None
     try:
         for name, data in outputs:
-            path = os.path.realpath(name)
-            if name != "-" and (os.path.isfile(path) or not os.path.exists(path)):
-                handle, draft = tempfile.mkstemp(dir=os.path.dirname(path), prefix=".draft-")
-                whole.append((draft, path))
-                with os.fdopen(handle, "wb") as file:
-                    file.write(data)
-                mask = os.umask(0)
-                os.umask(mask)
-                os.chmod(draft, os.stat(path).st_mode if os.path.exists(path) else 0o666 & ~mask)
+            if name != "-" and (os.path.isfile(name) or not os.path.exists(name)):
+                path = os.path.realpath(name)
+                drafts.append((write_draft(path, data), path))
+        # Pipes and devices get their bytes as they come.
         for name, data in outputs:
             if name == "-":
                 sys.stdout.buffer.write(data)
-            elif not os.path.isfile(os.path.realpath(name)) and os.path.exists(name):
+            elif os.path.exists(name) and not os.path.isfile(name):
                 with open(name, "wb") as file:
                     file.write(data)
-        while whole:
-            os.replace(*whole[0])
-            whole.pop(0)
+        while drafts:
+            os.replace(*drafts[0])
+            drafts.pop(0)
     except OSError as fault:
-        fault.filename = name if "draft-" in str(fault.filename) else fault.filename
+        if not isinstance(fault, BrokenPipeError):
+            fault.filename = "standard output" if name == "-" else name
         raise
     finally:
-        for draft, _ in whole:
+        for draft, _ in drafts:
             os.unlink(draft)
 
 
