@@ -17,7 +17,7 @@ use Rattle.fst_binary.specs.Reading.{arc_type_of_bytes, machine_of_bytes}
 use Rattle.fst_binary.proofs.Headers.{types_again}
 use Rattle.fst_bytes.proofs.Names.{IsNamed}
 use Rattle.fst_bytes.proofs.Lengths.{length-long}
-use Rattle.fst_binary.proofs.Lists.{arc_total-valued}
+use Rattle.fst_machine.proofs.Valued.{arc_total-valued}
 use Rattle.fst_binary.proofs.Machines.{machine_again}
 
 -- what holds of each value of a weight

@@ -25,18 +25,16 @@ state_left value states i last arcs f a =
     subst (λ (j : ℕ). drop i (map (valued_state value) states) ≡ record { final = value last; arcs = map (valued_arc value) arcs } ∷ drop j (map (valued_state value) states)) next (state_and_rest value states i last arcs f a)
 
 -- the arcs of a state and of the rest
-pub arcs_left : (s : State Cost) (rest states : List (State Cost)) → states ≡ s ∷ rest → arc_total states ≡ length s.arcs + arc_total rest
+arcs_left : (s : State Cost) (rest states : List (State Cost)) → states ≡ s ∷ rest → arc_total states ≡ length s.arcs + arc_total rest
 arcs_left s rest states e = ap arc_total e ∙ sum_by-cons (λ (t : State Cost). length t.arcs) s rest
 
--- the values of weights are as many as the weights
-pub arc_total-valued : {V : Type 0} (value : V → Cost) (states : List (State V)) → arc_total (map (valued_state value) states) ≡ arc_total states
-arc_total-valued value [] = refl
-arc_total-valued value (s ∷ states) =
-    let all = sum_by-cons (λ (t : State Cost). length t.arcs) (valued_state value s) (map (valued_state value) states) in
-    let own = sum_by-cons (λ t. length t.arcs) s states in
-    let rest = arc_total-valued value states in
-    let same = length-map s.arcs (valued_arc value) in
-    omega (arith, all, own, rest, same)
+-- the arcs that are left are those of the state in turn and those behind it
+pub arcs_from : {V : Type 0} (value : V → Cost) (states : List (State V)) (i : ℕ) (last : V) (arcs : List (Arc V ℕ))
+    → option_map (λ s. s.final) (slice_get states i) ≡ Some last → option_map (λ s. s.arcs) (slice_get states i) ≡ Some arcs
+    → arc_total (drop i (map (valued_state value) states)) ≡ length arcs + arc_total (drop (i + 1) (map (valued_state value) states))
+arcs_from value states i last arcs f a =
+    let all = arcs_left _ _ _ (state_left value states i last arcs f a) in
+    omega (arith, all, length-map arcs (valued_arc value))
 
 -- a state that is known by its two parts stands in its place
 state_stands : {V : Type 0} (states : List (State V)) (i : ℕ) (last : V) (arcs : List (Arc V ℕ)) → option_map (λ s. s.final) (slice_get states i) ≡ Some last → option_map (λ s. s.arcs) (slice_get states i) ≡ Some arcs → (d : State V) → (i < length states) × (get_or states i d ≡ record { final = last; arcs = arcs })

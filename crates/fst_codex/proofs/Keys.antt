@@ -1,5 +1,5 @@
 -- Entries found by their keys.
-use Rattle.std.proofs.Common.{◌≡◌, inl, inr, ℕ, ℤ, ◌||◌, ◌&&◌, eqb, int_eq, zero, suc, Bool, true, false, not, List, [], ◌∷◌, ◌++◌, Some, map, slice_get, refl, sym, ap, subst, ◌∙◌, true≢false, if◌then◌else◌}
+use Rattle.std.proofs.Common.{◌≡◌, inl, inr, ℕ, ℤ, ◌&&◌, eqb, int_eq, zero, suc, Bool, true, false, not, List, [], ◌∷◌, ◌++◌, Some, map, slice_get, refl, sym, ap, subst, ◌∙◌, true≢false, if◌then◌else◌}
 use Rattle.std.specs.Bool.{Decides}
 use Rattle.std.specs.List.{list_any}
 use Rattle.std.proofs.lemmas.List.{map-append}

@@ -9,3 +9,4 @@ pub mod Again
 pub mod Whole
 pub mod Valued
 pub mod Found
+pub mod OneAnswer

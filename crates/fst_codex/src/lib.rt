@@ -11,6 +11,7 @@ mod codex;
 mod decoding;
 mod encoding;
 mod fault;
+mod laws;
 mod reading;
 mod writing;
 
@@ -18,5 +19,6 @@ pub use codex::{Codex, CodexEntry, MOST_ENTRIES};
 pub use decoding::{DecodeFault, decode_labels};
 pub use encoding::encode_labels;
 pub use fault::{CodexFault, CodexKind};
+pub use laws::one_answer;
 pub use reading::{codex_arc_type, read_codex};
 pub use writing::write_codex;

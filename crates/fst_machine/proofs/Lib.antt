@@ -26,3 +26,4 @@ pub mod Arriving
 pub mod Keeping
 pub mod Valued
 pub mod Narrowing
+pub mod OneMachine

@@ -2,11 +2,14 @@
 //! that it is proved; the statements are in `specs`, and crates above cite the lemmas in `proofs`. The laws of
 //! values, on which these stand, are those of `fst_semiring::value_laws`.
 
-ghost use Rattle.std.specs.Prelude.{ℕ, List};
+ghost use Rattle.std.specs.Prelude.{◌≡◌, ℕ, List};
 ghost use Rattle.fst_semiring.specs.Cost.{Cost};
 ghost use Rattle.fst_semiring.specs.declared.arc_type.ArcType.{ArcType};
 ghost use Rattle.fst_machine.specs.Machine.{Machine};
 ghost use Rattle.fst_machine.specs.Graph.{Graph};
+ghost use Rattle.fst_machine.specs.BreadthFirst.{Apart};
+ghost use Rattle.fst_machine.specs.Connected.{IsConnected};
+ghost use Rattle.fst_machine.specs.Numbering.{IsNumbered};
 ghost use Rattle.fst_machine.specs.Paths.{Transition};
 ghost use Rattle.fst_machine.specs.Cycles.{HasCycle};
 ghost use Rattle.fst_machine.specs.PathLaws.{PathLaws, LetterLaws};
@@ -50,4 +53,10 @@ pub fn weight_laws<M, N>()
 pub fn list_laws<N>()
     ensures breadth_first { (g : Graph N) (start : N) (names : List N) → BreadthFirstLaws g start names }
     ensures order { (kind : ArcType) (g : Graph N) → PathOrderLaws kind g }
+{}
+
+/// The machine that numbers names is one, and so is the connected machine of a machine.
+pub fn machine_laws<N>()
+    ensures numbered { (g : Graph N) (names : List N) (m n : Machine Cost) → Apart names → IsNumbered g names m → IsNumbered g names n → m ≡ n }
+    ensures connected { (m c d : Machine Cost) → IsConnected m c → IsConnected m d → c ≡ d }
 {}

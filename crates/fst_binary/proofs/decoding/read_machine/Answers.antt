@@ -2,7 +2,7 @@ use Rattle.std.proofs.Common.{◌≡◌, ◌≢◌, map, sym, ◌∙◌, arith}
 use Rattle.std.proofs.lemmas.Result.{err_from_is_err_and}
 use Rattle.fst_machine.specs.Machine.{arc_total, valued_state}
 use Rattle.fst_binary.proofs.Decoded.{IsMachine-decoded, machine_ends, machine_goes_on, machine_miscounted}
-use Rattle.fst_binary.proofs.Lists.{arc_total-valued}
+use Rattle.fst_machine.proofs.Valued.{arc_total-valued}
 use Rattle.fst_binary.proofs.decoding.read_machine.Goals as goal
 
 pub returns-in_err-expect_arcs : goal.returns-in_err-expect_arcs
