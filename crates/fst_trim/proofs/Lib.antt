@@ -16,3 +16,4 @@ pub mod SortedPaths
 pub mod Joined
 pub mod Placing
 pub mod LinkLists
+pub mod Halving
