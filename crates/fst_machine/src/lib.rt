@@ -18,6 +18,7 @@ pub mod laws;
 mod narrow;
 mod path;
 mod slot;
+mod steps;
 mod wide;
 
 pub use arc::FstArc;
@@ -26,4 +27,5 @@ pub use fst::{Fst, GrowFault, MOST_ARCS, MOST_STATES, StateList};
 pub use fst_fields::MOST_LABEL;
 pub use narrow::{NarrowFault, narrow_all};
 pub use path::{Path, Paths, Step};
+pub use steps::Steps;
 pub use wide::{WideArc, WideFst};

@@ -17,3 +17,4 @@ pub mod Joined
 pub mod Placing
 pub mod LinkLists
 pub mod OneAnswer
+pub mod Halving

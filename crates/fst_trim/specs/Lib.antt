@@ -1,4 +1,5 @@
 pub mod Sides
+pub mod Runs
 pub mod FirstArcs
 pub mod Sources
 pub mod Finals

@@ -1,7 +1,8 @@
 //! Machines put in order: tests of machines, trimming, sorting and what there is to say of a machine.
 //!
 //! `not_acceptor_at` and `not_deterministic_at` give the first arc, by state then place, that keeps a machine from
-//! being an acceptor or deterministic. The definitions stand in `specs`, and each contract is one of them.
+//! being an acceptor or deterministic. `find_run` finds the arcs with a label among sorted ones. The definitions stand in
+//! `specs`, and each contract is one of them.
 #![tactic(auto)]
 
 mod as_machine;
@@ -12,6 +13,7 @@ mod first_arc;
 mod laws;
 mod links;
 mod repeat;
+mod run;
 mod side;
 mod sorted;
 mod sorting;
@@ -26,7 +28,8 @@ pub use describing::info;
 pub use first_arc::{is_acceptor, is_deterministic, not_acceptor_at, not_deterministic_at};
 pub use laws::one_answer;
 pub use links::{Link, Links};
+pub use run::find_run;
 pub use side::Side;
-pub use sorted::is_sorted;
-pub use sorting::arcsort;
+pub use sorted::{is_sorted, stands_by};
+pub use sorting::{arcsort, sort_arcs};
 pub use summary::Info;

@@ -8,8 +8,8 @@ use crate::side::{Side, label};
 use fst_machine::{Fst, FstArc};
 use fst_semiring::Weight;
 
-/// Whether these arcs stand by their labels on a side.
-pub(crate) fn stands_by<W>(arcs: &[FstArc<W>], side: Side) -> bool
+/// Whether these arcs stand by their labels on a side. Takes no memory.
+pub fn stands_by<W>(arcs: &[FstArc<W>], side: Side) -> bool
     ensures { Decides result (StandsBy side arcs.now) }
 {
     let mut last = 0;

@@ -12,8 +12,8 @@ use fst_machine::{Fst, FstArc, StateList};
 use fst_semiring::Weight;
 use std::alloc::{AllocError, Global};
 
-/// Fills a list with these arcs by their labels on a side; equal labels keep their order.
-fn sort_arcs<W: Copy>(
+/// Fills a list with these arcs by their labels on a side; equal labels keep their order. What the list had is dropped.
+pub fn sort_arcs<W: Copy>(
     sorted: &mut Vec<FstArc<W>>,
     arcs: &[FstArc<W>],
     side: Side,

@@ -1,7 +1,7 @@
 //! Why a walk makes no machine.
 
-/// Why a walk makes no machine. The first that holds, in this order, is the answer. That memory has run out is told
-/// apart, as the `AllocError` of the walk.
+/// Why a walk makes no machine. The first that holds, in this order, is the answer. The faults of the
+/// names, of which one is that memory has run out, are told apart.
 #[derive(Clone, Copy, Debug, PartialEq, Eq)]
 pub enum WalkFault {
     /// The start reaches more names than the limit.

@@ -36,12 +36,12 @@ impl<K: Drop, W: Weight> Model for NameArc<K, W> {
 }
 
 /// A graph of names, whose arcs are made when they are asked for.
-///
-/// `put_arcs` can answer that memory has run out, and no other fault. An operation that may have to stop at a name
-/// will need a type of faults here, and a case of `WalkFault` for it.
 pub trait Names<W: Weight> {
     /// A name.
     type Key: Eq + Hash + Drop;
+
+    /// Why the arcs of a name are not made: at least that memory has run out. A walk that meets such a fault gives it.
+    type Fault: From<AllocError>;
 
     /// The graph.
     ghost graph: { Self → Graph Self.Key };
@@ -58,7 +58,7 @@ pub trait Names<W: Weight> {
         &self,
         out: &mut Vec<NameArc<Self::Key, W>>,
         key: &Self::Key,
-    ) -> Result<(), AllocError>
+    ) -> Result<(), Self::Fault>
         requires holds { holds self.now }
         requires near { IsNear (graph self.now) key.now }
         ensures { OnOk result (map (key_arc W.wide_value) out.new.items ≡ map (key_arc W.wide_value) out.old.items ++ (graph self.now).arcs key.now) };

@@ -41,7 +41,7 @@ fn follow<W: Weight, N: Names<W>>(
     graph: &N,
     place: usize,
     limit: u32,
-) -> Result<bool, AllocError>
+) -> Result<bool, N::Fault>
     requires holds { N.holds graph.now }
     requires few { limit ≤ most_states }
     requires place { place < length output.old.names }
@@ -70,7 +70,7 @@ fn follow_all<W: Weight, N: Names<W>>(
     output: &mut Output<N::Key, W>,
     graph: &N,
     limit: u32,
-) -> Result<bool, AllocError>
+) -> Result<bool, N::Fault>
     requires holds { N.holds graph.now }
     requires few { limit ≤ most_states }
     requires making { IsMaking (N.graph graph.now) limit output.old.names (map (valued_state W.value) output.old.states) output.old.total output.old.overflow 0 }
@@ -121,7 +121,7 @@ fn walk_from<W: Weight, N: Names<W>>(
     start: N::Key,
     room: Room,
     limit: u32,
-) -> Result<Result<Walked<N::Key, W>, WalkFault>, AllocError>
+) -> Result<Result<Walked<N::Key, W>, WalkFault>, N::Fault>
     requires holds { N.holds graph.now }
     requires some { 0 < limit }
     requires few { limit ≤ most_states }
@@ -151,8 +151,9 @@ fn walk_from<W: Weight, N: Names<W>>(
 ///
 /// `StateLimit` exactly where the start reaches more than `max_states` names, which is answered as soon as so many are
 /// found; else `TooManyArcs` exactly where these have more than 33,554,432 arcs; else `Overflow` exactly where a weight
-/// has a number of absolute value above 10 to the 18, with the first state that has such a weight. That memory has run
-/// out stands apart from these causes. States after the first that does not fit are not kept.
+/// has a number of absolute value above 10 to the 18, with the first state that has such a weight. The faults of the
+/// names, of which one is that memory has run out, stand apart from these causes. States after the first that does not
+/// fit are not kept.
 ///
 /// Time: that of the arcs of each name, and a look-up for each arc. Space: the result, and the arcs of one name.
 pub fn walk<W: Weight, N: Names<W>>(
@@ -160,7 +161,7 @@ pub fn walk<W: Weight, N: Names<W>>(
     graph: &N,
     room: Room,
     max_states: u32,
-) -> Result<Result<Walked<N::Key, W>, WalkFault>, AllocError>
+) -> Result<Result<Walked<N::Key, W>, WalkFault>, N::Fault>
     requires holds { N.holds graph.now }
     requires some { 0 < max_states }
     requires few { max_states ≤ most_states }
