@@ -1,5 +1,8 @@
 //! Why bytes are no machine.
 
+ghost use Rattle.std.specs.Prelude.{◌≡◌};
+ghost use Rattle.fst_binary.specs.Faults.{reason_of};
+
 use fst_bytes::FileFault;
 
 /// What is wrong.
@@ -32,6 +35,29 @@ pub enum BinaryKind {
     Extra,
     /// There is no memory.
     Memory,
+}
+
+impl BinaryKind {
+    /// What is wrong with the field. Takes no memory.
+    pub fn reason(self) -> &'static str
+        ensures { result.now ≡ reason_of self }
+    {
+        match self {
+            BinaryKind::Short => "too short",
+            BinaryKind::BadMagic => "bad magic number",
+            BinaryKind::UnknownFstType => "unknown machine type",
+            BinaryKind::UnknownArcType => "unknown arc type",
+            BinaryKind::BadVersion => "bad version",
+            BinaryKind::BadFlags => "bad flags",
+            BinaryKind::BadStart => "bad start",
+            BinaryKind::BadCount => "bad count",
+            BinaryKind::BadLabel => "bad label",
+            BinaryKind::BadWeight => "bad weight",
+            BinaryKind::BadNext => "bad next state",
+            BinaryKind::Extra => "extra bytes",
+            BinaryKind::Memory => "out of memory",
+        }
+    }
 }
 
 /// The first fault of bytes that are no machine, and where it is.

@@ -5,3 +5,4 @@ pub mod Decoded
 pub mod Parts
 pub mod Spelling
 pub mod Reading
+pub mod Faults

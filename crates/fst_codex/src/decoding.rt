@@ -14,6 +14,7 @@ use fst_machine::{Fst, FstArc, StateList, Step};
 use fst_semiring::Weight;
 use fst_trim::not_acceptor_at;
 use std::alloc::{AllocError, Global};
+use std::fmt;
 
 /// Why a machine is not decoded. The first of these that holds is given, and of each the first arc by state, then
 /// place.
@@ -38,6 +39,25 @@ pub enum DecodeFault {
     },
     /// There is no memory.
     Memory,
+}
+
+/// Says why, as `label 5 is not in the codex`.
+impl fmt::Display for DecodeFault {
+    ghost use Rattle.std.specs.Prelude.{Some};
+    ghost use Rattle.fst_codex.specs.Faults.{decode_text};
+
+    ghost output = { λ fault. Some (decode_text fault) };
+
+    fn fmt<W: fmt::Write>(&self, f: &mut fmt::Formatter<W>) -> fmt::Result {
+        match *self {
+            DecodeFault::NotAcceptor { state, place } => {
+                write!(f, "not an acceptor at state {state} arc {place}")
+            }
+            DecodeFault::NotInCodex { label } => write!(f, "label {label} is not in the codex"),
+            DecodeFault::Overflow { state } => write!(f, "number too large at state {state}"),
+            DecodeFault::Memory => f.write_str("out of memory"),
+        }
+    }
 }
 
 impl From<AllocError> for DecodeFault {

@@ -1,5 +1,8 @@
 //! Why bytes are no codex.
 
+ghost use Rattle.std.specs.Prelude.{◌≡◌};
+ghost use Rattle.fst_codex.specs.Faults.{reason_of};
+
 use fst_bytes::FileFault;
 
 /// What is wrong.
@@ -23,6 +26,25 @@ pub enum CodexKind {
     Extra,
     /// There is no memory.
     Memory,
+}
+
+impl CodexKind {
+    /// What is wrong with the field. Takes no memory.
+    pub fn reason(self) -> &'static str
+        ensures { result.now ≡ reason_of self }
+    {
+        match self {
+            CodexKind::Short => "too short",
+            CodexKind::BadMagic => "bad magic number",
+            CodexKind::UnknownArcType => "unknown arc type",
+            CodexKind::BadFlags => "bad flags",
+            CodexKind::BadCount => "bad count",
+            CodexKind::BadLabel => "bad label",
+            CodexKind::BadWeight => "bad weight",
+            CodexKind::Extra => "extra bytes",
+            CodexKind::Memory => "out of memory",
+        }
+    }
 }
 
 /// The first fault of bytes that are no codex, and where it is.

@@ -6,3 +6,4 @@ pub mod Theorem
 pub mod NameLaws
 pub mod Good
 pub mod Answers
+pub mod Faults

@@ -5,3 +5,4 @@ pub mod Constructions
 pub mod Backing
 pub mod Limits
 pub mod Relations
+pub mod Faults

@@ -4,6 +4,7 @@ ghost use Rattle.std.specs.Prelude.{◌≡◌, ◌<◌, ◌≤◌, [], IfOk, IfS
 ghost use Rattle.fst_fields.specs.Lines.{fields_of};
 ghost use Rattle.fst_fields.specs.Texts.{IsRead};
 ghost use Rattle.fst_machine.specs.Machine.{greatest_label};
+ghost use Rattle.fst_rational.specs.Faults.{line_of, reason_of};
 ghost use Rattle.fst_rational.specs.Labels.{IsPairs};
 ghost use Rattle.fst_rational.specs.Pairs.{Gives, after_line, pair_of, pairs_of, pairs_of_text, with_pair};
 
@@ -24,6 +25,32 @@ pub enum PairsFault {
     Duplicate { line: u64 },
     /// There is no memory.
     Memory,
+}
+
+impl PairsFault {
+    /// The line, from 1; 0 where there is no memory. Takes no memory.
+    pub fn line(self) -> u64
+        ensures { result ≡ line_of self }
+    {
+        match self {
+            PairsFault::BadColumns { line }
+            | PairsFault::BadLabel { line }
+            | PairsFault::Duplicate { line } => line,
+            PairsFault::Memory => 0,
+        }
+    }
+
+    /// What is wrong with the line. Takes no memory.
+    pub fn reason(self) -> &'static str
+        ensures { result.now ≡ reason_of self }
+    {
+        match self {
+            PairsFault::BadColumns { line: _ } => "wrong number of columns",
+            PairsFault::BadLabel { line: _ } => "bad label",
+            PairsFault::Duplicate { line: _ } => "label given twice",
+            PairsFault::Memory => "out of memory",
+        }
+    }
 }
 
 /// Old labels with their new labels, in the order of their lines. No old label stands twice, and none is 0;

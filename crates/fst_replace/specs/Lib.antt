@@ -5,3 +5,4 @@ pub mod Expansion
 pub mod Totals
 pub mod Relation
 pub mod Answers
+pub mod Faults

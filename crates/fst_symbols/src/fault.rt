@@ -1,5 +1,8 @@
 //! Why a text is no symbol table.
 
+ghost use Rattle.std.specs.Prelude.{◌≡◌};
+ghost use Rattle.fst_symbols.specs.Faults.{line_of, reason_of};
+
 /// Why a text is no symbol table: the first fault of the first faulty line. Lines count from 1, blank ones
 /// included. In a line the faults come in the order below.
 #[derive(Clone, Copy, Debug, PartialEq, Eq)]
@@ -14,4 +17,32 @@ pub enum SymbolsFault {
     DuplicateNumber { line: u64 },
     /// There is no memory.
     Memory,
+}
+
+impl SymbolsFault {
+    /// The line, from 1; 0 where there is no memory. Takes no memory.
+    pub fn line(self) -> u64
+        ensures { result ≡ line_of self }
+    {
+        match self {
+            SymbolsFault::BadColumns { line }
+            | SymbolsFault::BadNumber { line }
+            | SymbolsFault::DuplicateSymbol { line }
+            | SymbolsFault::DuplicateNumber { line } => line,
+            SymbolsFault::Memory => 0,
+        }
+    }
+
+    /// What is wrong with the line. Takes no memory.
+    pub fn reason(self) -> &'static str
+        ensures { result.now ≡ reason_of self }
+    {
+        match self {
+            SymbolsFault::BadColumns { line: _ } => "wrong number of columns",
+            SymbolsFault::BadNumber { line: _ } => "bad number",
+            SymbolsFault::DuplicateSymbol { line: _ } => "symbol given twice",
+            SymbolsFault::DuplicateNumber { line: _ } => "number given twice",
+            SymbolsFault::Memory => "out of memory",
+        }
+    }
 }

@@ -5,3 +5,4 @@ pub mod Laws
 pub mod Options
 pub mod Printed
 pub mod Slots
+pub mod Faults

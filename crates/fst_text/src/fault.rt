@@ -1,5 +1,10 @@
 //! Why a text is not read, or a machine not printed.
 
+ghost use Rattle.std.specs.Prelude.{◌≡◌};
+ghost use Rattle.fst_text.specs.Faults.{line_of, reason_of};
+
+use std::fmt;
+
 /// Why a text is no machine: the first fault of the first faulty line. Lines count from 1, blank ones
 /// included. In a line the number of fields comes first, then the fields from left to right, then the
 /// number of arcs.
@@ -23,6 +28,40 @@ pub enum TextFault {
     Memory,
 }
 
+impl TextFault {
+    /// The line, from 1; 0 where there is no memory. Takes no memory.
+    pub fn line(self) -> u64
+        ensures { result ≡ line_of self }
+    {
+        match self {
+            TextFault::BadColumns { line }
+            | TextFault::BadState { line }
+            | TextFault::BadLabel { line }
+            | TextFault::UnknownSymbol { line }
+            | TextFault::BadWeight { line }
+            | TextFault::TooManyStates { line }
+            | TextFault::TooManyArcs { line } => line,
+            TextFault::Memory => 0,
+        }
+    }
+
+    /// What is wrong with the line. Takes no memory.
+    pub fn reason(self) -> &'static str
+        ensures { result.now ≡ reason_of self }
+    {
+        match self {
+            TextFault::BadColumns { line: _ } => "wrong number of columns",
+            TextFault::BadState { line: _ } => "bad state",
+            TextFault::BadLabel { line: _ } => "bad label",
+            TextFault::UnknownSymbol { line: _ } => "unknown symbol",
+            TextFault::BadWeight { line: _ } => "bad weight",
+            TextFault::TooManyStates { line: _ } => "too many states",
+            TextFault::TooManyArcs { line: _ } => "too many arcs",
+            TextFault::Memory => "out of memory",
+        }
+    }
+}
+
 /// Why a machine is not printed.
 #[derive(Clone, Copy, Debug, PartialEq, Eq)]
 pub enum PrintFault {
@@ -33,4 +72,22 @@ pub enum PrintFault {
     UnknownSymbol { label: u32 },
     /// There is no memory.
     Memory,
+}
+
+/// Says why, as `no symbol for label 5`.
+impl fmt::Display for PrintFault {
+    ghost use Rattle.std.specs.Prelude.{Some};
+    ghost use Rattle.fst_text.specs.Faults.{print_text};
+
+    ghost output = { λ fault. Some (print_text fault) };
+
+    fn fmt<W: fmt::Write>(&self, f: &mut fmt::Formatter<W>) -> fmt::Result {
+        match *self {
+            PrintFault::NotAcceptor { state, place } => {
+                write!(f, "not an acceptor at state {state} arc {place}")
+            }
+            PrintFault::UnknownSymbol { label } => write!(f, "no symbol for label {label}"),
+            PrintFault::Memory => f.write_str("out of memory"),
+        }
+    }
 }

@@ -8,3 +8,4 @@ mod Digits
 pub mod PlannedFiles
 pub mod PlanLemmas
 pub mod PrefixLemmas
+pub mod InputLemmas

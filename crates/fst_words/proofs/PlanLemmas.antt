@@ -8,7 +8,7 @@ use Rattle.fst_words.specs.declared.fault.WordsFault.{WordsFault}
 use Rattle.fst_words.specs.declared.plan.Plan.{Plan}
 use Rattle.fst_words.specs.declared.verb.Verb.{Verb}
 use Rattle.fst_words.specs.declared.form.Shape.{Shape}
-use Rattle.fst_words.specs.declared.form.Shape.TheVariants.{NoInput, One, Two, Three, Rules, Codex}
+use Rattle.fst_words.specs.declared.form.Shape.TheVariants.{NoInput, Text, One, Two, Three, Rules, Codex}
 use Rattle.fst_words.specs.Forms.{all_of, form_of}
 use Rattle.fst_words.specs.Commands.{all_names, found_in, least_names, takes_names}
 use Rattle.fst_words.specs.Plans.{Answers, filled, is_allowed, plan_by, plan_found, plan_of, plan_with}
@@ -59,6 +59,7 @@ length_filled verb names few =
 -- nothing is missing after all the names
 all_of_all : (shape : Shape) (n : ℕ) → all_of shape (all_of shape n) ≡ all_of shape n
 all_of_all NoInput n = refl
+all_of_all Text n = refl
 all_of_all One n = refl
 all_of_all Two n = refl
 all_of_all Three n = refl

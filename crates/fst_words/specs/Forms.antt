@@ -1,9 +1,11 @@
 -- The commands, a line each: the name, the options with a value, the flags, and the shape of the names. (OpenFst
 -- manual: the operations of the command line are programs whose names begin with `fst`. Here one program carries them
 -- all, and its first word names the operation. `batch` and `make` are this project's own.)
-use Rattle.std.specs.Prelude.{ℕ, ◌+◌, ◌-◌, ◌*◌, ◌/◌, Bool, true, false, List, [], ◌∷◌, codes, if◌then◌else◌}
+use Rattle.std.specs.Prelude.{nat_lt, ℕ, ◌+◌, ◌-◌, ◌*◌, ◌/◌, Bool, true, false, List, [], ◌∷◌, codes, if◌then◌else◌}
 use Rattle.fst_words.specs.declared.form.Shape.{Shape}
-use Rattle.fst_words.specs.declared.form.Shape.TheVariants.{NoInput, One, Two, Three, Rules, Codex}
+use Rattle.fst_words.specs.declared.form.Shape.TheVariants.{NoInput, Text, One, Two, Three, Rules, Codex}
+use Rattle.fst_words.specs.declared.form.Role.{Role}
+use Rattle.fst_words.specs.declared.form.Role.TheVariants as roles
 use Rattle.fst_words.specs.declared.verb.Verb.{Verb}
 use Rattle.fst_words.specs.declared.verb.Verb.TheVariants.{Compile, Print, Info, Invert, Reverse, Connect, Union, Concat, Closure, Project, Replace, Relabel, Arcsort, Compose, Rmepsilon, Shortestdistance, Shortestpath, Push, Encode, Determinize, Minimize, Batch, Make}
 
@@ -18,7 +20,7 @@ form_of Compile = record {
   name = codes "compile";
   options = codes "arc_type" ∷ codes "isymbols" ∷ codes "osymbols" ∷ [];
   flags = codes "acceptor" ∷ codes "keep_state_numbering" ∷ [];
-  shape = One;
+  shape = Text;
 }
 form_of Print = record {
   name = codes "print";
@@ -63,6 +65,7 @@ form_of Make = record {
 -- how many names must be given: the others may be missing
 abbrev pub least_of : Shape → ℕ
 least_of NoInput = 0
+least_of Text = 0
 least_of One = 0
 least_of Two = 2
 least_of Three = 2
@@ -73,6 +76,7 @@ least_of Codex = 2
 -- and an output follows them; every other shape has a number of its own
 abbrev pub all_of : Shape → ℕ → ℕ
 all_of NoInput n = 1
+all_of Text n = 2
 all_of One n = 2
 all_of Two n = 3
 all_of Three n = 4
@@ -82,6 +86,7 @@ all_of Codex n = 3
 -- the place of the first name that is stored, of n names; the codex is stored unless it is decoded by
 abbrev pub place_of : Shape → (decode : Bool) → (n : ℕ) → ℕ
 place_of NoInput decode n = 0
+place_of Text decode n = 1
 place_of One decode n = 1
 place_of Two decode n = 2
 place_of Three decode n = 3
@@ -91,8 +96,19 @@ place_of Codex decode n = if decode then 2 else 1
 -- the names are pairs of a machine and a label, and then an output
 abbrev pub has_rules : Shape → Bool
 has_rules NoInput = false
+has_rules Text = false
 has_rules One = false
 has_rules Two = false
 has_rules Three = false
 has_rules Rules = true
 has_rules Codex = false
+
+-- what the input in a place is, from 0
+abbrev pub role_of : Shape → (place : ℕ) → Role
+role_of NoInput place = roles.Machine
+role_of Text place = roles.Text
+role_of One place = roles.Machine
+role_of Two place = roles.Machine
+role_of Three place = if nat_lt place 2 then roles.Machine else roles.Lines
+role_of Rules place = roles.Machine
+role_of Codex place = if nat_lt place 1 then roles.Machine else roles.Codex

@@ -5,4 +5,5 @@ pub mod Verbs
 pub mod Commands
 pub mod Values
 pub mod Plans
+pub mod Inputs
 pub mod PlanLaws

@@ -1,6 +1,6 @@
 //! A plan answers for its names: the files that are fetched, those that are stored, and the labels of rules.
 
-ghost use Rattle.std.specs.Prelude.{◌≡◌, ◌<◌, Some, length, slice_get};
+ghost use Rattle.std.specs.Prelude.{◌≡◌, ◌<◌, ◌≤◌, Some, length, slice_get};
 ghost use Rattle.fst_words.specs.PlanLaws.{IsWhole};
 ghost use Rattle.fst_words.specs.Plans.{input_files, outputs_of, rule_labels};
 
@@ -59,7 +59,10 @@ impl Plan {
     pub fn rule_label(&self, place: usize) -> u32
         requires whole { IsWhole self.now }
         requires within { place < length (rule_labels self.now) }
-        ensures { slice_get (rule_labels self.now) place ≡ Some result }
+        ensures label { slice_get (rule_labels self.now) place ≡ Some result }
+        // It is a label of the input side, and not epsilon.
+        ensures some { 0 < result }
+        ensures small { result ≤ 2147483647 }
     {
         let pairs = self.names.len() / 2;
         prove!(place < pairs);

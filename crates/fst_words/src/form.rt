@@ -2,7 +2,7 @@
 
 ghost use Rattle.std.specs.Prelude.{◌≡◌, map};
 ghost use Rattle.fst_words.specs.Commands.{flags_of, options_of};
-ghost use Rattle.fst_words.specs.Forms.{all_of, form_of, has_rules, least_of, place_of};
+ghost use Rattle.fst_words.specs.Forms.{all_of, form_of, has_rules, least_of, place_of, role_of};
 ghost use Rattle.fst_words.specs.Verbs.{name_of};
 
 use crate::verb::Verb;
@@ -12,11 +12,13 @@ use crate::verb::Verb;
 pub(crate) enum Shape {
     /// An output alone.
     NoInput,
-    /// An input and an output, which may be missing.
+    /// A text and an output, which may be missing.
+    Text,
+    /// A machine and an output, which may be missing.
     One,
-    /// Two inputs, and an output, which may be missing.
+    /// Two machines, and an output, which may be missing.
     Two,
-    /// Two inputs, and a third and an output, which may be missing.
+    /// Two machines, and lines and an output, which may be missing.
     Three,
     /// Pairs of a machine and a label, and an output, which may be missing.
     Rules,
@@ -49,7 +51,7 @@ pub(crate) fn form_of(verb: Verb) -> Form
             name: "compile",
             options: &["arc_type", "isymbols", "osymbols"],
             flags: &["acceptor", "keep_state_numbering"],
-            shape: Shape::One,
+            shape: Shape::Text,
         },
         Verb::Print => Form {
             name: "print",
@@ -192,7 +194,7 @@ impl Shape {
         ensures { result ≡ least_of self }
     {
         match self {
-            Shape::NoInput | Shape::One => 0,
+            Shape::NoInput | Shape::Text | Shape::One => 0,
             Shape::Two | Shape::Three | Shape::Rules | Shape::Codex => 2,
         }
     }
@@ -203,7 +205,7 @@ impl Shape {
     {
         match self {
             Shape::NoInput => 1,
-            Shape::One => 2,
+            Shape::Text | Shape::One => 2,
             Shape::Two => 3,
             Shape::Three => 4,
             Shape::Rules => 2 * (given / 2) + 1,
@@ -217,7 +219,7 @@ impl Shape {
     {
         match self {
             Shape::NoInput => 0,
-            Shape::One => 1,
+            Shape::Text | Shape::One => 1,
             Shape::Two => 2,
             Shape::Three => 3,
             Shape::Rules => names.saturating_sub(1),
@@ -231,7 +233,53 @@ impl Shape {
     {
         match self {
             Shape::Rules => true,
-            Shape::NoInput | Shape::One | Shape::Two | Shape::Three | Shape::Codex => false,
+            Shape::NoInput | Shape::Text | Shape::One | Shape::Two | Shape::Three | Shape::Codex =>
+                false,
         }
     }
+
+    /// What the input in a place is, from 0.
+    pub(crate) fn role(self, place: usize) -> Role
+        ensures { result ≡ role_of self place }
+    {
+        match self {
+            Shape::Text => Role::Text,
+            Shape::NoInput | Shape::One | Shape::Two | Shape::Rules => Role::Machine,
+            Shape::Three => {
+                if place < 2 {
+                    Role::Machine
+                } else {
+                    Role::Lines
+                }
+            }
+            Shape::Codex => {
+                if place < 1 {
+                    Role::Machine
+                } else {
+                    Role::Codex
+                }
+            }
+        }
+    }
+}
+
+/// What an input of a command is, and what it is for.
+#[derive(Clone, Copy, Debug, PartialEq, Eq)]
+pub enum Role {
+    /// The symbol table of the input labels.
+    InputSymbols,
+    /// The symbol table of the output labels.
+    OutputSymbols,
+    /// The pairs of old and new input labels.
+    InputPairs,
+    /// The pairs of old and new output labels.
+    OutputPairs,
+    /// A machine as text.
+    Text,
+    /// A machine in the binary form.
+    Machine,
+    /// A codex.
+    Codex,
+    /// Lines, each for one run.
+    Lines,
 }

@@ -10,6 +10,7 @@ mod files;
 mod form;
 mod found;
 mod given;
+mod inputs;
 pub mod laws;
 mod name;
 mod options;
@@ -20,6 +21,8 @@ mod values;
 mod verb;
 
 pub use fault::WordsFault;
+pub use form::Role;
+pub use inputs::Input;
 pub use name::{Name, Names};
 pub use options::Options;
 pub use plan::Plan;

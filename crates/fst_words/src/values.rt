@@ -80,6 +80,7 @@ pub(crate) fn number_in(range: NumberRange, text: &str) -> Option<u64>
 pub(crate) fn label_of(text: &str) -> Option<u64>
     ensures value { result ≡ label_of text.now }
     ensures range { IfSome result (λ n. n ≤ 2147483647) }
+    ensures some { IfSome result (λ n. 0 < n) }
 {
     let n = read_decimal(text.as_bytes(), 18)?;
     if 1 <= n && n <= 2147483647 {

@@ -17,7 +17,7 @@ unreachable-requires c =
 pub overflow_cast-result : goal.overflow_cast-result
 overflow_cast-result c = omega (arith, c.in-Some.ensures)
 
-pub returns : goal.returns
-returns c =
+pub returns-clause-label : goal.returns-clause-label
+returns-clause-label c =
     let some : label_of c.item.result.now ≡ Some c.in-Some.label = cc in
     rule_label_at c.args.self.now c.args.place c.item.result.now (Some c.in-Some.label) c.requires.whole c.requires.within c.item.ensures some
