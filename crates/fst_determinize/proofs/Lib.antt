@@ -1,0 +1,13 @@
+pub mod Elements
+pub mod Ascending
+pub mod Grouped
+pub mod Dividing
+pub mod Best
+pub mod Spelling
+pub mod Members
+pub mod Stepping
+pub mod Following
+pub mod Words
+pub mod Soonest
+pub mod Kept
+pub mod Theorem

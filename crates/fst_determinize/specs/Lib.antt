@@ -1,0 +1,4 @@
+pub mod Subsets
+pub mod Ways
+pub mod Theorem
+pub mod SubsetLaws
