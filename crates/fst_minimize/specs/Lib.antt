@@ -1,0 +1,4 @@
+pub mod Behaviour
+pub mod Classes
+pub mod Words
+pub mod Laws

@@ -1,0 +1,4 @@
+//! Minimization of deterministic weighted acceptors.
+#![tactic(auto)]
+
+pub mod laws;
