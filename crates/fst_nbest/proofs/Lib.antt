@@ -1,0 +1,5 @@
+pub mod Standing
+pub mod Chained
+pub mod ChainSizes
+pub mod Remaining
+pub mod Building

@@ -1,0 +1,8 @@
+//! The n best paths of a weighted machine.
+//!
+//! `chains` makes a machine of listed paths, in which each path is a chain of states of its own.
+#![tactic(auto)]
+
+mod chaining;
+
+pub use chaining::{ChainsFault, chains};
