@@ -9,3 +9,4 @@ pub mod Through
 pub mod Ranges
 mod Appending
 mod Answering
+pub mod OneAnswer

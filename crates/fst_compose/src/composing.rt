@@ -31,6 +31,7 @@ struct Composing<'a, W: Weight> {
 
 impl<'a, W: Weight> Names<W> for Composing<'a, W> {
     type Key = ComposeKey;
+
     type Fault = AllocError;
 
     ghost graph = { λ s. composition W.KIND W.value s.a.now s.b.now };

@@ -13,6 +13,8 @@ ghost use Rattle.fst_compose.specs.Composition.{start_name, composed};
 ghost use Rattle.fst_trim.specs.KeptPaths.{KeepsPaths};
 ghost use Rattle.fst_compose.specs.Theorem.{IsComposed, IsComposition, IsConnectedComposition, RelatesNothing};
 ghost use Rattle.fst_compose.specs.NameLaws.{NameLaws};
+ghost use Rattle.fst_compose.specs.Answers.{Refuses};
+ghost use Rattle.fst_compose.specs.declared.fault.ComposeFault.{ComposeFault};
 
 /// What composition gives: the successful paths of the result are the matching pairs of paths, one to one, with the
 /// triple of each, in the graph of the composition and in each machine that numbers its names. Where a start is
@@ -33,4 +35,9 @@ pub fn name_laws()
 /// paths, one to one.
 pub fn trimming_laws<N, M>()
     ensures { (kind : ArcType) (a : Graph N) (b : Graph M) (names : List (Name N M)) (whole c : Machine Cost) (kept : List ℕ) → IsComposition kind a b names whole → KeepsPaths kind whole c kept → IsConnectedComposition kind a b names whole kept c }
+{}
+
+/// One cause refuses a composition.
+pub fn one_refusal()
+    ensures { (kind : ArcType) (a b : Machine Cost) (most : ℕ) (f h : ComposeFault) → Refuses kind a b most f → Refuses kind a b most h → f ≡ h }
 {}

@@ -5,7 +5,7 @@ use Rattle.std.specs.List.{list_any}
 use Rattle.std.proofs.lemmas.List.{length-append}
 use Rattle.std.proofs.lemmas.Option.{slice_get_within}
 use Rattle.indexmap.specs.IndexSet.{insert_key}
-use Rattle.fst_machine.specs.BreadthFirst.{Has, Grows}
+use Rattle.fst_machine.specs.BreadthFirst.{Grows}
 use Rattle.fst_machine.proofs.Arcs.{append_at}
 use Rattle.fst_machine.proofs.Elements.{at_Has, any-Has, Has-any}
 use Rattle.fst_walk.specs.Making.{Passes}

@@ -5,3 +5,4 @@ pub mod Ending
 pub mod Refusing
 pub mod Numbered
 pub mod Fronts
+pub mod OneAnswer
