@@ -34,6 +34,8 @@ impl<'a, W: Weight> Names<W> for Composing<'a, W> {
 
     type Fault = AllocError;
 
+    type Scratch = ();
+
     ghost graph = { λ s. composition W.KIND W.value s.a.now s.b.now };
 
     ghost holds = { λ s. IsMachine W.value s.a.now × IsMachine W.value s.b.now };
@@ -45,7 +47,14 @@ impl<'a, W: Weight> Names<W> for Composing<'a, W> {
         Some(key_at(first, second, 0))
     }
 
-    fn put_arcs(&self, out: &mut Vec<KeyArc<W>>, key: &ComposeKey) -> Result<(), AllocError> {
+    fn scratch(_alloc: Global) {}
+
+    fn put_arcs(
+        &self,
+        _scratch: &mut (),
+        out: &mut Vec<KeyArc<W>>,
+        key: &ComposeKey,
+    ) -> Result<(), AllocError> {
         put_arcs(out, self.a, self.b, *key)
     }
 

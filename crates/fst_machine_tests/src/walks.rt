@@ -5,7 +5,7 @@ ghost use Rattle.std.proofs.lemmas.Bool.Decides.{Decides-eqb};
 
 use fst_semiring::{Tropical, Weight};
 use fst_walk::{NameArc, Names, Room, walk};
-use std::alloc::AllocError;
+use std::alloc::{AllocError, Global};
 use std::marker::Model;
 use std::test::Fail;
 
@@ -34,6 +34,7 @@ impl Names<Tropical> for Lone {
 
     type Key = Mark;
     type Fault = AllocError;
+    type Scratch = ();
 
     ghost graph = { λ s. record { start = Some 7; arcs = λ n. []; final = λ n. infinite } };
 
@@ -43,8 +44,11 @@ impl Names<Tropical> for Lone {
         Some(Mark { place: 7 })
     }
 
+    fn scratch(_alloc: Global) {}
+
     fn put_arcs(
         &self,
+        _scratch: &mut (),
         _out: &mut Vec<NameArc<Mark, Tropical>>,
         _key: &Mark,
     ) -> Result<(), AllocError> {

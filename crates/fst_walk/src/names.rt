@@ -8,7 +8,7 @@ ghost use Rattle.fst_machine.specs.Machine.{Arc};
 ghost use Rattle.fst_walk.specs.Names.{IsGoodArc, IsNear, key_arc};
 
 use fst_semiring::Weight;
-use std::alloc::AllocError;
+use std::alloc::{AllocError, Global};
 use std::hash::Hash;
 use std::marker::Model;
 
@@ -43,6 +43,9 @@ pub trait Names<W: Weight> {
     /// Why the arcs of a name are not made: at least that memory has run out. A walk that meets such a fault gives it.
     type Fault: From<AllocError>;
 
+    /// What the arcs of a name are made in. A walk keeps one, so that the arcs of each name ask for no memory of their own.
+    type Scratch: Drop;
+
     /// The graph.
     ghost graph: { Self → Graph Self.Key };
 
@@ -53,9 +56,13 @@ pub trait Names<W: Weight> {
     fn start(&self) -> Option<Self::Key>
         ensures { result ≡ (graph self.now).start };
 
+    /// What the arcs of the first name are made in.
+    fn scratch(alloc: Global) -> Self::Scratch;
+
     /// Puts the arcs of a name after the others.
     fn put_arcs(
         &self,
+        scratch: &mut Self::Scratch,
         out: &mut Vec<NameArc<Self::Key, W>>,
         key: &Self::Key,
     ) -> Result<(), Self::Fault>

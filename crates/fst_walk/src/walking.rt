@@ -38,6 +38,7 @@ pub struct Room {
 /// Follows the arcs of the name in a place. False where there are then more names than the limit.
 fn follow<W: Weight, N: Names<W>>(
     output: &mut Output<N::Key, W>,
+    scratch: &mut N::Scratch,
     graph: &N,
     place: usize,
     limit: u32,
@@ -53,7 +54,7 @@ fn follow<W: Weight, N: Names<W>>(
 {
     let key = output.names.item(place);
     output.made.clear();
-    graph.put_arcs(&mut output.made, key)?;
+    graph.put_arcs(scratch, &mut output.made, key)?;
     let last = graph.final_weight(key);
     let more = output.made.len();
     let Some(fits) = number_arcs(&mut output.arcs, &mut output.names, &mut output.made, limit)?
@@ -68,6 +69,7 @@ fn follow<W: Weight, N: Names<W>>(
 /// Follows the arcs of all names. False where there are more names than the limit.
 fn follow_all<W: Weight, N: Names<W>>(
     output: &mut Output<N::Key, W>,
+    scratch: &mut N::Scratch,
     graph: &N,
     limit: u32,
 ) -> Result<bool, N::Fault>
@@ -80,7 +82,7 @@ fn follow_all<W: Weight, N: Names<W>>(
 {
     let mut taken = 0;
     while taken < output.names.len() {
-        if !follow(output, graph, taken, limit)? {
+        if !follow(output, scratch, graph, taken, limit)? {
             return Ok(false);
         }
         taken += 1;
@@ -131,7 +133,8 @@ fn walk_from<W: Weight, N: Names<W>>(
     ensures cause { IfOk result (λ r. IfErr r (Stops (N.graph graph.now) limit)) }
 {
     let mut output = begin(alloc, start, room, limit)?;
-    if !follow_all(&mut output, graph, limit)? {
+    let mut scratch = N::scratch(alloc);
+    if !follow_all(&mut output, &mut scratch, graph, limit)? {
         return Ok(Err(WalkFault::StateLimit { limit }));
     }
     if output.total > MOST_ARCS {
