@@ -4,3 +4,8 @@ pub mod Spelling
 pub mod Lower
 pub mod Few
 pub mod Minimal
+pub mod Refining
+pub mod Tables
+pub mod RowLists
+pub mod Numbered
+pub mod Splitting

@@ -2,3 +2,8 @@ pub mod Behaviour
 pub mod Classes
 pub mod Words
 pub mod Laws
+pub mod Pairs
+pub mod Numbered
+pub mod Numberers
+pub mod Rows
+pub mod Refining

@@ -2,3 +2,7 @@
 #![tactic(auto)]
 
 pub mod laws;
+mod numberer;
+mod pairs;
+mod rounds;
+mod rows;

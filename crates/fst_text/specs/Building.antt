@@ -46,6 +46,7 @@ use Rattle.fst_text.specs.declared.fault.TextFault.{TextFault}
 use Rattle.fst_text.specs.Options.{Options}
 use Rattle.fst_text.specs.declared.places.Places.{Places}
 use Rattle.fst_text.specs.declared.builder.Builder.{Builder}
+pub use Rattle.fst_table.specs.Slots.{with_place}
 use Rattle.fst_text.specs.Slots.{found_among}
 use Rattle.fst_text.specs.Entries.{Entry, arc_entry, final_entry}
 use Rattle.fst_fields.specs.Reading.{◌>>=◌}
@@ -62,10 +63,6 @@ pub record Building : Type 0 where
 -- what is known of a number
 abbrev pub found_in : Places → ℕ → Option ℕ
 found_in places n = found_among places.bound places.dense.items places.sparse.slots.items n
-
--- one more number with its place
-abbrev pub with_place : (ℕ → Option ℕ) → ℕ → ℕ → ℕ → Option ℕ
-with_place found n place m = if m == n then Some place else found m
 
 -- the building that a builder stands for
 abbrev pub built : {W V : Type 0} → (W → Cost) → Builder W V → Building

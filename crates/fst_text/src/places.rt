@@ -4,10 +4,8 @@ ghost use Rattle.std.specs.Prelude.{◌≡◌, ◌<◌, ◌≤◌, ℕ, None, So
 ghost use Rattle.std.specs.Option.{ForSome};
 ghost use Rattle.fst_text.specs.Slots.{found_among};
 
-use flat_table::FlatTable;
+use fst_table::FlatTable;
 use std::alloc::{AllocError, Global};
-
-mod flat_table;
 
 /// The slot of a number that is not known.
 const ABSENT: u32 = u32::MAX;

@@ -1,0 +1,6 @@
+//! A table from numbers to places, for look-ups without a hash of the kit's maps.
+#![tactic(auto)]
+
+mod flat_table;
+
+pub use flat_table::FlatTable;
