@@ -1,0 +1,5 @@
+pub mod Counts
+pub mod Rule
+pub mod Plays
+pub mod Passes
+pub mod Claimed

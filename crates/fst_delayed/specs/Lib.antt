@@ -1,0 +1,4 @@
+pub mod Coding
+pub mod Caches
+pub mod Graphs
+pub mod DelayedLaws
