@@ -1,8 +1,11 @@
 -- A search that halves the places that are left, among arcs that stand by their labels.
-use Rattle.std.proofs.Common.{◌≡◌, ℕ, zero, suc, ◌+◌, ◌*◌, ◌/◌, ◌^◌, ◌<◌, ◌≤◌, List, length, get_or, sym, ap, ◌∙◌, subst, arith}
+use Rattle.std.proofs.Common.{◌≡◌, ◌≢◌, ◌⊎◌, inl, inr, ℕ, zero, suc, ◌+◌, ◌*◌, ◌/◌, ◌^◌, ◌<◌, ◌≤◌, List, length, get_or, sym, ap, ◌∙◌, subst, arith}
+use Rattle.std.proofs.Math.Pow.{pow_mono}
+use Rattle.std.proofs.lemmas.Bool.{cases_lt}
 use Rattle.std.proofs.lemmas.List.{get_or_default}
 use Rattle.fst_machine.specs.Machine.{Arc}
 use Rattle.fst_trim.specs.declared.side.Side.{Side}
+use Rattle.fst_trim.specs.Runs.{IsRun, LeavesToSearch}
 use Rattle.fst_trim.specs.Sides.{StandsBy, label_of}
 
 -- Of the steps that n allows, as many are left as it takes to halve `size` places down to none.
@@ -34,3 +37,31 @@ module _ {V : Type 0} (side : Side) (arcs : List (Arc V ℕ)) (sorted : StandsBy
   -- and none from it on is lower
   pub none_lower : (k : ℕ) (d : Arc V ℕ) → place ≤ k → k < length arcs → label_of side a ≤ label_of side (get_or arcs k d)
   none_lower k d after within = subst (λ (n : ℕ). n ≤ label_of side (get_or arcs k d)) (sym (label_there d)) (sorted place k d after within)
+
+-- a power of two that is below another has the lower exponent
+lower_exponent : (m n : ℕ) → 2 ^ m < 2 ^ n → m < n
+lower_exponent m n low = by_order (cases_lt m n)
+  where
+    by_order : (m < n) ⊎ (n ≤ m) → m < n
+    by_order (inl less) = less
+    by_order (inr more) = absurd (let grown : 2 ^ n ≤ 2 ^ m = pow_mono more in omega arith)
+
+-- after so many doublings what is left can be searched
+pub can_search : (n size old new times : ℕ) → size < 2 ^ times → 2 ^ times ≤ n → new ≤ old + times + 1 → LeavesToSearch n size old new
+can_search n size old new times few low steps digits written = (times, few, (let more = lower_exponent times digits (omega arith) in omega arith))
+
+module _ {V : Type 0} (side : Side) (arcs : List (Arc V ℕ)) (sorted : StandsBy side arcs) (label first : ℕ) (before : (k : ℕ) (d : Arc V ℕ) → k < first → label_of side (get_or arcs k d) < label) where
+  -- from the first place with no lower label, along those with the label
+  pub gone_along : (last : ℕ) → first ≤ last → last ≤ length arcs → ((k : ℕ) (d : Arc V ℕ) → first ≤ k → k < length arcs → label ≤ label_of side (get_or arcs k d)) → ((k : ℕ) (d : Arc V ℕ) → first ≤ k → k < last → label_of side (get_or arcs k d) ≡ label)
+      → ((d : Arc V ℕ) → last < length arcs → label_of side (get_or arcs last d) ≢ label) → IsRun side label arcs first last
+  gone_along last order within from here next = record {
+    order = order;
+    within = within;
+    before = before;
+    here = here;
+    after = λ k d past low. let least = from last d order (omega arith) in let other = next d (omega arith) in let more = sorted last k d past low in omega arith;
+  }
+
+  -- none has the label
+  pub none_here : first ≤ length arcs → ((k : ℕ) (d : Arc V ℕ) → first ≤ k → k < length arcs → label < label_of side (get_or arcs k d)) → IsRun side label arcs first first
+  none_here within after = record { order = omega arith; within = within; before = before; here = λ k d past low. absurd (omega arith); after = after }

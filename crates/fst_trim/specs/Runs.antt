@@ -18,3 +18,8 @@ pub record IsRun {V : Type 0} (side : Side) (label : ℕ) (arcs : List (Arc V �
 -- below this power of 2.
 abbrev pub TakesSteps : ℕ → ℕ → ℕ → ℕ → Type 0
 TakesSteps times n old new = (digits : ℕ) → n < 2 ^ digits → new ≤ old + times * digits
+
+-- From `old` to `new` so few steps were taken, of two for each binary digit of n but one, that as many are left as it
+-- takes to search so many places by halves.
+abbrev pub LeavesToSearch : ℕ → ℕ → ℕ → ℕ → Type 0
+LeavesToSearch n size old new = (digits : ℕ) → n < 2 ^ digits → (left : ℕ) × (size < 2 ^ left) × (new + left + 1 ≤ old + 2 * digits)

@@ -28,7 +28,7 @@ pub use describing::info;
 pub use first_arc::{is_acceptor, is_deterministic, not_acceptor_at, not_deterministic_at};
 pub use laws::one_answer;
 pub use links::{Link, Links};
-pub use run::find_run;
+pub use run::{find_run, run_end, run_from};
 pub use side::Side;
 pub use sorted::{is_sorted, stands_by};
 pub use sorting::{arcsort, sort_arcs};
