@@ -12,10 +12,11 @@ use Rattle.fst_machine.specs.Machine.{Arc}
 use Rattle.fst_machine.specs.Graph.{Graph}
 use Rattle.fst_machine.specs.Letters.{Letter, letter_of}
 use Rattle.fst_machine.specs.Distance.{IsFinalDistance}
+use Rattle.fst_pushing.proofs.Potential.{times_not_zero, zero_or_not}
 use Rattle.fst_minimize.specs.Behaviour.{Alike, IsSingle, Follows, IsStable}
 use Rattle.fst_minimize.specs.Words.{Weighs, WordWeighs, HasKind}
-use Rattle.fst_minimize.proofs.Stable.{zero_or_not, stable_alike}
-use Rattle.fst_minimize.proofs.Spelling.{Goes, StartsWith, starts_with, arc_before, word_ends, ends_word, joins, goes_on, Goes_kind, Weighs_kind, one_word, no_better, times_not_zero, swapped}
+use Rattle.fst_minimize.proofs.Stable.{stable_alike}
+use Rattle.fst_minimize.proofs.Spelling.{Goes, StartsWith, starts_with, arc_before, word_ends, ends_word, joins, goes_on, Goes_kind, Weighs_kind, one_word, no_better, swapped}
 
 -- Each word of g has the total Times its weight in o, and o has no other words.
 pub record TotalTimes {N M : Type 0} (kind : ArcType) (total : Cost) (g : Graph N) (o : Graph M) : Type 0 where

@@ -13,12 +13,13 @@ use Rattle.fst_machine.specs.Letters.{label_word, product}
 use Rattle.fst_machine.specs.Paths.{Transition, IsPath, letters}
 use Rattle.fst_machine.specs.Cycles.{IsAccessible, IsCoaccessible}
 use Rattle.fst_machine.proofs.Cycles.{state_below}
+use Rattle.fst_pushing.proofs.Potential.{times_not_zero, zero_or_not}
 use Rattle.fst_minimize.specs.Behaviour.{Alike, IsSingle, GoesOn}
 use Rattle.fst_minimize.specs.Classes.{HasClasses}
 use Rattle.fst_minimize.specs.Words.{Weighs, WordWeighs, IsWordWeight, HasKind, SameWords, IsMinimal}
 use Rattle.fst_minimize.specs.Laws.{IsClosed, IsNormal, totalled, totalled_state, MinimalLaw}
 use Rattle.fst_minimize.proofs.Classes.{class_alike, start_there, start_back}
-use Rattle.fst_minimize.proofs.Spelling.{Goes, StartsWith, starts_with, Weighs_kind, joins, times_not_zero, swapped}
+use Rattle.fst_minimize.proofs.Spelling.{Goes, StartsWith, starts_with, Weighs_kind, joins, swapped}
 use Rattle.fst_minimize.proofs.Lower.{TotalTimes, IsPushedGraph, one_name, same_start}
 use Rattle.fst_minimize.proofs.Few.{few}
 

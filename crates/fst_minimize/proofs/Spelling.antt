@@ -12,16 +12,9 @@ use Rattle.fst_machine.specs.Paths.{Transition, IsPath, letters}
 use Rattle.fst_machine.specs.Distance.{Finishes, IsFinalDistance}
 use Rattle.fst_machine.proofs.Letters.{label_word-append, product-append, letters-append}
 use Rattle.fst_machine.proofs.PathParts.{IsPath-append}
+use Rattle.fst_pushing.proofs.Potential.{times_not_zero}
 use Rattle.fst_minimize.specs.Behaviour.{IsSingle}
 use Rattle.fst_minimize.specs.Words.{Weighs, HasKind}
-
--- factors that are not Zero have a product that is not
-pub times_not_zero : (kind : ArcType) (a b : Cost) → a ≢ infinite → b ≢ infinite → times kind a b ≢ infinite
-times_not_zero kind a b one two e = by (times_only_zero kind a b e)
-  where
-    by : (a ≡ infinite) ⊎ (b ≡ infinite) → ⊥
-    by (inl h) = one h
-    by (inr h) = two h
 
 -- the outer of two factors put inside
 pub swapped : (kind : ArcType) (c d v : Cost) → times kind d (times kind c v) ≡ times kind c (times kind d v)

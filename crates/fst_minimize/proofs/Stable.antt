@@ -10,6 +10,7 @@ use Rattle.fst_machine.specs.Letters.{Letter, letter_of, input, output, product}
 use Rattle.fst_machine.specs.Paths.{Transition, IsPath, letters}
 use Rattle.fst_machine.specs.Relation.{RelFrom}
 use Rattle.fst_machine.specs.Cycles.{IsCoaccessible}
+use Rattle.fst_pushing.proofs.Potential.{zero_or_not}
 use Rattle.fst_minimize.specs.Behaviour.{Behaves, Alike, IsSingle, GoesOn, Follows, IsStable}
 use Rattle.fst_minimize.specs.Laws.{StableLaw, BehaviourLaws}
 
@@ -68,12 +69,6 @@ ends_here {N} g p w b = by_path b.path b.leads b.spells
     by_path : (path : List (Transition N)) → IsPath g p path b.last → ◌≡◌ {A = List Letter} [] (letters path) → w ≡ g.final p
     by_path [] here e = b.ends ∙ ap g.final (sym here)
     by_path (t ∷ path) leads e = absurd (cc)
-
--- a value is Zero or not
-pub zero_or_not : (w : Cost) → (w ≡ infinite) ⊎ (w ≡ infinite → ⊥)
-zero_or_not Cost.best = inr (λ e. absurd (cc))
-zero_or_not (Cost.finite a b) = inr (λ e. absurd (cc))
-zero_or_not infinite = inl refl
 
 -- names with equal behaviour have the same final weight
 pub alike_final : {N M : Type 0} (g : Graph N) (h : Graph M) (p : N) (q : M) → Alike g h p q → g.final p ≡ h.final q

@@ -1,0 +1,9 @@
+pub mod Potential
+pub mod PushedPaths
+pub mod Normal
+pub mod Rank
+pub mod Connecting
+pub mod Pushed
+pub mod Bounds
+pub mod Lists
+pub mod View
