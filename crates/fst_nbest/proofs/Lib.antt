@@ -3,3 +3,8 @@ pub mod Chained
 pub mod ChainSizes
 pub mod Remaining
 pub mod Building
+pub mod Ranks
+pub mod Covering
+pub mod Peeling
+pub mod HeapOrder
+pub mod Heaps

@@ -1,2 +1,5 @@
 pub mod Chains
 pub mod Listing
+pub mod Heap
+pub mod Words
+pub mod Families

@@ -4,5 +4,6 @@
 #![tactic(auto)]
 
 mod chaining;
+mod heap;
 
 pub use chaining::{ChainsFault, chains};
