@@ -5,4 +5,6 @@
 #![tactic(auto)]
 
 #[cfg(test)]
+mod cascade;
+#[cfg(test)]
 mod claims;

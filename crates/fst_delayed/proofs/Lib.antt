@@ -1,3 +1,4 @@
 pub mod Apart
 pub mod Keys
 pub mod Held
+pub mod Handed

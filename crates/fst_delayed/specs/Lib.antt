@@ -1,3 +1,4 @@
+pub mod Handed
 pub mod Coding
 pub mod Caches
 pub mod Graphs

@@ -1,0 +1,4 @@
+pub mod Filtering
+pub mod Steps
+pub mod LinePaths
+pub mod Drawn

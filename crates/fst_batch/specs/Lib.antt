@@ -1,0 +1,4 @@
+pub mod Lattice
+pub mod LinePaths
+pub mod Draws
+pub mod Cascade

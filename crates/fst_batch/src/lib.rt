@@ -1,0 +1,15 @@
+//! Batches: each line of a text is read by a composition of two machines, whose states are expanded once for all lines.
+//!
+//! The lattice of a line is the graph of what a machine may do while it reads the line; its successful paths are, one to
+//! one, the paths of the machine that read the line. `specs/Lattice.antt` has it, over graphs with any kind of name,
+//! and `laws` asks for that theorem. `Lines` is the lines of a text, and `make_cascade` makes two machines and lines from
+//! a number.
+#![tactic(auto)]
+
+mod cascade;
+mod drawing;
+pub mod laws;
+mod lines;
+
+pub use cascade::{Cascade, make_cascade};
+pub use lines::Lines;
