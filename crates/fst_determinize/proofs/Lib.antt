@@ -9,5 +9,9 @@ pub mod Stepping
 pub mod Following
 pub mod Words
 pub mod Soonest
-pub mod Kept
+pub mod Weights
 pub mod Theorem
+pub mod Forms
+pub mod Runs
+pub mod Puts
+pub mod Machines

@@ -27,7 +27,7 @@ use Rattle.fst_determinize.specs.Ways.{IsAcceptor, IsWeighted, arc_by, subsets, 
 use Rattle.fst_determinize.proofs.Elements.{Has_map}
 use Rattle.fst_determinize.proofs.Following.{follow_start, reach_subset}
 use Rattle.fst_determinize.proofs.Grouped.{grouped_ascends}
-use Rattle.fst_determinize.proofs.Kept.{same_weights}
+use Rattle.fst_determinize.proofs.Weights.{same_weights}
 use Rattle.fst_determinize.proofs.Members.{member_stands, one_subset}
 use Rattle.fst_determinize.proofs.Soonest.{Leads, Soonest, one_way, soonest}
 use Rattle.fst_determinize.proofs.Spelling.{spells_within, word_length}

@@ -90,7 +90,7 @@ module _ (kind : ArcType) (g : Graph ℕ) where
         let last = best_no_worse (λ (m : Member). times kind m.residual (g.final m.state)) s m has.1 some in
         let reads : input (letters path) ≡ input (letters there.2) = input_is path ∙ (ap string_of (sym there.5) ∙ sym (input_is there.2)) in
         let regroup : times kind b (times kind has.0 f) ≡ times kind from.weight f = sym (times_assoc kind b has.0 f) ∙ ap (λ v. times kind v f) from.undone in
-        let one : plus (times kind b (final_by kind g s)) (times kind from.weight f) ≡ times kind b (final_by kind g s) = subst (λ (v : Cost). plus (times kind b (final_by kind g s)) v ≡ times kind b (final_by kind g s)) regroup (times_keeps kind b (final_by kind g s) (times kind has.0 f) last.1) in
+        let one : plus (times kind b (final_by kind g s)) (times kind from.weight f) ≡ times kind b (final_by kind g s) = ap (plus (times kind b (final_by kind g s))) (sym regroup) ∙ times_keeps kind b (final_by kind g s) (times kind has.0 f) last.1 in
         let two : plus (times kind from.weight f) (times kind u f) ≡ times kind from.weight f = keeps_times kind f from.weight u (from.least u own) in
         let low : plus (times kind b (final_by kind g s)) (times kind u f) ≡ times kind b (final_by kind g s) = plus_trans (times kind b (final_by kind g s)) (times kind from.weight f) (times kind u f) one two in (
           times kind b (final_by kind g s),

@@ -5,4 +5,14 @@
 //! it is made subset by subset, and what its machine gives. `laws` asks for their laws.
 #![tactic(auto)]
 
+mod determinizing;
+mod fault;
 pub mod laws;
+mod making;
+mod residual;
+mod subset;
+mod way;
+pub mod weighing;
+
+pub use residual::{Broad, Kept, Narrow, Residual};
+pub use subset::{Held, SubsetOf};

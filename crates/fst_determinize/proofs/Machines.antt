@@ -1,0 +1,226 @@
+-- The arcs of a machine, as its graph has them, and the ways from a subset of its states.
+use Rattle.std.proofs.Common.{◌≡◌, ◌≢◌, ◌⊎◌, inl, inr, ℕ, ◌+◌, ◌*◌, ◌<◌, ◌≤◌, zero, suc, List, [], ◌∷◌, ◌++◌, Ok, Err, Option, None, Some, length, map, take, get_or, slice_get, sym, ap, ◌∙◌, subst, arith}
+use Rattle.std.specs.List.{All}
+use Rattle.std.specs.Option.{option_map}
+use Rattle.std.specs.Prelude.{IfSome, OnOk, Result}
+use Rattle.std.proofs.lemmas.Bool.{cases_lt}
+use Rattle.std.proofs.lemmas.List.{get_or_past, length-map, take_more}
+use Rattle.std.proofs.lemmas.List.Elements.{All-push}
+use Rattle.std.proofs.lemmas.Option.{get_or_from_slice_get, same_Some, slice_get-get_or, slice_get_within}
+use Rattle.fst_semiring.specs.Cost.{Cost, infinite, plus}
+use Rattle.fst_semiring.specs.Division.{quotient}
+use Rattle.fst_semiring.specs.Semiring.{InRange, IsCost, IsWide, times}
+use Rattle.fst_semiring.specs.declared.arc_type.ArcType.{ArcType}
+use Rattle.fst_semiring.proofs.Laws.{times_only_zero}
+use Rattle.fst_semiring.proofs.Ranges.{Within-more, Within-times}
+use Rattle.fst_machine.specs.BreadthFirst.{Has}
+use Rattle.fst_machine.specs.Graph.{graph_of, no_state}
+use Rattle.fst_machine.specs.Machine.{Arc, IsArc, IsMachine, Machine, State, valued, valued_arc, valued_state}
+use Rattle.fst_machine.specs.Paths.{IsPath, Transition}
+use Rattle.fst_machine.proofs.Arcs.{mapped_at}
+use Rattle.fst_machine.proofs.Elements.{at_Has}
+use Rattle.fst_machine.proofs.Valued.{IsMachine-valued}
+use Rattle.fst_machine.proofs.Walking.{graph_arcs}
+use Rattle.fst_walk.specs.Names.{IsNear}
+use Rattle.fst_determinize.specs.Kept.{AreGoodWays, HeldAs, IsGoodWay, WayAs, member_as, members_as, rank, way_as, ways_as}
+use Rattle.fst_determinize.specs.Subsets.{Member}
+use Rattle.fst_determinize.specs.Ways.{Way, arc_by, arcs_by, best_of, final_by, members_of, member_by, subsets, ways}
+use Rattle.fst_determinize.specs.Weighed.{AreMembers, HasGoodArcs, IsWeighed, IsWeighedAt}
+use Rattle.fst_determinize.proofs.Best.{best_alike}
+use Rattle.fst_determinize.proofs.Dividing.{zero_kind}
+use Rattle.fst_determinize.proofs.Elements.{Alike, Has_map, map_alike}
+use Rattle.fst_determinize.proofs.Forms.{best_more}
+use Rattle.fst_determinize.proofs.Grouped.{grouped_alike}
+use Rattle.fst_determinize.proofs.Members.{member_stands, residual_kind, ways_Has}
+use Rattle.fst_determinize.proofs.Runs.{All_Has, Has_All, permuted, rises_from}
+use Rattle.fst_determinize.proofs.Stepping.{arc_steps}
+use Rattle.fst_determinize.proofs.Theorem.{near_subset, residual_within}
+use Rattle.std.specs.List.Sorted.{IsNonDecreasingBy, IsPermutation}
+
+-- what follows from what holds where a call succeeds
+pub on_ok : {X E : Type 0} (r : Result X E) (P Q : Type 0) → (P → Q) → OnOk r P → OnOk r Q
+on_ok (Ok x) P Q more h = more h
+on_ok (Err e) P Q more h = h
+
+-- the final weight of a state, as the graph has it
+pub graph_final : {V : Type 0} (value : V → Cost) (m : Machine V) (p : ℕ) (w : V) → option_map (λ s. s.final) (slice_get m.states p) ≡ Some w → (graph_of (valued value m)).final p ≡ value w
+graph_final {V} value m p w e = in_states m.states p w e
+  where
+    in_states : (states : List (State V)) (p : ℕ) (w : V) → option_map (λ s. s.final) (slice_get states p) ≡ Some w → (get_or (map (valued_state value) states) p no_state).final ≡ value w
+    in_states [] p w e = absurd (cc)
+    in_states (s ∷ states) zero w e = ap value (same_Some s.final w e)
+    in_states (s ∷ states) (suc p) w e = in_states states p w e
+
+module _ (m : Machine Cost) (h : IsMachine (λ (v : Cost). v) m) where
+  -- an arc of the graph is an arc of the machine
+  pub machine_arc : (p k : ℕ) (a : Arc Cost ℕ) → slice_get ((graph_of m).arcs p) k ≡ Some a → IsArc (λ (v : Cost). v) (length m.states) a
+  machine_arc p k a at = by_place (cases_lt p (length m.states))
+    where
+      by_place : (p < length m.states) ⊎ (length m.states ≤ p) → IsArc (λ (v : Cost). v) (length m.states) a
+      by_place (inl low) = subst (λ (b : Arc Cost ℕ). IsArc (λ (v : Cost). v) (length m.states) b) (get_or_from_slice_get ((graph_of m).arcs p) k a a at) (h.arcs p no_state low k a (slice_get_within ((graph_of m).arcs p) k a at))
+      by_place (inr high) = let none : slice_get {X = Arc Cost ℕ} [] k ≡ Some a = ap (λ (s : State Cost). slice_get s.arcs k) (sym (get_or_past m.states p no_state high)) ∙ at in absurd (cc)
+
+  -- paths stay among its states
+  pub path_inside : (path : List (Transition ℕ)) (p q : ℕ) → IsPath (graph_of m) p path q → p < length m.states → q < length m.states
+  path_inside [] p q here low = subst (λ (z : ℕ). z < length m.states) here low
+  path_inside (t ∷ path) p q leads low = path_inside path t.arc.next q leads.1 (machine_arc p t.place t.arc leads.0.1).next
+
+  pub start_below : (p : ℕ) → m.start ≡ Some p → p < length m.states
+  start_below p e = in_some m.start p h.start e
+    where
+      in_some : (o : Option ℕ) (p : ℕ) → IfSome o (λ s. s < length m.states) → o ≡ Some p → p < length m.states
+      in_some None p k e = absurd (cc)
+      in_some (Some s) p k e = subst (λ (z : ℕ). z < length m.states) (same_Some s p e) k
+
+-- what is made of ways does not depend on their order
+module _ (kind : ArcType) where
+  members_alike : (by : Cost) (us vs : List Way) → Alike us vs → members_of kind by us ≡ members_of kind by vs
+  members_alike by us vs h = grouped_alike (λ (y : Way). y.state) (member_by kind by) (λ q xs ys k. ap (λ (v : Cost). record { state = q; residual = quotient kind v by }) (best_alike (λ (y : Way). y.weight) xs ys k)) us vs h
+
+  pub arcs_alike : (us vs : List Way) → Alike us vs → arcs_by kind us ≡ arcs_by kind vs
+  arcs_alike us vs h = grouped_alike (λ (y : Way). y.label) (arc_by kind) arc_alike us vs h
+    where
+      arc_alike : (label : ℕ) (xs ys : List Way) → Alike xs ys → arc_by kind label xs ≡ arc_by kind label ys
+      arc_alike label xs ys k =
+          let made : List Member → Cost → Arc Cost (List Member) = λ ms v. record { ilabel = label; olabel = label; weight = v; next = ms } in
+          ap (λ (v : Cost). made (members_of kind v xs) v) (best_alike (λ (y : Way). y.weight) xs ys k) ∙ ap (λ (ms : List Member). made ms (best_of ys)) (members_alike (best_of ys) xs ys k)
+
+module _ {V : Type 0} (kind : ArcType) (value : V → Cost) (m : Machine V) (h : IsWeighed kind value m) where
+  whole : Machine Cost
+  whole = valued value m
+
+  limits : IsMachine (λ (v : Cost). v) (valued value m)
+  limits = IsMachine-valued value m h.machine
+
+  long : length (valued value m).states ≡ length m.states
+  long = length-map m.states (valued_state value)
+
+  -- the ways from members are good
+  pub ways_good : (members : List Member) → AreMembers (length m.states) members → (y : Way) → Has (ways kind (graph_of (valued value m)) members) y → (y.state < 4294967296) × IsWide y.weight × (y.weight ≢ infinite)
+  ways_good members good y k =
+      let way = ways_Has kind (graph_of (valued value m)) members y k in
+      let arc = machine_arc (valued value m) limits way.member.state way.place way.arc way.has in
+      let range = h.ranged way.member.state way.place way.arc way.has in
+      let weight = h.weighted.arcs way.member.state way.place way.arc way.has in
+      let low = arc.next in
+      let few = h.machine.few_states in
+      let same = long in
+      let small : way.arc.next < 4294967296 = omega (arith, low, few, same) in
+      let wide : IsWide (times kind way.member.residual way.arc.weight) =
+      Within-more (332306998946228968225951765070086144 + 1000000000000000000) 1329227995784915872903807060280344575 (times kind way.member.residual way.arc.weight) (omega arith)
+      (Within-times kind 332306998946228968225951765070086144 1000000000000000000 way.member.residual way.arc.weight (good.modest way.member way.stands) range) in
+      subst (λ (z : Way). (z.state < 4294967296) × IsWide z.weight × (z.weight ≢ infinite)) way.is
+      (small, wide, λ e. elim (times_only_zero kind way.member.residual way.arc.weight e) [ inl one ↦ good.not_zero way.member way.stands one | inr two ↦ weight.1 two ])
+
+  -- a name near the start has members that can be gone on from
+  pub near_members : (s : List Member) → IsNear (subsets kind (graph_of (valued value m))) s → AreMembers (length m.states) s
+  near_members s near =
+      let sub = near_subset kind (graph_of (valued value m)) h.weighted s near in
+      let short = sub.3 in
+      record {
+        state = λ n k.
+            let from = member_stands kind (graph_of (valued value m)) h.weighted sub.0 sub.1 s sub.2 n k in
+            let same = long in
+            let low = path_inside (valued value m) limits from.spells.path from.spells.first n.state from.spells.leads (start_below (valued value m) limits from.spells.first from.spells.starts) in
+            omega (arith, low, same);
+        modest = λ n k.
+            Within-more (2 * (length sub.0 * 1000000000000000000)) 332306998946228968225951765070086144 n.residual (omega (arith, short))
+            (residual_within kind (graph_of (valued value m)) h.weighted 1000000000000000000 h.ranged sub.0 sub.1 s n sub.2 k);
+        not_zero = λ n k. (residual_kind kind (graph_of (valued value m)) h.weighted sub.0 sub.1 n (member_stands kind (graph_of (valued value m)) h.weighted sub.0 sub.1 s sub.2 n k)).1;
+      }
+
+  -- and its arcs are arcs of a machine
+  pub good_arcs : HasGoodArcs kind (graph_of (valued value m))
+  good_arcs s near k a at =
+      let sub = near_subset kind (graph_of (valued value m)) h.weighted s near in
+      let steps = arc_steps kind (graph_of (valued value m)) h.weighted sub.0 sub.1 s sub.2 k a at in
+      let way = ways_Has kind (graph_of (valued value m)) s steps.way.0 steps.way.1 in
+      let arc = machine_arc (valued value m) limits way.member.state way.place way.arc way.has in
+      let low = arc.ilabel in
+      let own : way.arc.ilabel ≡ a.ilabel = ap (λ (y : Way). y.label) way.is ∙ steps.way.2 in
+      let other = steps.labels in
+      record { ilabel = omega (arith, low, own); olabel = omega (arith, low, own, other); weight = steps.not_zero }
+
+  -- members in a form
+  pub held_all : {R : Type 0} (kept : R → Cost) (P : Member → Type 0) (hs : List (HeldAs R)) (members : List Member) → members_as kept hs ≡ members → ((n : Member) → Has members n → P n) → All (λ x. P (member_as kept x)) hs
+  held_all kept P hs members e all = Has_All (λ x. P (member_as kept x)) hs (λ x k. all (member_as kept x) (subst (λ (ms : List Member). Has ms (member_as kept x)) e (Has_map (member_as kept) hs x k)))
+
+  -- ways in order, as they are made and sorted
+  module _ {U : Type 0} (wide : U → Cost) (cleared made sorted : List (WayAs U)) (members held : List Member) (good : AreMembers (length m.states) members) (none : cleared ≡ []) (same : held ≡ members)
+      (put : ways_as wide made ≡ ways_as wide cleared ++ ways kind (graph_of (valued value m)) held) (moved : IsPermutation made sorted) (ranked : IsNonDecreasingBy rank sorted) where
+    made_are : ways_as wide made ≡ ways kind (graph_of (valued value m)) members
+    made_are = put ∙ (ap (λ (zs : List (WayAs U)). ways_as wide zs ++ ways kind (graph_of (valued value m)) held) none ∙ ap (ways kind (graph_of (valued value m))) same)
+
+    pub sorted_good : AreGoodWays wide sorted
+    sorted_good = record { ranked = rises_from rank sorted ranked; good = λ y k. one y k }
+      where
+        one : (y : WayAs U) → Has sorted y → IsGoodWay wide y
+        one y k =
+            let there : Has (ways_as wide made) (way_as wide y) = Has_map (way_as wide) made y ((permuted made sorted moved).back y k) in
+            let all = ways_good members good (way_as wide y) (subst (λ (ys : List Way). Has ys (way_as wide y)) made_are there) in
+            record { state = all.0; wide = all.1; not_zero = all.2 }
+
+    pub sorted_arcs : arcs_by kind (ways_as wide sorted) ≡ (subsets kind (graph_of (valued value m))).arcs members
+    sorted_arcs = sym (arcs_alike kind (ways_as wide made) (ways_as wide sorted) (map_alike (way_as wide) made sorted (permuted made sorted moved))) ∙ ap (arcs_by kind) made_are
+
+-- one element more of which something holds
+pub all_more : {X : Type 0} (P : X → Type 0) (xs : List X) (i : ℕ) (x : X) → i < length xs → x ≡ get_or xs i x → All P (take i xs) → P x → All P (take (i + 1) xs)
+all_more P xs i x low at all here = subst (λ (zs : List _). All P zs) (sym (take_more xs i x low ∙ ap (λ (y : _). take i xs ++ y ∷ []) (sym at))) (All-push P (take i xs) x all here)
+
+module _ {V : Type 0} (kind : ArcType) (value : V → Cost) (m : Machine V) where
+  -- what is seen at a state
+  pub weighed_at : (p : ℕ) (arcs : List (Arc V ℕ)) (w : V) → option_map (λ s. s.arcs) (slice_get m.states p) ≡ Some arcs → option_map (λ s. s.final) (slice_get m.states p) ≡ Some w
+      → All (λ a. IsCost kind (value a.weight)) arcs → All (λ a. InRange (value a.weight)) arcs → IsCost kind (value w) → IsWeighedAt kind (graph_of (valued value m)) p
+  weighed_at p arcs w has last kinds ranges final = record {
+    arcs = λ k a at.
+        let from = mapped_at (valued_arc value) arcs k a (ap (λ (bs : List (Arc Cost ℕ)). slice_get bs k) (sym (graph_arcs value m p arcs has)) ∙ at) in
+        let there = at_Has arcs k from.0 from.1 in
+        subst (λ (b : Arc Cost ℕ). IsCost kind b.weight × InRange b.weight) from.2 (All_Has (λ (b : Arc V ℕ). IsCost kind (value b.weight)) arcs from.0 kinds there, All_Has (λ (b : Arc V ℕ). InRange (value b.weight)) arcs from.0 ranges there);
+    final = subst (λ (v : Cost). IsCost kind v) (sym (graph_final value m p w last)) final;
+  }
+
+  -- and what is seen at all states is so of the machine
+  pub weighed_all : IsMachine value m → ((p : ℕ) → p < length m.states → IsWeighedAt kind (graph_of (valued value m)) p) → IsWeighed kind value m
+  weighed_all h all = record {
+    machine = h;
+    weighted = record { arcs = λ p k a at. ((arc_at p k a at).0, (machine_arc (valued value m) (IsMachine-valued value m h) p k a at).weight); final = final };
+    ranged = λ p k a at. (arc_at p k a at).1;
+  }
+    where
+      size : length (valued value m).states ≡ length m.states
+      size = length-map m.states (valued_state value)
+
+      past : (p : ℕ) → length m.states ≤ p → get_or (valued value m).states p no_state ≡ no_state
+      past p high = let same = size in get_or_past (valued value m).states p no_state (omega (arith, high, same))
+
+      arc_at : (p k : ℕ) (a : Arc Cost ℕ) → slice_get ((graph_of (valued value m)).arcs p) k ≡ Some a → IsCost kind a.weight × InRange a.weight
+      arc_at p k a at = by_place (cases_lt p (length m.states))
+        where
+          by_place : (p < length m.states) ⊎ (length m.states ≤ p) → IsCost kind a.weight × InRange a.weight
+          by_place (inl low) = (all p low).arcs k a at
+          by_place (inr high) = let none : slice_get {X = Arc Cost ℕ} [] k ≡ Some a = ap (λ (s : State Cost). slice_get s.arcs k) (sym (past p high)) ∙ at in absurd (cc)
+
+      final : (p : ℕ) → IsCost kind ((graph_of (valued value m)).final p)
+      final p = by_place (cases_lt p (length m.states))
+        where
+          by_place : (p < length m.states) ⊎ (length m.states ≤ p) → IsCost kind ((graph_of (valued value m)).final p)
+          by_place (inl low) = (all p low).final
+          by_place (inr high) = subst (λ (s : State Cost). IsCost kind s.final) (sym (past p high)) (zero_kind kind)
+
+-- one member more of a subset's final weight
+pub final_more : {V R : Type 0} (kind : ArcType) (value : V → Cost) (kept : R → Cost) (m : Machine V) (hs : List (HeldAs R)) (i : ℕ) (h from : HeldAs R) (w : V) (so_far own new : Cost)
+    → i < length hs → h ≡ get_or hs i h → from ≡ h → option_map (λ s. s.final) (slice_get m.states from.state) ≡ Some w
+    → so_far ≡ final_by kind (graph_of (valued value m)) (members_as kept (take i hs)) → own ≡ times kind (kept from.residual) (value w) → new ≡ plus so_far own
+    → new ≡ final_by kind (graph_of (valued value m)) (members_as kept (take (i + 1) hs))
+final_more kind value kept m hs i h from w so_far own new low at here has before made more =
+    let g = graph_of (valued value m) in
+    let weigh : Member → Cost = λ n. times kind n.residual (g.final n.state) in
+    let is : own ≡ weigh (member_as kept h) = made ∙ (ap (times kind (kept from.residual)) (sym (graph_final value m from.state w has)) ∙ ap (λ (x : HeldAs _). weigh (member_as kept x)) here) in
+    best_more (member_as kept) weigh hs i h so_far new low at before (more ∙ ap (plus so_far) is)
+
+-- what holds of the members holds of one that is taken in a form
+pub held_at : {R : Type 0} (kept : R → Cost) (P : Member → Type 0) (hs : List (HeldAs R)) (members : List Member) (i : ℕ) (h from : HeldAs R) → i < length hs → h ≡ get_or hs i h → from ≡ h → members_as kept hs ≡ members
+    → ((n : Member) → Has members n → P n) → P (member_as kept from)
+held_at kept P hs members i h from low at here same all =
+    let there : Has hs h = at_Has hs i h (slice_get-get_or hs i h low ∙ ap Some (sym at)) in
+    all (member_as kept from) (subst (λ (ms : List Member). Has ms (member_as kept from)) same (Has_map (member_as kept) hs from (subst (λ (x : HeldAs _). Has hs x) (sym here) there)))

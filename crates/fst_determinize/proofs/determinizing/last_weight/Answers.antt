@@ -1,0 +1,16 @@
+use Rattle.std.proofs.Common.{◌<◌, length}
+use Rattle.fst_determinize.specs.Kept.{IsModest}
+use Rattle.fst_determinize.specs.Subsets.{Member}
+use Rattle.fst_determinize.proofs.Machines.{final_more, held_at}
+use Rattle.fst_determinize.proofs.determinizing.last_weight.Goals as goal
+
+pub final_weight-requires : goal.final_weight-requires
+final_weight-requires g c = held_at g.R.Kept.value (λ (n : Member). n.state < length c.args.fst.now.states) c.members-member-items.result.now c.args.subset.now c.loop-member.member-index c.member-item.result _ c.loop-member-test.true c.member-item.is c.member.view_is c.members-member-items.ensures c.requires.state
+
+pub further-own-requires : goal.further-own-requires
+further-own-requires g c = held_at g.R.Kept.value (λ (n : Member). IsModest n.residual) c.members-member-items.result.now c.args.subset.now c.loop-member.member-index c.member-item.result _ c.loop-member-test.true c.member-item.is c.member.view_is c.members-member-items.ensures c.requires.modest
+
+pub loop-member-preserved : goal.loop-member-preserved
+loop-member-preserved g c =
+    final_more g.W.Weight.KIND g.W.Weight.value g.R.Kept.value c.args.fst.now c.members-member-items.result.now c.loop-member.member-index c.member-item.result _ c.final_weight.result (g.W.Weight.wide_value c.loop-member.best) (g.W.Weight.wide_value c.further-own.result) _
+    c.loop-member-test.true c.member-item.is c.member.view_is c.final_weight.ensures c.loop-member.invariant c.further-own.ensures c.wide_plus-best.ensures.sum

@@ -1,0 +1,128 @@
+//! The arcs of a subset, of its ways in order.
+
+ghost use Rattle.std.specs.Prelude.{◌≡◌, ◌≢◌, ◌≤◌, ◌++◌, ◌∷◌, [], Some, OnOk, All, length, map, slice_get, take};
+ghost use Rattle.fst_semiring.specs.Cost.{infinite};
+ghost use Rattle.fst_semiring.specs.Semiring.{IsWide};
+ghost use Rattle.fst_machine.specs.BreadthFirst.{Has};
+ghost use Rattle.fst_walk.specs.Names.{key_arc};
+ghost use Rattle.fst_determinize.specs.Kept.{AreDivided, AreGoodWays, IsGoodWay, RisesBy, WayAs, members_as, rank, ways_as};
+ghost use Rattle.fst_determinize.specs.Ways.{arc_by, arcs_by, best_of, members_of};
+
+use crate::fault::ArcFault;
+use crate::residual::Residual;
+use crate::subset::{Held, SubsetOf, subset_of};
+use crate::way::WayOn;
+use fst_semiring::Weight;
+use fst_walk::NameArc;
+use std::alloc::{AllocError, Global};
+
+/// How many of these ways, from the first on, have a label.
+fn label_run<V: Copy>(ways: &[WayOn<V>], label: u32) -> usize
+    ensures few { result ≤ length ways.now }
+    ensures same { All (λ y. y.label ≡ label) (take result ways.now) }
+    ensures next { (y : WayAs V) → slice_get ways.now result ≡ Some y → y.label ≢ label }
+{
+    let mut count = 0;
+    for way in ways {
+        if way.label != label {
+            return count;
+        }
+        count += 1;
+    }
+    count
+}
+
+/// How many of these ways, from the first on, lead to a state.
+fn state_run<V: Copy>(ways: &[WayOn<V>], state: u32) -> usize
+    ensures few { result ≤ length ways.now }
+    ensures same { All (λ y. y.state ≡ state) (take result ways.now) }
+    ensures next { (y : WayAs V) → slice_get ways.now result ≡ Some y → y.state ≢ state }
+{
+    let mut count = 0;
+    for way in ways {
+        if way.state != state {
+            return count;
+        }
+        count += 1;
+    }
+    count
+}
+
+/// The best weight of ways; Zero where there are none.
+fn best_way<W: Weight>(ways: &[WayOn<W::Wide>]) -> W::Wide
+    ensures { W.wide_value result ≡ best_of (ways_as W.wide_value ways.now) }
+{
+    let mut best = W::zero().widen();
+    for way in ways {
+        best = W::wide_plus(best, way.weight);
+    }
+    best
+}
+
+/// Puts an item after the others.
+fn put<T: Drop>(out: &mut Vec<T>, item: T) -> Result<(), AllocError>
+    ensures { OnOk result (out.new.items ≡ out.old.items ++ item ∷ []) }
+{
+    out.push(item)?;
+    Ok(())
+}
+
+/// Puts the members of the ways of one label after the others: for each state the best weight that reaches it, divided
+/// by the best of all.
+fn put_members<W: Weight, R: Residual<W>>(
+    out: &mut Vec<Held<R>>,
+    run: &[WayOn<W::Wide>],
+    best: W::Wide,
+) -> Result<(), ArcFault>
+    requires ways { AreDivided W.wide_value (W.wide_value best) run.now }
+    requires not_zero { W.wide_value best ≢ infinite }
+    requires wide { IsWide (W.wide_value best) }
+    ensures { OnOk result (members_as R.value out.new.items ≡ members_as R.value out.old.items ++ members_of W.KIND (W.wide_value best) (ways_as W.wide_value run.now)) }
+{
+    let mut rest = run;
+    while let Some(first) = rest.first() {
+        let count = state_run(rest, first.state);
+        let (here, others) = rest.split_at(count);
+        let least = best_way::<W>(here);
+        let Some(residual) = R::keep(W::wide_divide(least, best)) else {
+            return Err(ArcFault::NotKept);
+        };
+        let member = Held {
+            state: first.state,
+            residual,
+        };
+        put(out, member)?;
+        rest = others;
+    }
+    Ok(())
+}
+
+/// Puts the arcs of these ways after the others, by label. The members of each subset are made in a list.
+pub(crate) fn put_arcs<W: Weight, R: Residual<W>>(
+    out: &mut Vec<NameArc<SubsetOf<R>, W>>,
+    members: &mut Vec<Held<R>>,
+    ways: &[WayOn<W::Wide>],
+    alloc: Global,
+) -> Result<(), ArcFault>
+    requires { AreGoodWays W.wide_value ways.now }
+    ensures { OnOk result (map (key_arc W.wide_value) out.new.items ≡ map (key_arc W.wide_value) out.old.items ++ arcs_by W.KIND (ways_as W.wide_value ways.now)) }
+{
+    let mut rest = ways;
+    while let Some(first) = rest.first() {
+        let count = label_run(rest, first.label);
+        let (run, others) = rest.split_at(count);
+        let best = best_way::<W>(run);
+        members.clear();
+        put_members(members, run, best)?;
+        let next = subset_of(alloc, members.as_slice())?;
+        let arc = NameArc {
+            ilabel: first.label,
+            olabel: first.label,
+            weight: best,
+            next,
+        };
+        put(out, arc)?;
+        rest = others;
+    }
+    Ok(())
+}
