@@ -8,4 +8,7 @@ pub mod Numbered
 pub mod Through
 pub mod Ranges
 mod Appending
+mod Segments
+mod Counting
+mod Stable
 mod Answering

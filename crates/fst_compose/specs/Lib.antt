@@ -4,5 +4,6 @@ pub mod Moves
 pub mod Reading
 pub mod Theorem
 pub mod NameLaws
+pub mod Matching
 pub mod Good
 pub mod Answers
