@@ -8,6 +8,9 @@ use Rattle.fst_machine.specs.Machine.{Machine, valued}
 use Rattle.fst_trim.specs.declared.side.Side.TheVariants.{Input, Output}
 use Rattle.fst_trim.proofs.Valued.{IsSortedOn-valued}
 use Rattle.fst_compose.specs.Answers.{IsExact, IsSorted, Refuses, cause_of}
+use Rattle.fst_compose.specs.Matching.{IsOrdered}
+use Rattle.fst_compose.specs.declared.matching.Ordered.{Ordered}
+use Rattle.fst_compose.specs.declared.matching.Ordered.TheVariants.{First, Second, Both}
 use Rattle.fst_walk.specs.Answers.{Stops}
 use Rattle.fst_walk.specs.Answers as walked
 use Rattle.fst_walk.specs.declared.fault.WalkFault.{WalkFault}
@@ -74,3 +77,9 @@ module _ {X Y : Type 0} (kind : ArcType) (a b : Machine Cost) (most : ℕ) (sort
 pub ok_then : {X E : Type 0} (r : Result X E) (P Q : X → Type 0) → ((x : X) → P x → Q x) → IfOk r P → IfOk r Q
 ok_then (Ok x) P Q more h = more x h
 ok_then (Err e) P Q more h = h
+
+-- machines of which one has its arcs in order may be composed
+pub ordered_sorted : {V : Type 0} (ordered : Ordered) (a b : Machine V) → IsOrdered ordered a b → IsSorted a b
+ordered_sorted First a b h = inl h
+ordered_sorted Second a b h = inr h
+ordered_sorted Both a b h = inl h.0

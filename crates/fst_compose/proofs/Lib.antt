@@ -8,5 +8,8 @@ pub mod Numbered
 pub mod Through
 pub mod Ranges
 mod Appending
+mod Segments
+mod Counting
+mod Stable
 mod Answering
 pub mod OneAnswer

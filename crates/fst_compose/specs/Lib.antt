@@ -4,6 +4,7 @@ pub mod Moves
 pub mod Reading
 pub mod Theorem
 pub mod NameLaws
+pub mod Matching
 pub mod Good
 pub mod Answers
 pub mod Faults

@@ -1,23 +1,26 @@
 //! The machine of all names that the start reaches.
 
-ghost use Rattle.std.specs.Prelude.{◌≡◌, ◌⊎◌, ◌<◌, ◌≤◌, IfOk};
-ghost use Rattle.std.specs.Bool.{Decides};
+ghost use Rattle.std.specs.Prelude.{◌≡◌, ◌⊎◌, ◌<◌, ◌≤◌, IfOk, MatchOption};
 ghost use Rattle.fst_machine.specs.Graph.{graph_of};
 ghost use Rattle.fst_machine.specs.Machine.{IsMachine, most_states, valued};
 ghost use Rattle.fst_walk.specs.Answers.{IsNamed};
 ghost use Rattle.fst_compose.specs.Answers.{IsExact, IsExactly, IsSorted, cause_of};
 ghost use Rattle.fst_compose.specs.Composition.{composition};
+ghost use Rattle.fst_compose.specs.Matching.{IsOrdered};
 ghost use Rattle.fst_compose.specs.Good.{good_arc, same_decides};
 ghost use Rattle.fst_compose.specs.Theorem.{IsComposition};
 
-use crate::expanding::{key_final, put_arcs};
+use crate::expanding::key_final;
 use crate::fault::ComposeFault;
 use crate::key::{ComposeKey, KeyArc, key_at};
+use crate::matching::{Ordered, put_arcs};
 use fst_machine::Fst;
 use fst_semiring::Weight;
 use fst_trim::{Side, is_sorted};
 use fst_walk::{Names, Room, WalkFault, Walked, walk};
 use std::alloc::{AllocError, Global};
+use std::marker::Brand;
+use std::sync::ledger::Blank;
 
 /// A composition: its machine, and the names of the states of this in the order of their numbers.
 pub type Composed<W> = Walked<ComposeKey, W>;
@@ -27,6 +30,8 @@ pub type Composed<W> = Walked<ComposeKey, W>;
 struct Composing<'a, W: Weight> {
     a: &'a Fst<W>,
     b: &'a Fst<W>,
+    ordered: Ordered,
+    alloc: Global,
 }
 
 impl<'a, W: Weight> Names<W> for Composing<'a, W> {
@@ -38,7 +43,7 @@ impl<'a, W: Weight> Names<W> for Composing<'a, W> {
 
     ghost graph = { λ s. composition W.KIND W.value s.a.now s.b.now };
 
-    ghost holds = { λ s. IsMachine W.value s.a.now × IsMachine W.value s.b.now };
+    ghost holds = { λ s. IsMachine W.value s.a.now × IsMachine W.value s.b.now × IsOrdered s.ordered s.a.now s.b.now };
 
     fn start(&self) -> Option<ComposeKey> {
         let (Some(first), Some(second)) = (self.a.start(), self.b.start()) else {
@@ -55,7 +60,15 @@ impl<'a, W: Weight> Names<W> for Composing<'a, W> {
         out: &mut Vec<KeyArc<W>>,
         key: &ComposeKey,
     ) -> Result<(), AllocError> {
-        put_arcs(out, self.a, self.b, *key)
+        put_arcs::<W, Brand>(
+            self.alloc,
+            out,
+            self.a,
+            self.b,
+            *key,
+            self.ordered,
+            Blank::new(1),
+        )
     }
 
     fn final_weight(&self, key: &ComposeKey) -> W::Wide {
@@ -67,11 +80,16 @@ impl<'a, W: Weight> Names<W> for Composing<'a, W> {
     ghost good = { λ s h n near k arc e. good_arc W.KIND W.value s.a.now s.b.now h.0 h.1 n near k arc e };
 }
 
-/// Whether two machines may be composed.
-fn is_composable<W: Weight>(a: &Fst<W>, b: &Fst<W>) -> bool
-    ensures { Decides result (IsSorted a.now b.now) }
+/// Which of two machines have their arcs in order; `None` where neither has, and they may not be composed.
+fn order_of<W: Weight>(a: &Fst<W>, b: &Fst<W>) -> Option<Ordered>
+    ensures { MatchOption result (IsSorted a.now b.now → ⊥) (λ ordered. IsOrdered ordered a.now b.now) }
 {
-    is_sorted(a, Side::Output) || is_sorted(b, Side::Input)
+    match (is_sorted(a, Side::Output), is_sorted(b, Side::Input)) {
+        (true, true) => Some(Ordered::Both),
+        (true, false) => Some(Ordered::First),
+        (false, true) => Some(Ordered::Second),
+        (false, false) => None,
+    }
 }
 
 /// Why there is no composition, where the walk was stopped.
@@ -98,14 +116,20 @@ fn composed<W: Weight>(
     ensures made { IfOk result (λ r. IfOk r (λ c. IsNamed (composition W.KIND W.value a.now b.now) c.names (valued W.value c.fst))) }
     ensures exact { IfOk result (IsExact W.KIND (valued W.value a.now) (valued W.value b.now) max_states) }
 {
-    if !is_composable(a, b) {
+    let Some(ordered) = order_of(a, b) else {
         return Ok(Err(ComposeFault::NotSorted));
-    }
+    };
     let room = Room {
         states: a.states() as usize + b.states() as usize,
         arcs: a.arc_count() as usize + b.arc_count() as usize,
     };
-    match walk(alloc, &Composing { a, b }, room, max_states)? {
+    let graph = Composing {
+        a,
+        b,
+        ordered,
+        alloc,
+    };
+    match walk(alloc, &graph, room, max_states)? {
         Ok(made) => Ok(Ok(made)),
         Err(fault) => Ok(Err(stopped(fault))),
     }

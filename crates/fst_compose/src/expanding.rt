@@ -5,14 +5,19 @@ ghost use Rattle.std.specs.List.{flat_map};
 ghost use Rattle.fst_semiring.specs.Semiring.{Within};
 ghost use Rattle.fst_machine.specs.Machine.{valued_arc};
 ghost use Rattle.fst_compose.specs.Composition.{composition, first_arcs, match_arcs, second_arcs};
+ghost use Rattle.fst_compose.specs.Matching.{IsSearch, IsSearchable};
 ghost use Rattle.fst_walk.specs.Names.{key_arc};
 ghost use Rattle.fst_trim.specs.Sides.{IsSortedOn};
 ghost use Rattle.fst_trim.specs.declared.side.Side.TheVariants as sides;
 
 use crate::key::{ComposeKey, KeyArc, key_at};
-use fst_machine::{Fst, FstArc};
+use crate::matching::put_by_side;
+use fst_machine::{Fst, FstArc, Steps};
 use fst_semiring::Weight;
+use fst_trim::{Side, stands_by};
 use std::alloc::{AllocError, Global};
+use std::marker::Brand;
+use std::sync::ledger::{Blank, Ledger};
 
 /// Puts the arc of two arcs after the others, if these match.
 fn put_match<W: Weight>(
@@ -34,7 +39,7 @@ fn put_match<W: Weight>(
 }
 
 /// Puts the arcs of an arc with each of these that it matches after the others.
-fn put_matches<W: Weight>(
+pub(crate) fn put_matches<W: Weight>(
     out: &mut Vec<KeyArc<W>>,
     a: FstArc<W>,
     bs: &[FstArc<W>],
@@ -48,7 +53,7 @@ fn put_matches<W: Weight>(
 }
 
 /// Puts the arcs that an arc of the first machine has with these of the second after the others.
-fn put_first<W: Weight>(
+pub(crate) fn put_first<W: Weight>(
     out: &mut Vec<KeyArc<W>>,
     key: ComposeKey,
     a: FstArc<W>,
@@ -72,7 +77,7 @@ fn put_first<W: Weight>(
 }
 
 /// The same for each of these arcs of the first machine.
-fn put_firsts<W: Weight>(
+pub(crate) fn put_firsts<W: Weight>(
     out: &mut Vec<KeyArc<W>>,
     key: ComposeKey,
     arcs: &[FstArc<W>],
@@ -107,7 +112,7 @@ fn put_second<W: Weight>(
 }
 
 /// The same for each of these arcs of the second machine.
-fn put_seconds<W: Weight>(
+pub(crate) fn put_seconds<W: Weight>(
     out: &mut Vec<KeyArc<W>>,
     key: ComposeKey,
     bs: &[FstArc<W>],
@@ -120,28 +125,63 @@ fn put_seconds<W: Weight>(
     Ok(())
 }
 
-/// Puts the arcs of a name after the others.
-pub(crate) fn put_arcs<W: Weight>(
-    out: &mut Vec<KeyArc<W>>,
+/// The arcs of a name, as `expand` has them. For the input side the arcs of the name's second state are searched, for
+/// the output side those of its first. (OpenFst manual, "Matchers".)
+///
+/// A step is one comparison with the label of an arc in a search. Where the first state has m arcs and the second n, there
+/// are at most 2 (m + 1) steps for each binary digit of n for the input side, and 2 n for each binary digit of m for the
+/// output side. What std's sort compares is not counted: for the output side the arcs of the second state are put in
+/// order where they are not.
+pub fn expand_counted<W: Weight, L: Ledger>(
+    alloc: Global,
     a: &Fst<W>,
     b: &Fst<W>,
     key: ComposeKey,
-) -> Result<(), AllocError>
+    side: Side,
+    steps: &mut Steps<L>,
+) -> Result<Vec<KeyArc<W>>, AllocError>
     requires first { key.first < length a.now.states }
     requires second { key.second < length b.now.states }
-    ensures { OnOk result (map (key_arc W.wide_value) out.new.items ≡ map (key_arc W.wide_value) out.old.items ++ (composition W.KIND W.value a.now b.now).arcs key) }
+    requires filter { key.filter ≤ 1 }
+    requires sorted { IsSearchable side a.now b.now key }
+    ensures arcs { IfOk result (λ arcs. map (key_arc W.wide_value) arcs.items ≡ (composition W.KIND W.value a.now b.now).arcs key) }
+    ensures cost { IsSearch side a.now b.now key steps.old steps.new }
 {
-    let bs = b.arcs(key.second);
-    put_firsts(out, key, a.arcs(key.first), bs)?;
-    put_seconds(out, key, bs)?;
-    Ok(())
+    let mut out = Vec::new(alloc);
+    let firsts = a.arcs(key.first);
+    let seconds = b.arcs(key.second);
+    put_by_side(alloc, &mut out, key, firsts, seconds, side, steps)?;
+    Ok(out)
+}
+
+/// The same, of which nobody counts the steps.
+fn expand_by<W: Weight, L: Ledger>(
+    alloc: Global,
+    a: &Fst<W>,
+    b: &Fst<W>,
+    key: ComposeKey,
+    side: Side,
+    blank: Blank,
+) -> Result<Vec<KeyArc<W>>, AllocError>
+    requires first { key.first < length a.now.states }
+    requires second { key.second < length b.now.states }
+    requires filter { key.filter ≤ 1 }
+    requires sorted { IsSearchable side a.now b.now key }
+    requires name { blank.name ≡ L.name }
+    requires parts { blank.parts ≡ L.parts }
+    requires some { 0 < blank.parts }
+    ensures { IfOk result (λ arcs. map (key_arc W.wide_value) arcs.items ≡ (composition W.KIND W.value a.now b.now).arcs key) }
+{
+    let mut steps = Steps::<L>::new(blank);
+    expand_counted(alloc, a, b, key, side, &mut steps)
 }
 
 /// The arcs of a name, in order: those of each arc of the first machine's state, which goes alone where it writes
 /// epsilon, if the filter lets it, and else with each arc of the second machine's state that it matches; then those
 /// of the second machine's state that go alone. (Mohri 2009, section 4.1.)
 ///
-/// Time: the product of the numbers of arcs of the two states.
+/// Time: that of `expand_counted`, by the input side where the arcs of the name's second state stand by their input
+/// labels, and else by the output side; and one look at each arc of the second state.
 pub fn expand<W: Weight>(
     alloc: Global,
     a: &Fst<W>,
@@ -154,9 +194,10 @@ pub fn expand<W: Weight>(
     requires sorted { IsSortedOn sides.Output a.now ⊎ IsSortedOn sides.Input b.now }
     ensures { IfOk result (λ arcs. map (key_arc W.wide_value) arcs.items ≡ (composition W.KIND W.value a.now b.now).arcs key) }
 {
-    let mut out = Vec::new(alloc);
-    put_arcs(&mut out, a, b, key)?;
-    Ok(out)
+    if stands_by(b.arcs(key.second), Side::Input) {
+        return expand_by::<W, Brand>(alloc, a, b, key, Side::Input, Blank::new(1));
+    }
+    expand_by::<W, Brand>(alloc, a, b, key, Side::Output, Blank::new(1))
 }
 
 /// The final weight of a name: that of its states together. Its numbers have absolute value at most 2 times 10 to

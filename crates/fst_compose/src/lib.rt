@@ -14,8 +14,9 @@ mod expanding;
 mod fault;
 mod key;
 pub mod laws;
+mod matching;
 
 pub use composing::{Composed, compose};
-pub use expanding::{expand, key_final};
+pub use expanding::{expand, expand_counted, key_final};
 pub use fault::ComposeFault;
 pub use key::{ComposeKey, KeyArc, KeyList};
