@@ -8,8 +8,16 @@
 
 mod cascade;
 mod drawing;
+mod following;
+mod job;
 pub mod laws;
 mod lines;
+mod points;
+mod stage;
+mod state;
 
 pub use cascade::{Cascade, make_cascade};
+pub use job::Job;
 pub use lines::Lines;
+pub use stage::Stage;
+pub use state::JobState;

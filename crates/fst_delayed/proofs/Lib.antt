@@ -2,3 +2,4 @@ pub mod Apart
 pub mod Keys
 pub mod Held
 pub mod Handed
+pub mod Inside

@@ -1,0 +1,96 @@
+//! The arcs of a name of a lattice.
+
+ghost use Rattle.std.specs.Prelude.{◌≡◌, ◌+◌, ◌∷◌, [], ◌<◌, ◌≤◌, ℕ, List, ◌++◌, IfOk, MatchBool, OnOk, length, map, slice_get};
+ghost use Rattle.fst_machine.specs.BreadthFirst.{Grows};
+ghost use Rattle.fst_machine.specs.Graph.{nexts};
+ghost use Rattle.fst_walk.specs.Making.{Passes};
+ghost use Rattle.fst_walk.specs.Names.{key_arc};
+ghost use Rattle.fst_delayed.specs.Handed.{Name};
+ghost use Rattle.fst_batch.specs.Lattice.{Point, byte_arcs, point_arcs};
+ghost use Rattle.fst_batch.specs.Walks.{label_arcs};
+
+use crate::points::Points;
+use fst_delayed::KeyArc;
+use fst_semiring::Weight;
+use std::alloc::AllocError;
+
+/// Finds the name at a position to which an arc leads, if it reads a label. False where there are then more names than
+/// the limit.
+fn find_one<W: Weight>(
+    points: &mut Points,
+    arc: &KeyArc<W>,
+    label: u32,
+    position: u64,
+    limit: u32,
+) -> Result<bool, AllocError>
+    requires few { length points.old ≤ limit }
+    ensures finds { IfOk result (λ fits. MatchBool fits (Grows points.old (nexts (label_arcs label position (key_arc W.wide_value arc.now ∷ []))) points.new × (length points.new ≤ limit)) (Passes limit points.old (nexts (label_arcs label position (key_arc W.wide_value arc.now ∷ []))))) }
+    ensures front { OnOk result ((more : List (Point (Name ℕ ℕ))) × (points.new ≡ points.old ++ more)) }
+{
+    if arc.ilabel != label {
+        return Ok(true);
+    }
+    points.find(position, arc.next, limit)
+}
+
+/// Finds the names at a position to which those of these arcs lead that read a label. False where there are then more
+/// names than the limit.
+fn find_label<W: Weight>(
+    points: &mut Points,
+    arcs: &[KeyArc<W>],
+    label: u32,
+    position: u64,
+    limit: u32,
+) -> Result<bool, AllocError>
+    requires few { length points.old ≤ limit }
+    ensures finds { IfOk result (λ fits. MatchBool fits (Grows points.old (nexts (label_arcs label position (map (key_arc W.wide_value) arcs.now))) points.new × (length points.new ≤ limit)) (Passes limit points.old (nexts (label_arcs label position (map (key_arc W.wide_value) arcs.now))))) }
+    ensures front { OnOk result ((more : List (Point (Name ℕ ℕ))) × (points.new ≡ points.old ++ more)) }
+{
+    for arc in arcs {
+        let fits = find_one(points, arc, label, position, limit)?;
+        if !fits {
+            return Ok(false);
+        }
+    }
+    Ok(true)
+}
+
+/// Finds the names to which those of the arcs lead that read the byte behind a position, if there is one.
+fn find_byte<W: Weight>(
+    points: &mut Points,
+    arcs: &[KeyArc<W>],
+    line: &[u8],
+    position: u64,
+    limit: u32,
+) -> Result<bool, AllocError>
+    requires few { length points.old ≤ limit }
+    ensures finds { IfOk result (λ fits. MatchBool fits (Grows points.old (nexts (byte_arcs (slice_get line.now position) position (map (key_arc W.wide_value) arcs.now))) points.new × (length points.new ≤ limit)) (Passes limit points.old (nexts (byte_arcs (slice_get line.now position) position (map (key_arc W.wide_value) arcs.now))))) }
+    ensures front { OnOk result ((more : List (Point (Name ℕ ℕ))) × (points.new ≡ points.old ++ more)) }
+{
+    if position >= line.len() as u64 {
+        return Ok(true);
+    }
+    let byte = line[position as usize];
+    find_label(points, arcs, u32::from(byte), position + 1, limit)
+}
+
+/// Finds the names to which the arcs of a name of a lattice lead, whose name in the composition has these arcs. False
+/// where there are then more names than the limit.
+pub(crate) fn follow<W: Weight>(
+    points: &mut Points,
+    arcs: &[KeyArc<W>],
+    line: &[u8],
+    position: u64,
+    limit: u32,
+) -> Result<bool, AllocError>
+    requires few { length points.old ≤ limit }
+    ensures finds { IfOk result (λ fits. MatchBool fits (Grows points.old (nexts (point_arcs line.now position (map (key_arc W.wide_value) arcs.now))) points.new × (length points.new ≤ limit)) (Passes limit points.old (nexts (point_arcs line.now position (map (key_arc W.wide_value) arcs.now))))) }
+    ensures front { OnOk result ((more : List (Point (Name ℕ ℕ))) × (points.new ≡ points.old ++ more)) }
+{
+    let fits = find_byte(points, arcs, line, position, limit)?;
+    if !fits {
+        return Ok(false);
+    }
+    let all = find_label(points, arcs, 0, position, limit)?;
+    Ok(all)
+}

@@ -1,0 +1,101 @@
+//! The names of a lattice that a walk has found.
+
+ghost use Rattle.std.specs.Prelude.{◌≡◌, ◌⊎◌, ◌+◌, ◌<◌, ◌≤◌, ◌∷◌, [], IfOk, MatchBool, Some, length, slice_get};
+ghost use Rattle.fst_machine.specs.BreadthFirst.{Grows};
+ghost use Rattle.fst_walk.specs.Making.{Passes};
+ghost use Rattle.fst_batch.specs.Lattice.{point};
+
+use fst_delayed::ComposeKey;
+use indexmap::IndexSet;
+use std::alloc::{AllocError, Global};
+use std::marker::Model;
+
+/// A name of a lattice: how many bytes of the line were read, and a name of the composition that reads it.
+#[derive(Clone, Copy, Debug, PartialEq, Eq, Hash)]
+struct PointKey {
+    position: u64,
+    name: ComposeKey,
+}
+
+impl Model for PointKey {
+    ghost use Rattle.std.specs.Prelude.{ℕ};
+    ghost use Rattle.fst_delayed.specs.Handed.{Name};
+    ghost use Rattle.fst_batch.specs.Lattice.{Point};
+
+    ghost Value = { Point (Name ℕ ℕ) };
+
+    ghost view = { λ p. record { position = p.position; name = p.name } };
+
+    ghost inverse = { λ p. record { position = p.position; name = p.name } };
+}
+
+/// Puts a name after the others, where it is new, and gives its place.
+fn put_point(keys: &mut IndexSet<PointKey>, key: PointKey) -> Result<usize, AllocError>
+    ensures grown { IfOk result (λ place. Grows keys.old.keys (key ∷ []) keys.new.keys) }
+    ensures there { IfOk result (λ place. slice_get keys.new.keys place ≡ Some key) }
+    ensures last { IfOk result (λ place. (keys.new.keys ≡ keys.old.keys) ⊎ (length keys.new.keys ≡ place + 1)) }
+{
+    let (place, _) = keys.insert_full(key)?;
+    Ok(place)
+}
+
+/// Names of a lattice, each once, in the order in which they were found. A name is looked up by its hash.
+#[derive(Drop)]
+pub(crate) struct Points {
+    keys: IndexSet<PointKey>,
+}
+
+impl Model for Points {
+    ghost use Rattle.std.specs.Prelude.{ℕ, List};
+    ghost use Rattle.fst_delayed.specs.Handed.{Name};
+    ghost use Rattle.fst_batch.specs.Lattice.{Point};
+
+    ghost Value = { List (Point (Name ℕ ℕ)) };
+
+    ghost view = { λ t. t.keys.keys };
+}
+
+impl Points {
+    /// No names. Takes no memory.
+    pub(crate) fn new(alloc: Global) -> Points
+        ensures { result ≡ [] }
+    {
+        Points {
+            keys: IndexSet::new(alloc),
+        }
+    }
+
+    /// Puts a name after the others where it is new. False where these are then more than the limit.
+    pub(crate) fn find(
+        &mut self,
+        position: u64,
+        name: ComposeKey,
+        limit: u32,
+    ) -> Result<bool, AllocError>
+        requires few { length self.old ≤ limit }
+        ensures grown { IfOk result (λ fits. Grows self.old (point position name ∷ []) self.new) }
+        ensures fits { IfOk result (λ fits. MatchBool fits (length self.new ≤ limit) (Passes limit self.old (point position name ∷ []))) }
+    {
+        let place = put_point(&mut self.keys, PointKey { position, name })?;
+        if place >= limit as usize {
+            return Ok(false);
+        }
+        Ok(true)
+    }
+
+    /// The number of names. Takes no memory.
+    pub(crate) fn len(&self) -> usize
+        ensures { result ≡ length self.now }
+    {
+        self.keys.len()
+    }
+
+    /// The name in a place, from 0: its position, and its name in the composition. Takes no memory.
+    pub(crate) fn item(&self, index: usize) -> (u64, ComposeKey)
+        requires { index < length self.now }
+        ensures { slice_get self.now index ≡ Some (point result.0 result.1) }
+    {
+        let key = &self.keys[index];
+        (key.position, key.name)
+    }
+}
