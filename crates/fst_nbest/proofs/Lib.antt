@@ -8,3 +8,5 @@ pub mod Covering
 pub mod Peeling
 pub mod HeapOrder
 pub mod Heaps
+pub mod Sorted
+pub mod Walks

@@ -4,6 +4,10 @@
 #![tactic(auto)]
 
 mod chaining;
+mod entry;
 mod heap;
+mod orders;
+mod system;
+mod walking;
 
 pub use chaining::{ChainsFault, chains};
