@@ -10,3 +10,4 @@ pub mod HeapOrder
 pub mod Heaps
 pub mod Sorted
 pub mod Walks
+pub mod Routes

@@ -4,7 +4,9 @@ use Rattle.std.specs.Prelude.{◌≡◌, ◌≢◌, ◌⊎◌, ℕ, ◌+◌, ◌
 use Rattle.std.specs.declared.cmp.Ordering.{Ordering}
 use Rattle.std.specs.Ordering.{nat_cmp, ordering_then}
 use Rattle.std.specs.Cmp.Lexicographic.{slice_cmp}
-use Rattle.fst_semiring.specs.Cost.{Cost, cost_cmp}
+use Rattle.std.specs.Cmp.{IsTotalOrder}
+use Rattle.std.proofs.lemmas.Cmp.{then_total, on_total, nat_cmp_total, nat_list_cmp_total}
+use Rattle.fst_semiring.specs.Cost.{Cost, cost_cmp, cost_total}
 use Rattle.fst_semiring.specs.declared.arc_type.ArcType.{ArcType}
 use Rattle.fst_semiring.specs.Semiring.{times}
 use Rattle.fst_nbest.specs.declared.entry.Entry.{Entry}
@@ -109,3 +111,12 @@ module _ {D : Type 0} (kind : ArcType) (g : Words ℕ) (dist : ℕ → Cost) (co
     pub covers : (start : ℕ) (listed : List WeightedWord) (families : List (Family ℕ)) → IsCovered kind g dist count start listed (family_of value words old entry ∷ families)
         → IsLeading kind g dist count start (family_of value words old entry) families (value entry.total) entry.arcs
         → IsCovered kind g dist count start (listed ++ record { word = word; weight = value entry.total } ∷ []) (families_on new word entries ++ families)
+
+-- the order of entries is total
+pub entry_total : {D : Type 0} (value : D → Cost) (words orders : List (List ℕ)) → IsTotalOrder {K = Entry D} (entry_cmp value words orders)
+entry_total {D} value words orders = then_total (on_total (λ (e : Entry D). value e.total) cost_total) (then_total (on_total (λ (e : Entry D). e.arcs) nat_cmp_total)
+    (on_total (λ (e : Entry D). route (prefix_of words e) (move_of orders e)) nat_list_cmp_total))
+
+-- the moves of an entry's prefix, and its own
+abbrev pub route_of : {D : Type 0} → List (List ℕ) → List (List ℕ) → Entry D → List ℕ
+route_of words orders e = route (prefix_of words e) (move_of orders e)

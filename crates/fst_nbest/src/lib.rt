@@ -4,6 +4,7 @@
 #![tactic(auto)]
 
 mod chaining;
+mod comparing;
 mod entry;
 mod heap;
 mod orders;
