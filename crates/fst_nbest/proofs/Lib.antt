@@ -8,3 +8,6 @@ pub mod Covering
 pub mod Peeling
 pub mod HeapOrder
 pub mod Heaps
+pub mod Sorted
+pub mod Walks
+pub mod Routes

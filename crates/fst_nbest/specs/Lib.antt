@@ -3,3 +3,4 @@ pub mod Listing
 pub mod Heap
 pub mod Words
 pub mod Families
+pub mod Entries

@@ -4,6 +4,11 @@
 #![tactic(auto)]
 
 mod chaining;
+mod comparing;
+mod entry;
 mod heap;
+mod orders;
+mod system;
+mod walking;
 
 pub use chaining::{ChainsFault, chains};
