@@ -15,3 +15,5 @@ pub mod Forms
 pub mod Runs
 pub mod Puts
 pub mod Machines
+pub mod Answering
+pub mod Holding

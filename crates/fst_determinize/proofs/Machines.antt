@@ -6,8 +6,8 @@ use Rattle.std.specs.Prelude.{IfSome, OnOk, Result}
 use Rattle.std.proofs.lemmas.Bool.{cases_lt}
 use Rattle.std.proofs.lemmas.List.{get_or_past, length-map, take_more}
 use Rattle.std.proofs.lemmas.List.Elements.{All-push}
-use Rattle.std.proofs.lemmas.Option.{get_or_from_slice_get, same_Some, slice_get-get_or, slice_get_within}
-use Rattle.fst_semiring.specs.Cost.{Cost, infinite, plus}
+use Rattle.std.proofs.lemmas.Option.{get_or_from_slice_get, same_Some, slice_get_within}
+use Rattle.fst_semiring.specs.Cost.{Cost, infinite}
 use Rattle.fst_semiring.specs.Division.{quotient}
 use Rattle.fst_semiring.specs.Semiring.{InRange, IsCost, IsWide, times}
 use Rattle.fst_semiring.specs.declared.arc_type.ArcType.{ArcType}
@@ -22,17 +22,16 @@ use Rattle.fst_machine.proofs.Elements.{at_Has}
 use Rattle.fst_machine.proofs.Valued.{IsMachine-valued}
 use Rattle.fst_machine.proofs.Walking.{graph_arcs}
 use Rattle.fst_walk.specs.Names.{IsNear}
-use Rattle.fst_determinize.specs.Kept.{AreGoodWays, HeldAs, IsGoodWay, WayAs, member_as, members_as, rank, way_as, ways_as}
+use Rattle.fst_determinize.specs.Kept.{AreGoodWays, IsGoodWay, WayAs, rank, way_as, ways_as}
 use Rattle.fst_determinize.specs.Subsets.{Member}
-use Rattle.fst_determinize.specs.Ways.{Way, arc_by, arcs_by, best_of, final_by, members_of, member_by, subsets, ways}
+use Rattle.fst_determinize.specs.Ways.{Way, arc_by, arcs_by, best_of, members_of, member_by, subsets, ways}
 use Rattle.fst_determinize.specs.Weighed.{AreMembers, HasGoodArcs, IsWeighed, IsWeighedAt}
 use Rattle.fst_determinize.proofs.Best.{best_alike}
 use Rattle.fst_determinize.proofs.Dividing.{zero_kind}
 use Rattle.fst_determinize.proofs.Elements.{Alike, Has_map, map_alike}
-use Rattle.fst_determinize.proofs.Forms.{best_more}
 use Rattle.fst_determinize.proofs.Grouped.{grouped_alike}
 use Rattle.fst_determinize.proofs.Members.{member_stands, residual_kind, ways_Has}
-use Rattle.fst_determinize.proofs.Runs.{All_Has, Has_All, permuted, rises_from}
+use Rattle.fst_determinize.proofs.Runs.{All_Has, permuted, rises_from}
 use Rattle.fst_determinize.proofs.Stepping.{arc_steps}
 use Rattle.fst_determinize.proofs.Theorem.{near_subset, residual_within}
 use Rattle.std.specs.List.Sorted.{IsNonDecreasingBy, IsPermutation}
@@ -141,10 +140,6 @@ module _ {V : Type 0} (kind : ArcType) (value : V → Cost) (m : Machine V) (h :
       let other = steps.labels in
       record { ilabel = omega (arith, low, own); olabel = omega (arith, low, own, other); weight = steps.not_zero }
 
-  -- members in a form
-  pub held_all : {R : Type 0} (kept : R → Cost) (P : Member → Type 0) (hs : List (HeldAs R)) (members : List Member) → members_as kept hs ≡ members → ((n : Member) → Has members n → P n) → All (λ x. P (member_as kept x)) hs
-  held_all kept P hs members e all = Has_All (λ x. P (member_as kept x)) hs (λ x k. all (member_as kept x) (subst (λ (ms : List Member). Has ms (member_as kept x)) e (Has_map (member_as kept) hs x k)))
-
   -- ways in order, as they are made and sorted
   module _ {U : Type 0} (wide : U → Cost) (cleared made sorted : List (WayAs U)) (members held : List Member) (good : AreMembers (length m.states) members) (none : cleared ≡ []) (same : held ≡ members)
       (put : ways_as wide made ≡ ways_as wide cleared ++ ways kind (graph_of (valued value m)) held) (moved : IsPermutation made sorted) (ranked : IsNonDecreasingBy rank sorted) where
@@ -206,21 +201,3 @@ module _ {V : Type 0} (kind : ArcType) (value : V → Cost) (m : Machine V) wher
           by_place : (p < length m.states) ⊎ (length m.states ≤ p) → IsCost kind ((graph_of (valued value m)).final p)
           by_place (inl low) = (all p low).final
           by_place (inr high) = subst (λ (s : State Cost). IsCost kind s.final) (sym (past p high)) (zero_kind kind)
-
--- one member more of a subset's final weight
-pub final_more : {V R : Type 0} (kind : ArcType) (value : V → Cost) (kept : R → Cost) (m : Machine V) (hs : List (HeldAs R)) (i : ℕ) (h from : HeldAs R) (w : V) (so_far own new : Cost)
-    → i < length hs → h ≡ get_or hs i h → from ≡ h → option_map (λ s. s.final) (slice_get m.states from.state) ≡ Some w
-    → so_far ≡ final_by kind (graph_of (valued value m)) (members_as kept (take i hs)) → own ≡ times kind (kept from.residual) (value w) → new ≡ plus so_far own
-    → new ≡ final_by kind (graph_of (valued value m)) (members_as kept (take (i + 1) hs))
-final_more kind value kept m hs i h from w so_far own new low at here has before made more =
-    let g = graph_of (valued value m) in
-    let weigh : Member → Cost = λ n. times kind n.residual (g.final n.state) in
-    let is : own ≡ weigh (member_as kept h) = made ∙ (ap (times kind (kept from.residual)) (sym (graph_final value m from.state w has)) ∙ ap (λ (x : HeldAs _). weigh (member_as kept x)) here) in
-    best_more (member_as kept) weigh hs i h so_far new low at before (more ∙ ap (plus so_far) is)
-
--- what holds of the members holds of one that is taken in a form
-pub held_at : {R : Type 0} (kept : R → Cost) (P : Member → Type 0) (hs : List (HeldAs R)) (members : List Member) (i : ℕ) (h from : HeldAs R) → i < length hs → h ≡ get_or hs i h → from ≡ h → members_as kept hs ≡ members
-    → ((n : Member) → Has members n → P n) → P (member_as kept from)
-held_at kept P hs members i h from low at here same all =
-    let there : Has hs h = at_Has hs i h (slice_get-get_or hs i h low ∙ ap Some (sym at)) in
-    all (member_as kept from) (subst (λ (ms : List Member). Has ms (member_as kept from)) same (Has_map (member_as kept) hs from (subst (λ (x : HeldAs _). Has hs x) (sym here) there)))

@@ -49,6 +49,11 @@ same_members = pointwise same_member
 abbrev pub member_input : Member → fed.HashWrites
 member_input m = fed.u32 m.state ++ fed.i128 (first_of m.residual)
 
+-- what a hasher is fed of a subset
+abbrev pub subset_input : List Member → fed.HashWrites
+subset_input [] = []
+subset_input (m ∷ members) = member_input m ++ fed.slice member_input members
+
 -- a number by which ways stand by label, and by state where they have one label
 abbrev pub rank : {V : Type 0} → WayAs V → ℕ
 rank y = y.label * 4294967296 + y.state

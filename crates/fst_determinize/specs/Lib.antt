@@ -5,4 +5,5 @@ pub mod SubsetLaws
 pub mod Kept
 pub mod KeyLaws
 pub mod Weighed
-pub mod Fits
+pub mod Faults
+pub mod Answers

@@ -8,14 +8,13 @@ ghost use Rattle.fst_walk.specs.Names.{key_arc};
 ghost use Rattle.fst_determinize.specs.Kept.{members_as};
 ghost use Rattle.fst_determinize.specs.KeyLaws.{same_decides};
 ghost use Rattle.fst_determinize.specs.Ways.{final_by, subsets};
-ghost use Rattle.fst_determinize.specs.Fits.{SubsetFits};
 ghost use Rattle.fst_determinize.specs.Weighed.{AreMembers, HasGoodArcs, IsWeighed};
 
 use crate::fault::ArcFault;
 use crate::making::put_arcs;
 use crate::residual::Residual;
 use crate::subset::{Held, SubsetOf, subset_of_one};
-use crate::way::{WayOn, further, put_ways, sort_ways};
+use crate::way::{WayOn, further, put_arc_ways, put_ways, sort_ways};
 use fst_machine::Fst;
 use fst_semiring::Weight;
 use fst_walk::{NameArc, Names, Room, WalkFault, Walked, walk};
@@ -58,8 +57,9 @@ pub(crate) fn last_weight<W: Weight, R: Residual<W>>(fst: &Fst<W>, subset: &Subs
     requires { AreMembers (length fst.now.states) subset.now }
     ensures { W.wide_value result ≡ final_by W.KIND (graph_of (valued W.value fst.now)) subset.now }
 {
-    let mut best = W::zero().widen();
-    for member in subset.members() {
+    let (first, rest) = subset.members();
+    let mut best = further(first.residual, fst.final_weight(first.state));
+    for member in rest {
         let own = further(member.residual, fst.final_weight(member.state));
         best = W::wide_plus(best, own);
     }
@@ -78,7 +78,9 @@ pub(crate) fn put_subset_arcs<W: Weight, R: Residual<W>>(
     ensures { OnOk result (map (key_arc W.wide_value) out.new.items ≡ map (key_arc W.wide_value) out.old.items ++ (subsets W.KIND (graph_of (valued W.value fst.now))).arcs subset.now) }
 {
     scratch.ways.clear();
-    put_ways(&mut scratch.ways, fst, subset.members())?;
+    let (first, rest) = subset.members();
+    put_arc_ways(&mut scratch.ways, fst.arcs(first.state), first)?;
+    put_ways(&mut scratch.ways, fst, rest)?;
     sort_ways(&mut scratch.ways);
     put_arcs(
         out,
@@ -105,7 +107,7 @@ impl<'a, W: Weight, R: Residual<W>> Names<W> for Determinizing<'a, W, R> {
 
     ghost graph = { λ s. subsets W.KIND (graph_of (valued W.value s.fst.now)) };
 
-    ghost holds = { λ s. IsWeighed W.KIND W.value s.fst.now × HasGoodArcs W.KIND (graph_of (valued W.value s.fst.now)) × SubsetFits R.row R.Kept };
+    ghost holds = { λ s. IsWeighed W.KIND W.value s.fst.now × HasGoodArcs W.KIND (graph_of (valued W.value s.fst.now)) };
 
     fn start(&self) -> Option<SubsetOf<R>> {
         first_subset(self.alloc, self.fst)

@@ -14,9 +14,6 @@ pub trait Kept: Copy {
     /// Its value.
     ghost value: { Self → Cost };
 
-    /// Some residual, for a place that holds none.
-    fn blank() -> Self;
-
     /// Whether two residuals are one.
     fn same(self, other: Self) -> bool
         ensures { result ≡ same_cost (value self) (value other) };
@@ -49,10 +46,6 @@ pub struct Narrow<W: Weight> {
 
 impl<W: Weight> Kept for Narrow<W> {
     ghost value = { λ r. W.value r.weight };
-
-    fn blank() -> Narrow<W> {
-        Narrow { weight: W::one() }
-    }
 
     fn same(self, other: Narrow<W>) -> bool {
         self.weight.compare(other.weight).is_eq()
@@ -87,13 +80,6 @@ pub struct Broad<W, V> {
 
 impl<W: Weight> Kept for Broad<W, W::Wide> {
     ghost value = { λ r. W.wide_value r.weight };
-
-    fn blank() -> Broad<W, W::Wide> {
-        Broad {
-            weight: W::one().widen(),
-            of: PhantomData,
-        }
-    }
 
     fn same(self, other: Broad<W, W::Wide>) -> bool {
         W::wide_compare(self.weight, other.weight).is_eq()

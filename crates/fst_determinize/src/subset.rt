@@ -1,16 +1,13 @@
 //! Weighted subsets as keys of a table.
 
-ghost use Rattle.std.specs.Prelude.{◌≡◌, [], ◌∷◌, ◌++◌, IfOk};
+ghost use Rattle.std.specs.Prelude.{◌≡◌, ◌<◌, [], ◌∷◌, ◌++◌, IfOk, length};
 ghost use Rattle.std.specs.Cmp.{on_equiv, on_per, partial_equiv_from_equiv};
-ghost use Rattle.std.specs.Hash as fed;
 ghost use Rattle.std.proofs.Common.{ap};
-ghost use Rattle.fst_determinize.specs.Kept.{member_as, member_input, members_as, same_member, same_members};
+ghost use Rattle.fst_determinize.specs.Kept.{member_as, member_input, members_as, same_member, same_members, subset_input};
 ghost use Rattle.fst_determinize.specs.KeyLaws.{member_decides, member_laws, same_decides, subset_laws};
 
 use crate::residual::Kept;
-use smallvec::SmallVec;
 use std::alloc::{AllocError, Global};
-use std::default::MadeWith;
 use std::hash::{Hash, Hasher};
 use std::marker::Model;
 
@@ -31,15 +28,6 @@ impl<R> Model for Held<R> {
     ghost view = { λ h. record { state = h.state; residual = h.residual } };
 
     ghost inverse = { λ h. record { state = h.state; residual = h.residual } };
-}
-
-impl<R: Kept> MadeWith<Global> for Held<R> {
-    fn made_with(_alloc: Global) -> Held<R> {
-        Held {
-            state: 0,
-            residual: R::blank(),
-        }
-    }
 }
 
 impl<R: Kept> PartialEq for Held<R> {
@@ -67,20 +55,22 @@ impl<R: Kept> Hash for Held<R> {
     }
 }
 
-/// A weighted subset: states by number, each with its residual. One of up to two states takes no memory of its own.
+/// A weighted subset that is not empty: states by number, each with its residual. One of one state takes no memory of its
+/// own.
 #[derive(Drop)]
 pub struct SubsetOf<R: Kept> {
-    members: SmallVec<Held<R>, 2>,
+    first: Held<R>,
+    rest: Vec<Held<R>>,
 }
 
 impl<R: Kept> Model for SubsetOf<R> {
-    ghost use Rattle.std.specs.Prelude.{List};
+    ghost use Rattle.std.specs.Prelude.{List, ◌∷◌};
     ghost use Rattle.fst_determinize.specs.Subsets.{Member};
-    ghost use Rattle.fst_determinize.specs.Kept.{members_as};
+    ghost use Rattle.fst_determinize.specs.Kept.{member_as, members_as};
 
     ghost Value = { List Member };
 
-    ghost view = { λ s. members_as R.value s.members.items };
+    ghost view = { λ s. member_as R.value s.first ∷ members_as R.value s.rest.items };
 }
 
 impl<R: Kept> PartialEq for SubsetOf<R> {
@@ -89,7 +79,7 @@ impl<R: Kept> PartialEq for SubsetOf<R> {
     ghost laws = { partial_equiv_from_equiv subset_laws };
 
     fn eq(&self, other: &SubsetOf<R>) -> bool {
-        self.members.as_slice() == other.members.as_slice()
+        self.first == other.first && self.rest.as_slice() == other.rest.as_slice()
     }
 }
 
@@ -98,12 +88,13 @@ impl<R: Kept> Eq for SubsetOf<R> {
 }
 
 impl<R: Kept> Hash for SubsetOf<R> {
-    ghost hash_input = { fed.slice member_input };
+    ghost hash_input = { subset_input };
 
-    ghost respects_eq = { λ a b same. ap (fed.slice member_input) ((same_decides a b).0 same) };
+    ghost respects_eq = { λ a b same. ap subset_input ((same_decides a b).0 same) };
 
     fn hash<H: Hasher>(&self, state: &mut H) {
-        self.members.as_slice().hash(state);
+        self.first.hash(state);
+        self.rest.as_slice().hash(state);
     }
 }
 
@@ -112,27 +103,31 @@ pub(crate) fn subset_of<R: Kept>(
     alloc: Global,
     members: &[Held<R>],
 ) -> Result<SubsetOf<R>, AllocError>
+    requires { 0 < length members.now }
     ensures { IfOk result (λ s. s ≡ members_as R.value members.now) }
 {
-    Ok(SubsetOf {
-        members: SmallVec::from_slice(alloc, members)?,
-    })
+    let first = members[0];
+    let (_, others) = members.split_at(1);
+    let mut rest = Vec::new(alloc);
+    rest.extend_from_slice(others)?;
+    Ok(SubsetOf { first, rest })
 }
 
 /// The subset of one member. Takes no memory.
 pub(crate) fn subset_of_one<R: Kept>(alloc: Global, member: Held<R>) -> SubsetOf<R>
     ensures { result ≡ member_as R.value member ∷ [] }
 {
-    let mut members = SmallVec::new(alloc);
-    members.push_reserved(member);
-    SubsetOf { members }
+    SubsetOf {
+        first: member,
+        rest: Vec::new(alloc),
+    }
 }
 
 impl<R: Kept> SubsetOf<R> {
-    /// Its members, by state.
-    pub(crate) fn members(&self) -> &[Held<R>]
-        ensures { members_as R.value result.now ≡ self.now }
+    /// Its first member, and the others, by state.
+    pub(crate) fn members(&self) -> (Held<R>, &[Held<R>])
+        ensures { member_as R.value result.0 ∷ members_as R.value result.1.now ≡ self.now }
     {
-        self.members.as_slice()
+        (self.first, self.rest.as_slice())
     }
 }

@@ -45,7 +45,7 @@ pub(crate) fn further<W: Weight, R: Residual<W>>(residual: R, weight: W) -> W::W
 }
 
 /// Puts the ways of a member by these arcs after the others.
-fn put_arc_ways<W: Weight, R: Residual<W>>(
+pub(crate) fn put_arc_ways<W: Weight, R: Residual<W>>(
     out: &mut Vec<WayOn<W::Wide>>,
     arcs: &[FstArc<W>],
     member: Held<R>,

@@ -1,9 +1,11 @@
-use Rattle.std.proofs.Common.{ap, ap₂, ◌∙◌}
-use Rattle.fst_determinize.specs.Kept.{members_as, same_members}
-use Rattle.fst_determinize.proofs.Forms.{same_as}
+use Rattle.std.proofs.Common.{sym, ap, ◌∙◌, ◌∷◌}
+use Rattle.fst_determinize.specs.Kept.{member_as, members_as}
+use Rattle.fst_determinize.proofs.Forms.{same_then}
 use Rattle.fst_determinize.proofs.subset.SubsetOfPartialEq.eq.Goals as goal
 
-pub returns : goal.returns
-returns g c =
+pub returns-then-eq : goal.returns-then-eq
+returns-then-eq g c =
     let value = g.R.Kept.value in
-    c.eq.ensures ∙ (same_as value c.as_slice.result.now c.as_slice-2.result.now ∙ ap₂ same_members (ap (members_as value) c.as_slice.ensures ∙ c.self.view_is) (ap (members_as value) c.as_slice-2.ensures ∙ c.other.view_is))
+    same_then value c.self.inside.first c.other.inside.first c.as_slice.result.now c.as_slice-then-eq.result.now c.args.self.now c.args.other.now c.eq-then-eq.result (sym c.eq.ensures ∙ c.if-eq.true) c.eq-then-eq.ensures
+    (ap (λ hs. member_as value c.self.inside.first ∷ members_as value hs) c.as_slice.ensures.value ∙ c.self.view_is)
+    (ap (λ hs. member_as value c.other.inside.first ∷ members_as value hs) c.as_slice-then-eq.ensures.value ∙ c.other.view_is)

@@ -1,0 +1,190 @@
+//! The deterministic machine of an acceptor, with the subsets that its states stand for.
+
+ghost use Rattle.std.specs.Prelude.{◌≡◌, ◌<◌, ◌≤◌, ◌++◌, IfOk, Some, length, slice_get};
+ghost use Rattle.fst_machine.specs.Graph.{graph_of};
+ghost use Rattle.fst_machine.specs.Machine.{most_states, valued};
+ghost use Rattle.fst_trim.specs.FirstArcs as arcs;
+ghost use Rattle.fst_walk.specs.Answers.{IsNamed};
+ghost use Rattle.fst_determinize.specs.Answers.{IsExact, IsExactly, cause_of};
+ghost use Rattle.fst_determinize.specs.Theorem.{AreSubsets, IsDeterminized};
+ghost use Rattle.fst_determinize.specs.Ways.{subsets};
+ghost use Rattle.fst_determinize.specs.Weighed.{IsWeighed};
+
+use crate::determinizing::walk_subsets;
+use crate::fault::{ArcFault, DeterminizeFault};
+use crate::on_demand::Subset;
+use crate::residual::{Broad, Narrow, Residual};
+use crate::subset::SubsetOf;
+use crate::weighing::weigh;
+use fst_machine::Fst;
+use fst_semiring::Weight;
+use fst_trim::not_acceptor_at;
+use fst_walk::{NameTable, WalkFault, Walked};
+use std::alloc::{AllocError, Global};
+use std::marker::Model;
+
+/// Subsets, each once, in the order of the states that stand for them.
+#[derive(Drop)]
+pub struct Subsets<W: Weight> {
+    /// Those whose residuals are in the form of weights.
+    narrow: NameTable<SubsetOf<Narrow<W>>>,
+    /// Those whose residuals are in the wide form, which stand behind. One of the two tables is empty.
+    broad: NameTable<SubsetOf<Broad<W, W::Wide>>>,
+}
+
+impl<W: Weight> Model for Subsets<W> {
+    ghost use Rattle.std.specs.Prelude.{List, ◌++◌};
+    ghost use Rattle.fst_determinize.specs.Subsets.{Member};
+
+    ghost Value = { List (List Member) };
+
+    ghost view = { λ s. s.narrow ++ s.broad };
+}
+
+/// A deterministic machine, and the subsets that its states stand for.
+#[derive(Drop)]
+pub struct Determined<W: Weight> {
+    /// The machine.
+    pub fst: Fst<W>,
+    /// The subsets, in the order of the numbers of their states.
+    pub subsets: Subsets<W>,
+}
+
+/// Why there is no deterministic machine, where the walk was stopped.
+fn stopped(fault: WalkFault) -> DeterminizeFault
+    ensures { result ≡ cause_of fault }
+{
+    match fault {
+        WalkFault::StateLimit { limit } => DeterminizeFault::StateLimit { limit },
+        WalkFault::TooManyArcs => DeterminizeFault::TooManyArcs,
+        WalkFault::Overflow { state } => DeterminizeFault::Overflow { state },
+    }
+}
+
+/// The machine with subsets in the form of weights.
+fn narrowly<W: Weight>(alloc: Global, made: Walked<SubsetOf<Narrow<W>>, W>) -> Determined<W>
+    ensures fst { result.fst ≡ made.fst }
+    ensures subsets { result.subsets ≡ made.names }
+{
+    Determined {
+        fst: made.fst,
+        subsets: Subsets {
+            narrow: made.names,
+            broad: NameTable::new(alloc),
+        },
+    }
+}
+
+/// The machine with subsets in the wide form.
+fn broadly<W: Weight>(alloc: Global, made: Walked<SubsetOf<Broad<W, W::Wide>>, W>) -> Determined<W>
+    ensures fst { result.fst ≡ made.fst }
+    ensures subsets { result.subsets ≡ made.names }
+{
+    Determined {
+        fst: made.fst,
+        subsets: Subsets {
+            narrow: NameTable::new(alloc),
+            broad: made.names,
+        },
+    }
+}
+
+/// The deterministic machine with residuals in the wide form, or why there is none, with memory apart.
+fn made_broad<W: Weight>(
+    alloc: Global,
+    fst: &Fst<W>,
+    max_states: u32,
+) -> Result<Result<Determined<W>, DeterminizeFault>, AllocError>
+    requires weighed { IsWeighed W.KIND W.value fst.now }
+    requires acceptor { arcs.IsAcceptor fst.now }
+    requires some { 0 < max_states }
+    requires few { max_states ≤ most_states }
+    ensures made { IfOk result (λ r. IfOk r (λ d. IsNamed (subsets W.KIND (graph_of (valued W.value fst.now))) d.subsets (valued W.value d.fst))) }
+    ensures exact { IfOk result (IsExact W.KIND W.value fst.now max_states) }
+{
+    match walk_subsets::<W, Broad<W, W::Wide>>(alloc, fst, max_states) {
+        Ok(Ok(made)) => Ok(Ok(broadly(alloc, made))),
+        Ok(Err(fault)) => Ok(Err(stopped(fault))),
+        // Each residual has a wide form, so memory alone is lacking.
+        Err(_) => Err(AllocError),
+    }
+}
+
+/// The deterministic machine or why there is none, with memory apart. Residuals are kept in the form of weights; where one
+/// does not fit, all is made again with residuals in the wide form. (It may lie on a way that leads to no final state, so
+/// that it says nothing of the weights of the result.)
+fn made_narrow<W: Weight>(
+    alloc: Global,
+    fst: &Fst<W>,
+    max_states: u32,
+) -> Result<Result<Determined<W>, DeterminizeFault>, AllocError>
+    requires weighed { IsWeighed W.KIND W.value fst.now }
+    requires acceptor { arcs.IsAcceptor fst.now }
+    requires some { 0 < max_states }
+    requires few { max_states ≤ most_states }
+    ensures made { IfOk result (λ r. IfOk r (λ d. IsNamed (subsets W.KIND (graph_of (valued W.value fst.now))) d.subsets (valued W.value d.fst))) }
+    ensures exact { IfOk result (IsExact W.KIND W.value fst.now max_states) }
+{
+    match walk_subsets::<W, Narrow<W>>(alloc, fst, max_states) {
+        Ok(Ok(made)) => Ok(Ok(narrowly(alloc, made))),
+        Ok(Err(fault)) => Ok(Err(stopped(fault))),
+        Err(ArcFault::NotKept) => made_broad(alloc, fst, max_states),
+        Err(ArcFault::Memory) => Err(AllocError),
+    }
+}
+
+/// The same of any machine: of one that is no acceptor the first arc with two different labels.
+fn made_of_acceptor<W: Weight>(
+    alloc: Global,
+    fst: &Fst<W>,
+    max_states: u32,
+) -> Result<Result<Determined<W>, DeterminizeFault>, AllocError>
+    requires weighed { IsWeighed W.KIND W.value fst.now }
+    requires some { 0 < max_states }
+    requires few { max_states ≤ most_states }
+    ensures made { IfOk result (λ r. IfOk r (λ d. IsNamed (subsets W.KIND (graph_of (valued W.value fst.now))) d.subsets (valued W.value d.fst))) }
+    ensures acceptor { IfOk result (λ r. IfOk r (λ d. arcs.IsAcceptor fst.now)) }
+    ensures exact { IfOk result (IsExact W.KIND W.value fst.now max_states) }
+{
+    if let Some(step) = not_acceptor_at(fst) {
+        return Ok(Err(DeterminizeFault::NotAcceptor {
+            state: step.state,
+            place: step.place,
+        }));
+    }
+    made_narrow(alloc, fst, max_states)
+}
+
+/// The deterministic machine of an acceptor, by weighted subsets: its states are just the subsets of words that are not
+/// empty, in the order of the least words that have them, shorter words first. Each label word, epsilon being a label
+/// like others, has at most one successful path, and each pair of strings the weight that it had. Where the machine has no
+/// start, the result has no states. (Mohri 2009, weighted determinization; OpenFst manual, "Determinize".)
+///
+/// `NotAcceptor` exactly where an arc has two different labels, with the first such arc; else `StateLimit` exactly where
+/// words give more than `max_states` different subsets that are not empty, which is answered as soon as so many are found;
+/// else `TooManyArcs` exactly where these have more than 33,554,432 arcs; else `Overflow` exactly where a weight has a
+/// number of absolute value above 10 to the 18, with the first state that has such a weight. `Memory` may come in place of
+/// any answer. Not every machine has finitely many subsets, so that `max_states` is what ends the call. It is 1 to
+/// 4,194,304.
+///
+/// Time: for each subset that of its arcs, and of sorting them by label where they do not stand so. Space: the result, the
+/// subsets, and the arcs of one.
+pub fn determinize<W: Weight>(
+    alloc: Global,
+    fst: &Fst<W>,
+    max_states: u32,
+) -> Result<Determined<W>, DeterminizeFault>
+    requires some { 0 < max_states }
+    requires few { max_states ≤ most_states }
+    ensures made { IfOk result (λ d. IsNamed (subsets W.KIND (graph_of (valued W.value fst.now))) d.subsets (valued W.value d.fst)) }
+    ensures subsets { IfOk result (λ d. AreSubsets W.KIND (graph_of (valued W.value fst.now)) d.subsets) }
+    ensures determinizes { IfOk result (λ d. IsDeterminized W.KIND (graph_of (valued W.value fst.now)) (graph_of (valued W.value d.fst))) }
+    ensures exact { IsExactly W.KIND W.value fst.now max_states result }
+{
+    weigh(fst);
+    match made_of_acceptor(alloc, fst, max_states) {
+        Ok(made) => made,
+        // A lack of memory becomes a fault here alone.
+        Err(_) => Err(DeterminizeFault::Memory),
+    }
+}
