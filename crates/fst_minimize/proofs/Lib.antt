@@ -9,3 +9,7 @@ pub mod Tables
 pub mod RowLists
 pub mod Numbered
 pub mod Splitting
+pub mod Ascending
+pub mod WeightKeys
+pub mod Said
+pub mod Describe

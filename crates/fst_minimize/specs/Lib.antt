@@ -7,3 +7,5 @@ pub mod Numbered
 pub mod Numberers
 pub mod Rows
 pub mod Refining
+pub mod Saying
+pub mod Described
