@@ -3,10 +3,9 @@ use Rattle.std.proofs.Common.{◌≡◌, ◌⊎◌, ℕ, List, [], ◌∷◌, �
 use Rattle.std.proofs.lemmas.List.{length-append}
 use Rattle.fst_desk.specs.Seen.{Files, Seen}
 use Rattle.fst_words.specs.declared.plan.Plan.{Plan}
-use Rattle.fst_command.specs.Plans.{Input, inputs_of}
+use Rattle.fst_words.specs.Inputs.{Input, plan_inputs}
 use Rattle.fst_command.specs.Causes.{Cause, Answer, done, usage, refused, no_memory, unread, unwritten, status_of}
-use Rattle.fst_command.specs.Checks.{Check, checks_of, AllPass, IsFirst}
-use Rattle.fst_command.specs.Outcome.{Agrees, Answers, Refuses, Runs, Completes}
+use Rattle.fst_command.specs.Outcome.{Agrees, Answers, Completes, IsCause, Refuses, Runs}
 
 -- told contents are one list
 same_contents : (files : Files) (is : List Input) (cs ds : List (List ℕ)) → Agrees (Some files) is cs → Agrees (Some files) is ds → cs ≡ ds
@@ -18,22 +17,14 @@ same_contents files (i ∷ is) (c ∷ cs) [] h k = absurd k
 same_contents files (i ∷ is) (c ∷ cs) (d ∷ ds) h k =
     ap (λ x. x ∷ cs) (h.0 ∙ sym k.0) ∙ ap (λ xs. d ∷ xs) (same_contents files is cs ds h.1 k.1)
 
--- where no question finds a cause there is no first
-no_first : (checks : List Check) (cause : Cause) → AllPass checks → IsFirst checks cause → ⊥
-no_first [] cause passes first = first
-no_first (check ∷ checks) cause passes first = go first (no_first checks cause passes.1) where
-  go : IsFirst (check ∷ checks) cause → (IsFirst checks cause → ⊥) → ⊥
-  go (inl finds) more = passes.0 cause finds
-  go (inr rest) more = more rest.1
-
 pub completes : (words : List (List ℕ)) (old new : Seen) (status : ℕ) → Runs words old new status → Completes words old new status
 completes words old new status runs plan files contents planned told agrees passes missed faults =
     go runs.answer runs.status_is (subst (λ (p : Option Plan). Answers p old.filed new.filed runs.answer) planned runs.answers) where
       refuted : (cause : Cause) → Refuses plan old.filed.told cause → ⊥
       refuted cause r =
-          let agrees' = subst (λ (t : Option Files). Agrees t (inputs_of plan) r.contents) told r.agrees in
-          let same : r.contents ≡ contents = same_contents files (inputs_of plan) r.contents contents agrees' agrees in
-          no_first (checks_of plan contents) cause passes (subst (λ (cs : List (List ℕ)). IsFirst (checks_of plan cs) cause) same r.first)
+          let agrees' = subst (λ (t : Option Files). Agrees t (plan_inputs plan) r.contents) told r.agrees in
+          let same : r.contents ≡ contents = same_contents files (plan_inputs plan) r.contents contents agrees' agrees in
+          passes cause (subst (λ (cs : List (List ℕ)). IsCause plan cs cause) same r.is)
 
       longer : (name : List ℕ) → new.filed.missed ≡ old.filed.missed ++ name ∷ [] → ⊥
       longer name grew =

@@ -1,16 +1,20 @@
-pub mod Lines
-pub mod Checking
-pub mod Deciding
-pub mod Working
-pub mod Writing
-pub mod OptionFiles
-pub mod Settling
-pub mod Several
-pub mod Coding
-pub mod Planned
-pub mod Completing
-pub mod Showing
-pub mod Describing
-pub mod Rules
-pub mod Replacing
-pub mod Composing
+mod Refusing
+mod Settled
+mod Sizes
+mod Sorted
+mod Composed
+mod Coded
+mod Printed
+mod Rules
+mod Replaced
+mod Describing
+mod InTurn
+mod Answering
+mod Writing
+mod Completing
+mod Showing
+mod Counted
+mod MadeCount
+mod Stored
+mod Decided
+mod Places

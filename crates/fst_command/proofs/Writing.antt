@@ -3,25 +3,26 @@ use Rattle.std.proofs.Common.{◌≡◌, ◌⊎◌, ℕ, suc, List, [], ◌∷�
 use Rattle.fst_desk.specs.Seen.{Files, Filed, Seen, Rises, raised}
 use Rattle.fst_desk.specs.Desk.{ToldHolds}
 use Rattle.fst_words.specs.declared.plan.Plan.{Plan}
+use Rattle.fst_words.specs.Inputs.{plan_inputs}
 use Rattle.fst_words.specs.Plans.{outputs_of}
 use Rattle.fst_command.specs.declared.refusal.Refusal.{Refusal}
-use Rattle.fst_command.specs.Plans.{inputs_of}
 use Rattle.fst_command.specs.Causes.{done, no_memory, unwritten}
-use Rattle.fst_command.specs.Checks.{input_checks, later_checks}
-use Rattle.fst_command.specs.Outputs.{AreNamed, Output}
-use Rattle.fst_command.specs.Outcome.{Calls, Leaves, OnlyFetches, Prescribes}
-use Rattle.fst_command.specs.Progress.{IsReady}
-use Rattle.fst_command.specs.Steps.{BothAnswer, NoRoom, NotWritten, Starves, StopsBehind, StoresOnce, Works, WriteAnswer, WritesBoth, WritesOutput, WrittenWhole}
-use Rattle.fst_command.proofs.Checking.{AllPass-append}
-use Rattle.fst_command.proofs.Working.{all_fetched}
+use Rattle.fst_command.specs.Outcome.{AreNamed, Calls, Leaves, OnlyFetches, Output, Prescribes}
+use Rattle.fst_command.specs.Steps.{BothAnswer, IsReady, NoRoom, NotWritten, Starves, StopsAfter, StoresOnce, Works, WriteAnswer, WritesBoth, WritesOutput, WrittenWhole}
+use Rattle.fst_command.proofs.InTurn.{given_all}
+use Rattle.fst_command.proofs.Answering.{all_fetched}
 
 -- outputs that are ready are prescribed, under the names of the command
 prescribes-ready : (plan : Plan) (made : List (List ℕ)) (outputs : List Output) (old now : Seen) → IsReady plan made old now → AreNamed (outputs_of plan) made outputs → Prescribes plan old.filed.told outputs
 prescribes-ready plan made outputs old now is named = record {
-  contents = is.contents;
+  contents = is.progress.contents;
   agrees = is.progress.agrees;
-  passes = AllPass-append (input_checks plan [] (inputs_of plan) is.contents) (later_checks plan is.contents) is.progress.passes is.passes;
-  writes = record { made = made; makes = is.makes; named = named };
+  given = is.worked.given;
+  reads = given_all plan is.progress.contents is.held is.worked.given is.progress.reads is.worked.reads;
+  passes = is.worked.passes;
+  made = is.worked.made;
+  makes = is.worked.makes;
+  named = subst (λ (bytes : List (List ℕ)). AreNamed (outputs_of plan) bytes outputs) is.worked.spells named;
 }
 
 -- one store more
@@ -33,7 +34,7 @@ no_room : (plan : Plan) (made : List (List ℕ)) (old read new : Seen) (refusal 
 no_room plan made old read new refusal is showing n = record {
   answer = no_memory;
   ends = n.tells;
-  answers = inl (subst (λ (f : Filed). (f.told ≡ old.filed.told) × OnlyFetches plan old.filed f) (sym n.same) (is.progress.told, all_fetched plan is.contents old read is.progress));
+  answers = inl (subst (λ (f : Filed). (f.told ≡ old.filed.told) × OnlyFetches plan old.filed f) (sym n.same) (is.progress.told, all_fetched plan is.held old read is.progress));
   showing = showing ∙ is.progress.showing;
 }
 
@@ -43,8 +44,8 @@ Works-written plan out bytes old read new result single is w = go result w.answe
   showing : new.showing ≡ old.showing
   showing = w.showing ∙ is.progress.showing
 
-  calls : StoresOnce read.filed new.filed → Calls (length (inputs_of plan)) 1 old.filed new.filed
-  calls once = stored (length (inputs_of plan)) 0 old.filed read.filed new.filed is.progress.calls once
+  calls : StoresOnce read.filed new.filed → Calls (length (plan_inputs plan)) 1 old.filed new.filed
+  calls once = stored (length (plan_inputs plan)) 0 old.filed read.filed new.filed is.progress.calls once
 
   prescribes : (bs : List ℕ) → bytes ≡ bs → Prescribes plan old.filed.told ((out, bs) ∷ [])
   prescribes bs e = prescribes-ready plan (bs ∷ []) ((out, bs) ∷ []) old read (subst (λ (b : List ℕ). IsReady plan (b ∷ []) old read) e is)
@@ -98,11 +99,11 @@ Works-both plan name bytes other more old read new result both is w = go result 
   showing : new.showing ≡ old.showing
   showing = w.showing ∙ is.progress.showing
 
-  calls : (now : Filed) → StoresOnce read.filed now → Calls (length (inputs_of plan)) 1 old.filed now
-  calls now once = stored (length (inputs_of plan)) 0 old.filed read.filed now is.progress.calls once
+  calls : (now : Filed) → StoresOnce read.filed now → Calls (length (plan_inputs plan)) 1 old.filed now
+  calls now once = stored (length (plan_inputs plan)) 0 old.filed read.filed now is.progress.calls once
 
-  calls-both : (mid : Filed) → StoresOnce read.filed mid → StoresOnce mid new.filed → Calls (length (inputs_of plan)) 2 old.filed new.filed
-  calls-both mid once again = stored (length (inputs_of plan)) 1 old.filed mid new.filed (calls mid once) again
+  calls-both : (mid : Filed) → StoresOnce read.filed mid → StoresOnce mid new.filed → Calls (length (plan_inputs plan)) 2 old.filed new.filed
+  calls-both mid once again = stored (length (plan_inputs plan)) 1 old.filed mid new.filed (calls mid once) again
 
   prescribes : (bs ms : List ℕ) → bytes ≡ bs → more ≡ ms → Prescribes plan old.filed.told ((name, bs) ∷ (other, ms) ∷ [])
   prescribes bs ms e f = prescribes-ready plan (bs ∷ ms ∷ []) ((name, bs) ∷ (other, ms) ∷ []) old read
@@ -178,8 +179,8 @@ Works-both plan name bytes other more old read new result both is w = go result 
     showing = showing;
   }
 
-  behind : (refusal : Refusal) → StopsBehind name bytes other more read.filed new.filed refusal → Works (Some plan) old new (Err refusal)
-  behind refusal s = choose s.stops where
+  after_first : (refusal : Refusal) → StopsAfter name bytes other more read.filed new.filed refusal → Works (Some plan) old new (Err refusal)
+  after_first refusal s = choose s.stops where
     choose : Starves s.mid new.filed refusal ⊎ NotWritten other more s.mid new.filed refusal → Works (Some plan) old new (Err refusal)
     choose (inl n) = starved refusal s.mid s.stands n
     choose (inr n) = stopped refusal s.mid s.stands n
@@ -199,4 +200,4 @@ Works-both plan name bytes other more old read new result both is w = go result 
   go (Err refusal) (inl n) = no_room plan (bytes ∷ more ∷ []) old read new refusal is w.showing n
   go (Err refusal) (inr (inl (inl s))) = starved-first refusal s
   go (Err refusal) (inr (inl (inr n))) = failed refusal n
-  go (Err refusal) (inr (inr s)) = behind refusal s
+  go (Err refusal) (inr (inr s)) = after_first refusal s

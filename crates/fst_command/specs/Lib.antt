@@ -1,17 +1,20 @@
--- In reading order: the words, the causes of a refusal, what is asked of a command in which order, what it
--- is to write, and the outcome of a run.
-pub mod Plans
-pub mod Contents
+-- In reading order: why a command is refused, what it is given, what a command means, a page for each family of
+-- commands, the table of their meanings, and the outcome of a run. After these come what the code holds and what the
+-- steps of a command promise.
 pub mod Causes
-pub mod Checks
-pub mod Operations
+pub mod Given
+pub mod Meaning
+pub mod Rational
+pub mod Trimming
 pub mod Descriptions
-pub mod Outputs
-pub mod Outcome
-pub mod Told
-pub mod Steps
-pub mod Progress
-pub mod Several
-pub mod Coding
+pub mod Describing
+pub mod Texts
 pub mod Replacing
 pub mod Composing
+pub mod Coding
+pub mod Commands
+pub mod Plans
+pub mod Outcome
+pub mod Told
+pub mod Seeing
+pub mod Steps

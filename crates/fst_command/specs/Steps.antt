@@ -1,25 +1,17 @@
--- What the steps of a command promise: reading an input, writing an output, and the whole command.
-use Rattle.std.specs.Prelude.{◌≡◌, Bool, ◌⊎◌, ℕ, ◌<◌, ◌≤◌, List, [], ◌∷◌, ◌++◌, length, Option, Some, None, IfSome, Result, Ok, Err}
+-- What the steps of a command promise: reading an input, reading all, the work, writing an output, and the whole command.
+use Rattle.std.specs.Prelude.{◌≡◌, ◌⊎◌, ℕ, ◌<◌, ◌≤◌, List, [], ◌∷◌, ◌++◌, length, Option, Some, IfSome, Result, Ok, Err}
 use Rattle.fst_desk.specs.Seen.{Filed, Seen, Rises, raised}
 use Rattle.fst_desk.specs.Desk.{content_of, ToldHolds}
-use Rattle.fst_semiring.specs.declared.arc_type.ArcType.{ArcType}
-use Rattle.fst_semiring.specs.Cost.{Cost}
-use Rattle.fst_machine.specs.Machine.{Machine}
-use Rattle.fst_text.specs.Grammar.{machine_of_text}
-use Rattle.fst_text.specs.Printed.{text_of_machine}
-use Rattle.fst_binary.specs.Spelling.{spelling}
 use Rattle.fst_words.specs.declared.options.Options.{Options}
 use Rattle.fst_words.specs.declared.plan.Plan.{Plan}
-use Rattle.fst_words.specs.declared.verb.Verb.{Verb}
-use Rattle.fst_words.specs.declared.verb.Verb.TheVariants.{Compile, Print, Info, Invert, Reverse, Connect, Union, Concat, Closure, Project, Replace, Relabel, Arcsort, Compose}
-use Rattle.fst_command.specs.Plans.{Input, arc_type_of}
-use Rattle.fst_command.specs.Contents.{Choices, Renaming, Typed, machine_of_file}
-use Rattle.fst_command.specs.Causes.{Cause, recursive, bad_codex, undecodable, too_long, bad_symbols, bad_pairs, bad_text, bad_binary, kinds_differ, too_large, uncomposed, unprintable, Answer, done, refused, no_memory, unread, unwritten}
-use Rattle.fst_command.specs.Checks.{Check, codex_check, codex_kind_check, decode_check, text_check, binary_check, kinds_check, print_check, read_limit, AllPass, IsFirst, form_check, operation_checks, later_checks, replace_checks, compose_checks}
-use Rattle.fst_command.specs.Outputs.{Composed, Decoded, Encoded, Described, Makes, Operated, Replaced}
-use Rattle.fst_command.specs.Outcome.{Answers}
+use Rattle.fst_words.specs.Inputs.{Input, plan_inputs}
+use Rattle.fst_command.specs.Causes.{Answer, Fault, done, faulty, no_memory, refused, too_long, unread, unwritten}
+use Rattle.fst_command.specs.Commands.{meaning_for}
+use Rattle.fst_command.specs.Given.{Given, Held, given_at, given_by, kind_of, nothing, put, read_limit}
+use Rattle.fst_command.specs.Meaning.{Made, Passes, bytes_of}
+use Rattle.fst_command.specs.Outcome.{Agrees, Answers, Calls}
 use Rattle.fst_command.specs.declared.refusal.Refusal.{Refusal}
-use Rattle.fst_command.specs.Told.{Tells}
+use Rattle.fst_command.specs.Told.{Fails, IsMemory, Tells}
 
 -- an input that could not be read
 pub record NotRead (name : List ℕ) (old new : Filed) (refusal : Refusal) : Type 0 where
@@ -108,7 +100,7 @@ pub record WritesOutput (name bytes : List ℕ) (old new : Seen) (result : Resul
   pub answer : WriteAnswer name bytes old.filed new.filed result
 
 -- the first of two outputs stands whole, and the second does not
-pub record StopsBehind (name bytes other more : List ℕ) (old new : Filed) (refusal : Refusal) : Type 0 where
+pub record StopsAfter (name bytes other more : List ℕ) (old new : Filed) (refusal : Refusal) : Type 0 where
   pub mid : Filed
   pub stands : WrittenWhole name bytes old mid
   pub stops : Starves mid new refusal ⊎ NotWritten other more mid new refusal
@@ -117,60 +109,35 @@ pub record StopsBehind (name bytes other more : List ℕ) (old new : Filed) (ref
 abbrev pub BothAnswer : List ℕ → List ℕ → List ℕ → List ℕ → Filed → Filed → Result Unit Refusal → Type 0
 BothAnswer name bytes other more old new (Ok _) = (mid : Filed) × WrittenWhole name bytes old mid × WrittenWhole other more mid new
 BothAnswer name bytes other more old new (Err refusal) =
-    NoRoom old new refusal ⊎ ((Starves old new refusal ⊎ NotWritten name bytes old new refusal) ⊎ StopsBehind name bytes other more old new refusal)
+    NoRoom old new refusal ⊎ ((Starves old new refusal ⊎ NotWritten name bytes old new refusal) ⊎ StopsAfter name bytes other more old new refusal)
 
 -- writing two outputs, one after the other: nothing is shown
 pub record WritesBoth (name bytes other more : List ℕ) (old new : Seen) (result : Result Unit Refusal) : Type 0 where
   pub showing : new.showing ≡ old.showing
   pub answer : BothAnswer name bytes other more old.filed new.filed result
 
--- the cause is not that an input is too long
-abbrev pub IsOfForm : Cause → Type 0
-IsOfForm (too_long name) = ⊥
-IsOfForm (bad_symbols name fault) = Unit {0}
-IsOfForm (bad_pairs name fault) = Unit {0}
-IsOfForm (bad_text name fault) = Unit {0}
-IsOfForm (bad_binary name fault) = Unit {0}
-IsOfForm (bad_codex name fault) = Unit {0}
-IsOfForm (kinds_differ first other) = Unit {0}
-IsOfForm (recursive label) = Unit {0}
-IsOfForm (too_large fault) = Unit {0}
-IsOfForm (undecodable fault) = Unit {0}
-IsOfForm (uncomposed fault) = Unit {0}
-IsOfForm (unprintable fault) = Unit {0}
+-- ---- the inputs
 
--- the refusal tells out of memory, or the first cause that the questions find
-abbrev pub Declines : List Check → Refusal → Type 0
-Declines checks refusal = Tells no_memory refusal ⊎ ((cause : Cause) × IsFirst checks cause × IsOfForm cause × Tells (refused cause) refusal)
+-- what each answer of reading an input, and judging it beside what stands before it, says
+abbrev pub StepAnswer : Input → Options → Held → Held → Seen → Seen → Result Unit Refusal → Type 0
+StepAnswer i o before after old new (Ok _) = (content : List ℕ) × Reads i.name old new (Ok content) × (put o i.role i.name content before ≡ Ok after)
+StepAnswer i o before after old new (Err refusal) =
+    Reads i.name old new (Err refusal) ⊎ ((content : List ℕ) × Reads i.name old new (Ok content) × Fails refusal (put o i.role i.name content before))
 
--- what the file of an option stands for, or why nothing
-abbrev pub FileAnswer : {X : Type 0} → (List ℕ → List ℕ → Check) → (List ℕ → Option X) → List ℕ → Seen → Seen → Result X Refusal → Type 0
-FileAnswer check read name old new (Ok x) = (content : List ℕ) × Reads name old new (Ok content) × (read content ≡ Some x)
-FileAnswer check read name old new (Err refusal) =
-    Reads name old new (Err refusal) ⊎ ((content : List ℕ) × Reads name old new (Ok content) × Declines (check name content ∷ []) refusal)
+-- The inputs in front are read, each by one fetch: this is held of them, no cause is found in them, and nothing else
+-- has changed.
+pub record Progress (plan : Plan) (front : List Input) (held : Held) (old now : Seen) : Type 0 where
+  pub contents : List (List ℕ)
+  pub agrees : Agrees old.filed.told front contents
+  pub reads : given_by plan.options front contents nothing ≡ Ok held
+  pub told : now.filed.told ≡ old.filed.told
+  pub write_faults : now.filed.write_faults ≡ old.filed.write_faults
+  pub missed : now.filed.missed ≡ old.filed.missed
+  pub starved : now.filed.starved ≡ old.filed.starved
+  pub calls : Calls (length front) 0 old.filed now.filed
+  pub showing : now.showing ≡ old.showing
 
--- reading the file of an option: without the option this value stands in its place, and nothing is done
-abbrev pub ReadsOption : {X : Type 0} → (List ℕ → List ℕ → Check) → (List ℕ → Option X) → X → Option (List ℕ) → Seen → Seen → Result X Refusal → Type 0
-ReadsOption check read none None old new (Ok x) = (x ≡ none) × (new ≡ old)
-ReadsOption check read none None old new (Err refusal) = ⊥
-ReadsOption check read none (Some name) old new (Ok x) = FileAnswer check read name old new (Ok x)
-ReadsOption check read none (Some name) old new (Err refusal) = FileAnswer check read name old new (Err refusal)
-
--- an output is made, where no question finds a cause; else the refusal tells the first cause
-abbrev pub Settles : List Check → (List (List ℕ) → Type 0) → Result (List ℕ) Refusal → Type 0
-Settles checks makes (Ok bytes) = AllPass checks × makes (bytes ∷ [])
-Settles checks makes (Err refusal) = Declines checks refusal
-
--- What a command makes of the content of its last input, where these contents were read before, for its one
--- output.
-abbrev pub Decides : Plan → List (List ℕ) → Input → List ℕ → Result (List ℕ) Refusal → Type 0
-Decides plan before i content result =
-    Settles (form_check plan before i content ∷ later_checks plan (before ++ content ∷ [])) (Makes plan (before ++ content ∷ [])) result
-
--- the same for all its outputs
-abbrev pub DecidesOn : Plan → List (List ℕ) → Input → List ℕ → List (List ℕ) → Type 0
-DecidesOn plan before i content made =
-    AllPass (form_check plan before i content ∷ later_checks plan (before ++ content ∷ [])) × Makes plan (before ++ content ∷ []) made
+-- ---- the whole command
 
 -- the answer of a command that ended so
 abbrev pub Ends : Answer → Result Unit Refusal → Type 0
@@ -184,66 +151,37 @@ pub record Works (plan : Option Plan) (old new : Seen) (result : Result Unit Ref
   pub answers : Answers plan old.filed new.filed answer
   pub showing : new.showing ≡ old.showing
 
--- the bytes of the binary form of the machine of a text, or why there are none
-abbrev pub CompilesTo : ArcType → Choices → List ℕ → List ℕ → Result (List ℕ) Refusal → Type 0
-CompilesTo kind choices name content (Ok bytes) = (m : Machine Cost) × (machine_of_text kind choices content ≡ Ok m) × (bytes ≡ spelling kind m)
-CompilesTo kind choices name content (Err refusal) = Declines (text_check kind choices name content ∷ []) refusal
+-- reading all inputs, or how the command ended
+abbrev pub ReadsAll : Plan → Seen → Seen → Result Held Refusal → Type 0
+ReadsAll plan old new (Ok held) = Progress plan (plan_inputs plan) held old new
+ReadsAll plan old new (Err refusal) = Works (Some plan) old new (Err refusal)
 
--- the text of the machine of a file, or why there is none
-abbrev pub PrintsTo : Choices → List ℕ → List ℕ → Result (List ℕ) Refusal → Type 0
-PrintsTo choices name content (Ok text) = (m : Typed) × (machine_of_file content ≡ Ok m) × (text_of_machine m.kind choices m.machine ≡ Ok text)
-PrintsTo choices name content (Err refusal) = Declines (binary_check name content ∷ kinds_check (content ∷ []) ∷ print_check choices content ∷ []) refusal
+-- these are the bytes of what the command makes of what was read, and nothing stops it
+pub record IsWorked (plan : Plan) (held : Held) (bytes : List (List ℕ)) : Type 0 where
+  pub given : Given
+  pub reads : given_at (kind_of plan.options held.machines) held ≡ Ok given
+  pub passes : Passes ((meaning_for plan).stops given)
+  pub made : Made
+  pub makes : (meaning_for plan).makes given made
+  pub spells : bytes ≡ bytes_of made
 
--- what is said of the machine of a file, or why nothing
-abbrev pub DescribesTo : List ℕ → List ℕ → Result (List ℕ) Refusal → Type 0
-DescribesTo name content result = Settles (binary_check name content ∷ kinds_check (content ∷ []) ∷ []) (Described (content ∷ [])) result
+-- the fault of what was read, or else that which stops the command
+abbrev pub IsFault : Plan → Held → Fault → Type 0
+IsFault plan held fault =
+    (given_at (kind_of plan.options held.machines) held ≡ Err fault)
+    ⊎ ((given : Given) × (given_at (kind_of plan.options held.machines) held ≡ Ok given) × (meaning_for plan).stops given fault)
 
--- the binary form of the machine that is made of the machine of a file, or why there is none
-abbrev pub OperatesTo : Verb → Options → Renaming → List ℕ → List ℕ → Result (List ℕ) Refusal → Type 0
-OperatesTo verb options renaming name content result =
-    Settles (binary_check name content ∷ operation_checks verb options (content ∷ [])) (Operated verb options renaming (content ∷ [])) result
+-- the work on what was read
+abbrev pub Decides : Plan → Held → Result (List (List ℕ)) Refusal → Type 0
+Decides plan held (Ok bytes) = IsWorked plan held bytes
+Decides plan held (Err refusal) = IsMemory refusal ⊎ ((fault : Fault) × IsFault plan held fault × Tells (refused (faulty fault)) refusal)
 
--- that of the machine that is made of the machines of two files, which were read
-abbrev pub JoinsTo : Verb → Options → Renaming → List (List ℕ) → Result (List ℕ) Refusal → Type 0
-JoinsTo verb options renaming files result = Settles (operation_checks verb options files) (Operated verb options renaming files) result
+-- all inputs are read, and these are the bytes of the outputs
+pub record IsReady (plan : Plan) (bytes : List (List ℕ)) (old now : Seen) : Type 0 where
+  pub held : Held
+  pub progress : Progress plan (plan_inputs plan) held old now
+  pub worked : IsWorked plan held bytes
 
--- that of the machine of rules, whose files were read
-abbrev pub ReplacesTo : List ℕ → List (List ℕ) → Result (List ℕ) Refusal → Type 0
-ReplacesTo labels files result = Settles (replace_checks labels files) (Replaced labels files) result
-
--- that of the composition of the machines of two files, which were read
-abbrev pub ComposesTo : Options → List (List ℕ) → Result (List ℕ) Refusal → Type 0
-ComposesTo options files result = Settles (compose_checks options files) (Composed options files) result
-
--- that of the machine that a command makes of the machines of several files, which were read
-abbrev pub CombinesTo : Verb → List ℕ → Options → Renaming → List (List ℕ) → Result (List ℕ) Refusal → Type 0
-CombinesTo Union labels options renaming files result = JoinsTo Union options renaming files result
-CombinesTo Concat labels options renaming files result = JoinsTo Concat options renaming files result
-CombinesTo Replace labels options renaming files result = ReplacesTo labels files result
-CombinesTo Compose labels options renaming files result = ComposesTo options files result
-CombinesTo _ labels options renaming files result = ⊥
-
--- what a command with one input of its own makes of its content
-abbrev pub MakesTo : Verb → Options → Choices → Renaming → List ℕ → List ℕ → Result (List ℕ) Refusal → Type 0
-MakesTo Compile options choices renaming name content result = CompilesTo (arc_type_of options) choices name content result
-MakesTo Print options choices renaming name content result = PrintsTo choices name content result
-MakesTo Info options choices renaming name content result = DescribesTo name content result
-MakesTo Invert options choices renaming name content result = OperatesTo Invert options renaming name content result
-MakesTo Reverse options choices renaming name content result = OperatesTo Reverse options renaming name content result
-MakesTo Connect options choices renaming name content result = OperatesTo Connect options renaming name content result
-MakesTo Closure options choices renaming name content result = OperatesTo Closure options renaming name content result
-MakesTo Project options choices renaming name content result = OperatesTo Project options renaming name content result
-MakesTo Relabel options choices renaming name content result = OperatesTo Relabel options renaming name content result
-MakesTo Arcsort options choices renaming name content result = OperatesTo Arcsort options renaming name content result
-MakesTo _ options choices renaming name content result = ⊥
-
--- the codex and the machine that stand for the machine of a file, or why there are none
-abbrev pub EncodesTo : Bool → List ℕ → List ℕ → Result (List (List ℕ)) Refusal → Type 0
-EncodesTo weights name content (Ok made) = AllPass (binary_check name content ∷ kinds_check (content ∷ []) ∷ []) × Encoded weights (content ∷ []) made
-EncodesTo weights name content (Err refusal) = Declines (binary_check name content ∷ kinds_check (content ∷ []) ∷ []) refusal
-
--- the binary form of the machine that the machine of a file and the codex of a second file, which has this name,
--- stand for, or why there is none
-abbrev pub DecodesTo : List ℕ → List ℕ → List ℕ → Result (List ℕ) Refusal → Type 0
-DecodesTo file name codex result =
-    Settles (codex_check name codex ∷ codex_kind_check file codex ∷ decode_check file codex ∷ []) (Decoded (file ∷ codex ∷ [])) result
+-- ending a command where the bytes were ready
+abbrev pub WorksAfter : Plan → List (List ℕ) → Seen → Seen → Result Unit Refusal → Type 0
+WorksAfter plan bytes mid new result = (old : Seen) → IsReady plan bytes old mid → Works (Some plan) old new result

@@ -1,9 +1,9 @@
 -- What a refusal says of the answer.
-use Rattle.std.specs.Prelude.{◌≡◌, ℕ, List, Some, Result, Ok, Err, String, codes, string_bytes}
+use Rattle.std.specs.Prelude.{◌≡◌, ◌⊎◌, ℕ, List, Some, Result, Ok, Err, String, codes, string_bytes}
 use Rattle.std.specs.declared.alloc.Global.{Global}
 use Rattle.fst_command.specs.declared.refusal.Refusal.{Refusal}
 use Rattle.fst_command.specs.declared.refusal.Refusal.TheVariants as refusals
-use Rattle.fst_command.specs.Causes.{Answer, status_of, line_of}
+use Rattle.fst_command.specs.Causes.{Answer, Fault, faulty, refused, status_of, line_of}
 
 -- the status of a refusal
 abbrev pub told_status : Refusal → ℕ
@@ -16,6 +16,10 @@ abbrev pub told_line : Refusal → List ℕ
 told_line refusals.Usage = codes "fst: bad command line\n"
 told_line refusals.Memory = codes "fst: out of memory\n"
 told_line (refusals.Told status line) = string_bytes line
+
+-- the refusal is out of memory
+abbrev pub IsMemory : Refusal → Type 0
+IsMemory refusal = refusal ≡ refusals.Memory
 
 -- the refusal tells the answer: its status and its line
 pub record Tells (answer : Answer) (refusal : Refusal) : Type 0 where
@@ -32,3 +36,12 @@ IsMade answer (refusals.Told status line) = Tells answer (refusals.Told status l
 abbrev pub MakesLine : {E : Type 0} → ℕ → Result (String Global) E → Refusal → Type 0
 MakesLine status (Ok line) refusal = (told_status refusal ≡ status) × (told_line refusal ≡ string_bytes line) × (refusal ≡ refusals.Told status line)
 MakesLine status (Err e) refusal = refusal ≡ refusals.Memory
+
+-- the refusal is out of memory, or tells the fault that reading gives
+abbrev pub Fails : {Y : Type 0} → Refusal → Result Y Fault → Type 0
+Fails refusal read = IsMemory refusal ⊎ ((fault : Fault) × (read ≡ Err fault) × Tells (refused (faulty fault)) refusal)
+
+-- what a function returned, seen by view, is what reading gives, or its refusal tells the fault
+abbrev pub Judges : {X Y : Type 0} → (X → Y) → Result X Refusal → Result Y Fault → Type 0
+Judges view (Ok x) read = read ≡ Ok (view x)
+Judges view (Err refusal) read = Fails refusal read

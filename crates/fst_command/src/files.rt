@@ -13,7 +13,11 @@ use std::alloc::Global;
 const READ_LIMIT: usize = 1_342_177_280;
 
 /// The content of an input. An input that cannot be read, or is longer than what is read, is a refusal.
-pub fn read_input<D: Desk>(alloc: Global, desk: &mut D, name: &str) -> Result<Vec<u8>, Refusal>
+pub(crate) fn read_input<D: Desk>(
+    alloc: Global,
+    desk: &mut D,
+    name: &str,
+) -> Result<Vec<u8>, Refusal>
     ensures { Reads name.now (D.seen desk.old) (D.seen desk.new) (result_map_both (λ v. v.items) (λ e. e) result) }
 {
     match desk.fetch(alloc, name, READ_LIMIT) {
@@ -43,7 +47,7 @@ fn store_output<D: Desk>(
 
 /// Writes an output. The line of a write fault is made before the first byte is written, so that want of
 /// memory for it leaves every file as it was.
-pub fn write_output<D: Desk>(
+pub(crate) fn write_output<D: Desk>(
     alloc: Global,
     desk: &mut D,
     name: &str,
@@ -60,7 +64,7 @@ pub fn write_output<D: Desk>(
 
 /// Writes two outputs, one after the other. The lines of both write faults are made before the first byte is
 /// written. Where the second output is not written, the first stands whole.
-pub fn write_both<D: Desk>(
+pub(crate) fn write_both<D: Desk>(
     alloc: Global,
     desk: &mut D,
     name: &str,

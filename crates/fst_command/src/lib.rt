@@ -1,24 +1,20 @@
-//! The commands: what the words ask for, what each command reads, makes and writes, and the one line of a
-//! refusal.
+//! The commands: what the words ask for, what each command reads, makes and writes, and the one line of a refusal.
 //!
-//! [`run`] is the top call: it does all that the program does. Its clause, `Runs` of `specs/Outcome.antt`,
-//! names no command: each command adds its case to the definitions that it cites.
+//! [`run`] is the top call: it does all that the program does. Its clause, `Runs` of `specs/Outcome.antt`, names no
+//! command: what a command means is a page of `specs/` and a line in the table of `specs/Commands.antt`.
+//!
+//! There is one road for all commands: [`reading`] reads and judges each input, [`working`] chooses the type of weights,
+//! a module of [`commands`] does the command's own work on what it is given, and [`carrying`] stores what was made.
 #![tactic(auto)]
 
 mod carrying;
-mod composition;
-mod decoding;
-mod descriptions;
-mod encoding;
+mod commands;
 mod files;
-mod forms;
-mod joins;
-mod machines;
-mod operations;
-mod option_files;
+mod given;
+mod made;
+mod reading;
 mod refusal;
-mod replacement;
-mod summaries;
 mod top;
+mod working;
 
 pub use top::run;

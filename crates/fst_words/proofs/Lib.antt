@@ -9,3 +9,4 @@ pub mod PlannedFiles
 pub mod PlanLemmas
 pub mod PrefixLemmas
 pub mod InputLemmas
+pub mod Counts

@@ -1,8 +1,10 @@
 -- The inputs of a plan, in the order in which they are read: the files of the options come first.
-use Rattle.std.specs.Prelude.{ℕ, suc, List, [], ◌∷◌, ◌++◌, Option, Some, None}
+use Rattle.std.specs.Prelude.{ℕ, suc, ◌/◌, Bool, true, false, List, [], ◌∷◌, ◌++◌, length, Option, Some, None, if◌then◌else◌}
 use Rattle.fst_words.specs.declared.form.Role.{Role}
+use Rattle.fst_words.specs.declared.form.Role.TheVariants as roles
 use Rattle.fst_words.specs.declared.form.Role.TheVariants.{InputSymbols, OutputSymbols, InputPairs, OutputPairs}
 use Rattle.fst_words.specs.declared.form.Shape.{Shape}
+use Rattle.fst_words.specs.declared.form.Shape.TheVariants.{NoInput, Text, One, Two, Three, Rules, Codex}
 use Rattle.fst_words.specs.declared.inputs.Input as declared
 use Rattle.fst_words.specs.declared.options.Options.{Options}
 use Rattle.fst_words.specs.declared.plan.Plan.{Plan}
@@ -41,3 +43,73 @@ plan_inputs plan = option_inputs plan.options ++ own_inputs plan
 -- what an input holds
 abbrev pub input_seen : declared.Input → Input
 input_seen i = record { name = i.name.now; role = i.role }
+
+-- ---- how many there are
+
+-- a machine, as text or in the binary form
+abbrev pub is_machine : Role → Bool
+is_machine InputSymbols = false
+is_machine OutputSymbols = false
+is_machine InputPairs = false
+is_machine OutputPairs = false
+is_machine roles.Text = true
+is_machine roles.Machine = true
+is_machine roles.Codex = false
+is_machine roles.Lines = false
+
+-- a codex
+abbrev pub is_codex : Role → Bool
+is_codex InputSymbols = false
+is_codex OutputSymbols = false
+is_codex InputPairs = false
+is_codex OutputPairs = false
+is_codex roles.Text = false
+is_codex roles.Machine = false
+is_codex roles.Codex = true
+is_codex roles.Lines = false
+
+-- how many machines a command fetches, whether a codex, and how many files it stores, by the shape of its names
+abbrev pub machines_by : Shape → (names : ℕ) → ℕ
+machines_by NoInput names = 0
+machines_by Text names = 1
+machines_by One names = 1
+machines_by Two names = 2
+machines_by Three names = 2
+machines_by Rules names = names / 2
+machines_by Codex names = 1
+
+abbrev pub codex_by : Shape → (decode : Bool) → Bool
+codex_by NoInput decode = false
+codex_by Text decode = false
+codex_by One decode = false
+codex_by Two decode = false
+codex_by Three decode = false
+codex_by Rules decode = false
+codex_by Codex decode = decode
+
+abbrev pub stored_by : Shape → (decode : Bool) → ℕ
+stored_by NoInput decode = 1
+stored_by Text decode = 1
+stored_by One decode = 1
+stored_by Two decode = 1
+stored_by Three decode = 1
+stored_by Rules decode = 1
+stored_by Codex decode = if decode then 1 else 2
+
+abbrev pub machine_count : Plan → ℕ
+machine_count plan = machines_by (form_of plan.command).shape (length plan.names)
+
+abbrev pub has_codex : Plan → Bool
+has_codex plan = codex_by (form_of plan.command).shape plan.options.decode
+
+abbrev pub stored_count : Plan → ℕ
+stored_count plan = stored_by (form_of plan.command).shape plan.options.decode
+
+-- of inputs, the machines, and whether a codex is among them
+abbrev pub count_machines : List Input → ℕ
+count_machines [] = 0
+count_machines (i ∷ is) = if is_machine i.role then suc (count_machines is) else count_machines is
+
+abbrev pub any_codex : List Input → Bool
+any_codex [] = false
+any_codex (i ∷ is) = if is_codex i.role then true else any_codex is

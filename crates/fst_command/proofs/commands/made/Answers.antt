@@ -1,0 +1,28 @@
+use Rattle.std.proofs.Common.{◌≡◌, true, sym, ap, ◌∙◌, subst, arith}
+use Rattle.std.specs.Result.{result_map_both}
+use Rattle.fst_words.specs.declared.verb.Verb.{Verb}
+use Rattle.fst_words.specs.Plans.{is_replace, rule_labels}
+use Rattle.fst_words.proofs.Counts.{labels_all, rules_some}
+use Rattle.fst_command.specs.Commands.{meaning_by}
+use Rattle.fst_command.specs.Meaning.{Settles}
+use Rattle.fst_command.specs.Seeing.{given_seen, made_seen}
+use Rattle.fst_command.proofs.commands.made.Goals as goal
+
+pub replaced-requires-clause-some : goal.replaced-requires-clause-some
+replaced-requires-clause-some g c =
+    let plan = c.args.plan.now in
+    let rules : is_replace plan.command ≡ true = ap is_replace c.in-Replace.is in
+    omega (arith, rules_some plan c.requires.whole rules, c.requires.machines)
+
+pub replaced-requires-clause-all : goal.replaced-requires-clause-all
+replaced-requires-clause-all g c =
+    let plan = c.args.plan.now in
+    let rules : is_replace plan.command ≡ true = ap is_replace c.in-Replace.is in
+    c.requires.machines ∙ sym (labels_all plan c.requires.whole rules)
+
+pub returns-in-Replace : goal.returns-in-Replace
+returns-in-Replace g c =
+    let plan = c.args.plan.now in
+    let kind = g.W.Weight.KIND in
+    let value = g.W.Weight.value in
+    subst (λ (v : Verb). Settles (meaning_by v (rule_labels plan) plan.options) (given_seen kind value c.args.given) (result_map_both (made_seen kind value) (λ e. e) c.replaced.result)) (sym c.in-Replace.is) c.replaced.ensures

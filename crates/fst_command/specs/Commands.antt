@@ -1,0 +1,49 @@
+-- The table of meanings: a line for each command.
+use Rattle.std.specs.Prelude.{ℕ, List}
+use Rattle.fst_words.specs.declared.options.Options.{Options}
+use Rattle.fst_words.specs.declared.plan.Plan.{Plan}
+use Rattle.fst_words.specs.declared.verb.Verb.{Verb}
+use Rattle.fst_words.specs.declared.verb.Verb.TheVariants.{Compile, Print, Info, Invert, Reverse, Connect, Union, Concat, Closure, Project, Replace, Relabel, Arcsort, Compose, Rmepsilon, Shortestdistance, Shortestpath, Push, Encode, Determinize, Minimize, Batch, Make}
+use Rattle.fst_words.specs.Plans.{rule_labels}
+use Rattle.fst_command.specs.Meaning.{Meaning, never}
+use Rattle.fst_command.specs.Coding.{encode_meaning}
+use Rattle.fst_command.specs.Composing.{compose_meaning}
+use Rattle.fst_command.specs.Describing.{info_meaning}
+use Rattle.fst_command.specs.Rational.{closure_meaning, concat_meaning, invert_meaning, project_meaning, relabel_meaning, reverse_meaning, union_meaning}
+use Rattle.fst_command.specs.Replacing.{replace_meaning}
+use Rattle.fst_command.specs.Texts.{compile_meaning, print_meaning}
+use Rattle.fst_command.specs.Trimming.{arcsort_meaning, connect_meaning}
+
+-- a command that is not built: its words are refused before it is given anything
+abbrev pub unbuilt : Meaning
+unbuilt = record { stops = λ given. never; makes = λ given made. ⊥ }
+
+-- by the command, the labels of rules and the options
+abbrev pub meaning_by : Verb → List ℕ → Options → Meaning
+meaning_by Compile labels o = compile_meaning
+meaning_by Print labels o = print_meaning o
+meaning_by Info labels o = info_meaning
+meaning_by Invert labels o = invert_meaning
+meaning_by Reverse labels o = reverse_meaning
+meaning_by Connect labels o = connect_meaning
+meaning_by Union labels o = union_meaning
+meaning_by Concat labels o = concat_meaning
+meaning_by Closure labels o = closure_meaning o
+meaning_by Project labels o = project_meaning o
+meaning_by Replace labels o = replace_meaning labels
+meaning_by Relabel labels o = relabel_meaning
+meaning_by Arcsort labels o = arcsort_meaning o
+meaning_by Compose labels o = compose_meaning o
+meaning_by Rmepsilon labels o = unbuilt
+meaning_by Shortestdistance labels o = unbuilt
+meaning_by Shortestpath labels o = unbuilt
+meaning_by Push labels o = unbuilt
+meaning_by Encode labels o = encode_meaning o
+meaning_by Determinize labels o = unbuilt
+meaning_by Minimize labels o = unbuilt
+meaning_by Batch labels o = unbuilt
+meaning_by Make labels o = unbuilt
+
+-- what a plan means
+abbrev pub meaning_for : Plan → Meaning
+meaning_for plan = meaning_by plan.command (rule_labels plan) plan.options

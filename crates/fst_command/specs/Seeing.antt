@@ -1,0 +1,57 @@
+-- What the code holds, seen as what the definitions speak of.
+use Rattle.std.specs.Prelude.{ℕ, List, [], ◌∷◌, None, map}
+use Rattle.std.specs.Option.{option_map}
+use Rattle.fst_semiring.specs.declared.arc_type.ArcType.{ArcType}
+use Rattle.fst_semiring.specs.Cost.{Cost}
+use Rattle.fst_machine.specs.Machine.{Machine, valued}
+use Rattle.fst_codex.specs.Table.{valued_table}
+use Rattle.fst_any.specs.Typed.{typed, typed_codex}
+use Rattle.fst_command.specs.Given.{Given, Held}
+use Rattle.fst_command.specs.Meaning.{Made, coded, machine, text}
+use Rattle.fst_command.specs.declared.given.Held.{Held as DeclaredHeld}
+use Rattle.fst_command.specs.declared.given.Given.{Given as DeclaredGiven}
+use Rattle.fst_command.specs.declared.made.Made.{Made as DeclaredMade}
+use Rattle.fst_command.specs.declared.made.Made.TheVariants as made
+use Rattle.fst_command.specs.declared.made.Bytes.{Bytes}
+use Rattle.fst_command.specs.declared.made.Bytes.TheVariants as bytes
+
+-- what was read
+abbrev pub held_seen : DeclaredHeld → Held
+held_seen h = record {
+  isymbols = h.isymbols;
+  osymbols = h.osymbols;
+  ipairs = h.ipairs;
+  opairs = h.opairs;
+  lines = h.lines.items;
+  machines = map typed h.machines.items;
+  codex = option_map typed_codex h.codex;
+}
+
+-- what a command is given
+abbrev pub given_seen : {W X : Type 0} → ArcType → (W → Cost) → DeclaredGiven W X → Given
+given_seen kind value g = record {
+  kind = kind;
+  isymbols = g.isymbols;
+  osymbols = g.osymbols;
+  ipairs = g.ipairs;
+  opairs = g.opairs;
+  lines = g.lines.items;
+  machines = map (valued value) g.machines.items;
+  codex = option_map (valued_table value) g.codex;
+}
+
+-- what it makes
+abbrev pub made_seen : {W X : Type 0} → ArcType → (W → Cost) → DeclaredMade W X → Made
+made_seen kind value (made.Machine m) = machine kind (valued value m)
+made_seen kind value (made.Text bytes) = text bytes.items
+made_seen kind value (made.Coded table m) = coded kind (valued_table value table) (valued value m)
+
+-- the bytes of its outputs
+abbrev pub bytes_seen : Bytes → List (List ℕ)
+bytes_seen (bytes.One first) = first.items ∷ []
+bytes_seen (bytes.Two first second) = first.items ∷ second.items ∷ []
+
+-- what a command is given where it is machines alone, and where the new labels of both sides, the symbol tables, or a
+-- codex stand beside them
+abbrev pub just : ArcType → List (Machine Cost) → Given
+just kind machines = record { kind = kind; isymbols = None; osymbols = None; ipairs = []; opairs = []; lines = []; machines = machines; codex = None }

@@ -1,0 +1,64 @@
+//! What each command makes of what it is given: the table of `specs/Commands.antt` in code.
+
+ghost use Rattle.std.specs.Prelude.{◌≡◌, IsSome, length, true};
+ghost use Rattle.std.specs.Result.{result_map_both};
+ghost use Rattle.fst_words.specs.Inputs.{has_codex, machine_count};
+ghost use Rattle.fst_words.specs.PlanLaws.{IsWhole};
+ghost use Rattle.fst_command.specs.Commands.{meaning_for};
+ghost use Rattle.fst_command.specs.Meaning.{Settles};
+ghost use Rattle.fst_command.specs.Plans.{is_built};
+ghost use Rattle.fst_command.specs.Seeing.{given_seen, made_seen};
+
+mod coding;
+mod composing;
+mod describing;
+mod rational;
+mod replacing;
+mod texts;
+mod trimming;
+
+use crate::given::Given;
+use crate::made::Made;
+use crate::refusal::Refusal;
+use fst_semiring::Weight;
+use fst_words::{Plan, Verb};
+use std::alloc::Global;
+
+/// What a command makes of what it is given, or why it makes nothing.
+pub(crate) fn made<W: Weight>(
+    alloc: Global,
+    plan: &Plan,
+    given: Given<W>,
+) -> Result<Made<W>, Refusal>
+    requires built { is_built plan.now.command ≡ true }
+    requires whole { IsWhole plan.now }
+    requires machines { length given.machines.items ≡ machine_count plan.now }
+    requires codex { has_codex plan.now ≡ true → IsSome given.codex }
+    ensures { Settles (meaning_for plan.now) (given_seen W.KIND W.value given) (result_map_both (made_seen W.KIND W.value) (λ e. e) result) }
+{
+    match plan.command {
+        Verb::Compile => texts::compiled(given),
+        Verb::Print => texts::printed(alloc, &plan.options, given),
+        Verb::Info => describing::described(alloc, given),
+        Verb::Invert => rational::inverted(alloc, given),
+        Verb::Reverse => rational::reversed(alloc, given),
+        Verb::Connect => trimming::connected(alloc, given),
+        Verb::Union => rational::united(alloc, given),
+        Verb::Concat => rational::concatenated(alloc, given),
+        Verb::Closure => rational::closed(alloc, &plan.options, given),
+        Verb::Project => rational::projected(alloc, &plan.options, given),
+        Verb::Replace => replacing::replaced(alloc, plan, given),
+        Verb::Relabel => rational::relabelled(alloc, given),
+        Verb::Arcsort => trimming::sorted(alloc, &plan.options, given),
+        Verb::Compose => composing::composed(alloc, &plan.options, given),
+        Verb::Encode => coding::coded(alloc, &plan.options, given),
+        Verb::Rmepsilon
+        | Verb::Shortestdistance
+        | Verb::Shortestpath
+        | Verb::Push
+        | Verb::Determinize
+        | Verb::Minimize
+        | Verb::Batch
+        | Verb::Make => unreachable!(),
+    }
+}

@@ -1,0 +1,77 @@
+//! `compose`.
+
+ghost use Rattle.std.specs.Prelude.{◌≡◌, ◌<◌, ◌≤◌, length};
+ghost use Rattle.std.specs.Result.{result_map_both};
+ghost use Rattle.fst_machine.specs.Machine.{most_states};
+ghost use Rattle.fst_words.specs.PlanLaws.{HasNumbersInRange};
+ghost use Rattle.fst_compose.specs.Faults.{compose_text};
+ghost use Rattle.fst_command.specs.Causes.{faulty, refused, unmade};
+ghost use Rattle.fst_command.specs.Composing.{compose_meaning, connects, state_limit};
+ghost use Rattle.fst_command.specs.Meaning.{Settles};
+ghost use Rattle.fst_command.specs.Seeing.{given_seen, made_seen};
+ghost use Rattle.fst_command.specs.Told.{IsMade};
+
+use crate::given::Given;
+use crate::made::Made;
+use crate::refusal::{Refusal, unmade};
+use fst_compose::{ComposeFault, compose};
+use fst_semiring::Weight;
+use fst_trim::connect;
+use fst_words::Options;
+use std::alloc::Global;
+
+/// The most states of a composition before it is connected: 1,000,000 without the option.
+fn limit_of(options: &Options) -> u32
+    requires { HasNumbersInRange options.now }
+    ensures value { result ≡ state_limit options.now }
+    ensures some { 0 < result }
+    ensures few { result ≤ most_states }
+{
+    match options.max_states {
+        Some(limit) => limit as u32,
+        None => 1_000_000,
+    }
+}
+
+/// Whether a composition is connected, as it is without the option.
+fn is_connected(options: &Options) -> bool
+    ensures { result ≡ connects options.now }
+{
+    match &options.connect {
+        Some(word) => word.text() == "true",
+        None => true,
+    }
+}
+
+/// The machines have no composition.
+fn uncomposed(alloc: Global, fault: ComposeFault) -> Refusal
+    ensures made { IsMade (refused (faulty (unmade (compose_text fault)))) result }
+    ensures memory { fault ≡ ComposeFault.Memory → result ≡ Refusal.Memory }
+{
+    match fault {
+        ComposeFault::Memory => Refusal::Memory,
+        _ => unmade(alloc, fault),
+    }
+}
+
+/// `compose`.
+pub(crate) fn composed<W: Weight>(
+    alloc: Global,
+    options: &Options,
+    given: Given<W>,
+) -> Result<Made<W>, Refusal>
+    requires two { length given.machines.items ≡ 2 }
+    requires numbers { HasNumbersInRange options.now }
+    ensures { Settles (compose_meaning options.now) (given_seen W.KIND W.value given) (result_map_both (made_seen W.KIND W.value) (λ e. e) result) }
+{
+    let (first, second) = given.two();
+    let whole = match compose(alloc, &first, &second, limit_of(options)) {
+        Ok(made) => made.fst,
+        Err(fault) => return Err(uncomposed(alloc, fault)),
+    };
+    if is_connected(options) {
+        Ok(Made::Machine(connect(alloc, &whole)?))
+    } else {
+        Ok(Made::Machine(whole))
+    }
+}

@@ -1,0 +1,55 @@
+//! `compile` and `print`.
+
+ghost use Rattle.std.specs.Prelude.{◌≡◌, length};
+ghost use Rattle.std.specs.Result.{result_map_both};
+ghost use Rattle.fst_text.specs.Faults.{print_text};
+ghost use Rattle.fst_command.specs.Causes.{faulty, refused, unmade};
+ghost use Rattle.fst_command.specs.Meaning.{Settles};
+ghost use Rattle.fst_command.specs.Seeing.{given_seen, made_seen};
+ghost use Rattle.fst_command.specs.Texts.{compile_meaning, print_meaning};
+ghost use Rattle.fst_command.specs.Told.{IsMade};
+
+use crate::given::{Given, one};
+use crate::made::Made;
+use crate::reading::choices;
+use crate::refusal::{Refusal, unmade};
+use fst_semiring::Weight;
+use fst_text::{PrintFault, print};
+use fst_words::Options;
+use std::alloc::Global;
+
+/// The machine has no text.
+fn unprinted(alloc: Global, fault: PrintFault) -> Refusal
+    ensures made { IsMade (refused (faulty (unmade (print_text fault)))) result }
+    ensures memory { fault ≡ PrintFault.Memory → result ≡ Refusal.Memory }
+{
+    match fault {
+        PrintFault::Memory => Refusal::Memory,
+        _ => unmade(alloc, fault),
+    }
+}
+
+/// `compile`: the machine of the text, as it was read.
+pub(crate) fn compiled<W: Weight>(given: Given<W>) -> Result<Made<W>, Refusal>
+    requires { length given.machines.items ≡ 1 }
+    ensures { Settles compile_meaning (given_seen W.KIND W.value given) (result_map_both (made_seen W.KIND W.value) (λ e. e) result) }
+{
+    Ok(Made::Machine(given.one()))
+}
+
+/// `print`.
+pub(crate) fn printed<W: Weight>(
+    alloc: Global,
+    options: &Options,
+    given: Given<W>,
+) -> Result<Made<W>, Refusal>
+    requires { length given.machines.items ≡ 1 }
+    ensures { Settles (print_meaning options.now) (given_seen W.KIND W.value given) (result_map_both (made_seen W.KIND W.value) (λ e. e) result) }
+{
+    let machine = one(given.machines);
+    let choices = choices(options, &given.isymbols, &given.osymbols);
+    match print(alloc, &machine, &choices) {
+        Ok(text) => Ok(Made::Text(text)),
+        Err(fault) => Err(unprinted(alloc, fault)),
+    }
+}

@@ -1,0 +1,183 @@
+//! What a command is given.
+
+ghost use Rattle.std.specs.Prelude.{◌≡◌, [], ◌∷◌, None, length, map};
+ghost use Rattle.std.specs.Option.{option_map};
+ghost use Rattle.fst_machine.specs.Machine.{valued};
+ghost use Rattle.fst_codex.specs.Table.{valued_table};
+ghost use Rattle.fst_any.specs.Taken.{machines_as};
+ghost use Rattle.fst_any.specs.Typed.{typed, typed_codex};
+ghost use Rattle.fst_command.specs.Causes.{kinds_differ};
+ghost use Rattle.fst_command.specs.Given.{arc_type_of, codex_at, given_at, kind_of, nothing, telling};
+ghost use Rattle.fst_command.specs.Seeing.{given_seen, held_seen};
+ghost use Rattle.fst_command.specs.Told.{Judges};
+
+use crate::refusal::{Refusal, kinds_apart};
+use fst_any::{AnyCodex, AnyFst, Kinded, OtherKind, machines_of};
+use fst_codex::Codex;
+use fst_machine::Fst;
+use fst_rational::Pairs;
+use fst_semiring::{ArcType, Weight};
+use fst_symbols::SymbolTable;
+use fst_words::Options;
+use std::alloc::Global;
+
+/// What was read, each machine with its arc type.
+#[derive(Drop)]
+pub(crate) struct Held {
+    /// The names of the labels of the input side.
+    pub(crate) isymbols: Option<SymbolTable>,
+    /// Those of the output side.
+    pub(crate) osymbols: Option<SymbolTable>,
+    /// The new labels of the input side.
+    pub(crate) ipairs: Pairs,
+    /// Those of the output side.
+    pub(crate) opairs: Pairs,
+    /// Lines.
+    pub(crate) lines: Vec<u8>,
+    /// The machines, in the order in which they were read.
+    pub(crate) machines: Vec<AnyFst>,
+    /// The codex.
+    pub(crate) codex: Option<AnyCodex>,
+}
+
+/// What a command is given: the files of its options, and what it works on, all of one arc type.
+#[derive(Drop)]
+pub(crate) struct Given<W: Weight> {
+    /// The names of the labels of the input side.
+    pub(crate) isymbols: Option<SymbolTable>,
+    /// Those of the output side.
+    pub(crate) osymbols: Option<SymbolTable>,
+    /// The new labels of the input side.
+    pub(crate) ipairs: Pairs,
+    /// Those of the output side.
+    pub(crate) opairs: Pairs,
+    /// Lines.
+    pub(crate) lines: Vec<u8>,
+    /// The machines, in the order in which they were read.
+    pub(crate) machines: Vec<Fst<W>>,
+    /// The codex.
+    pub(crate) codex: Option<Codex<W>>,
+}
+
+/// The arc type of a machine that is made without a machine: tropical without the option.
+pub(crate) fn arc_type_of(options: &Options) -> ArcType
+    ensures { result ≡ arc_type_of options.now }
+{
+    match options.arc_type {
+        Some(kind) => kind,
+        None => ArcType::Tropical,
+    }
+}
+
+impl Held {
+    /// Nothing was read. Takes no memory.
+    pub(crate) fn new(alloc: Global) -> Held
+        ensures { held_seen result ≡ nothing }
+    {
+        Held {
+            isymbols: None,
+            osymbols: None,
+            ipairs: Pairs::new(alloc),
+            opairs: Pairs::new(alloc),
+            lines: Vec::new(alloc),
+            machines: Vec::new(alloc),
+            codex: None,
+        }
+    }
+
+    /// The arc type: that of the first machine, or of the options where there is none.
+    pub(crate) fn kind(&self, options: &Options) -> ArcType
+        ensures { result ≡ kind_of options.now (map typed self.now.machines.items) }
+    {
+        match self.machines.first() {
+            Some(machine) => machine.kind(),
+            None => arc_type_of(options),
+        }
+    }
+}
+
+/// The machines, where all have the arc type of the weights.
+fn alike_machines<W: Kinded>(alloc: Global, list: Vec<AnyFst>) -> Result<Vec<Fst<W>>, Refusal>
+    ensures { Judges (λ v. map (valued W.value) v.items) result (telling (kinds_differ W.KIND) (machines_as W.KIND (map typed list.items))) }
+{
+    match machines_of::<W>(alloc, list) {
+        Ok(machines) => Ok(machines),
+        Err(OtherKind::Other(other)) => Err(kinds_apart(alloc, W::KIND, other)),
+        Err(OtherKind::Memory) => Err(Refusal::Memory),
+    }
+}
+
+/// The codex, where it has the arc type of the weights.
+fn alike_codex<W: Kinded>(alloc: Global, any: Option<AnyCodex>) -> Result<Option<Codex<W>>, Refusal>
+    ensures { Judges (λ c. option_map (valued_table W.value) c) result (telling (kinds_differ W.KIND) (codex_at W.KIND (option_map typed_codex any))) }
+{
+    match any {
+        None => Ok(None),
+        Some(any) => match W::codex(any) {
+            Ok(codex) => Ok(Some(codex)),
+            Err(other) => Err(kinds_apart(alloc, W::KIND, other)),
+        },
+    }
+}
+
+/// What was read, all of the arc type of the weights. The first machine of another arc type, or else a codex of another,
+/// is a refusal.
+#[tactic(auto, unfolding(crate::specs::Given::given_at))]
+pub(crate) fn alike<W: Kinded>(alloc: Global, held: Held) -> Result<Given<W>, Refusal>
+    ensures { Judges (λ given. given_seen W.KIND W.value given) result (given_at W.KIND (held_seen held)) }
+{
+    let machines = alike_machines::<W>(alloc, held.machines)?;
+    let codex = alike_codex::<W>(alloc, held.codex)?;
+    Ok(Given {
+        isymbols: held.isymbols,
+        osymbols: held.osymbols,
+        ipairs: held.ipairs,
+        opairs: held.opairs,
+        lines: held.lines,
+        machines,
+        codex,
+    })
+}
+
+/// The one machine of a list.
+pub(crate) fn one<W: Weight>(list: Vec<Fst<W>>) -> Fst<W>
+    requires { length list.items ≡ 1 }
+    ensures { list.items ≡ result ∷ [] }
+{
+    let mut list = list;
+    match list.pop() {
+        Some(machine) => machine,
+        None => unreachable!(),
+    }
+}
+
+/// The two machines of a list.
+fn two<W: Weight>(list: Vec<Fst<W>>) -> (Fst<W>, Fst<W>)
+    requires { length list.items ≡ 2 }
+    ensures { list.items ≡ result.0 ∷ result.1 ∷ [] }
+{
+    let mut list = list;
+    let second = match list.pop() {
+        Some(machine) => machine,
+        None => unreachable!(),
+    };
+    (one(list), second)
+}
+
+impl<W: Weight> Given<W> {
+    /// The one machine. All else is freed.
+    pub(crate) fn one(self) -> Fst<W>
+        requires { length self.machines.items ≡ 1 }
+        ensures { self.machines.items ≡ result ∷ [] }
+    {
+        one(self.machines)
+    }
+
+    /// The two machines. All else is freed.
+    pub(crate) fn two(self) -> (Fst<W>, Fst<W>)
+        requires { length self.machines.items ≡ 2 }
+        ensures { self.machines.items ≡ result.0 ∷ result.1 ∷ [] }
+    {
+        two(self.machines)
+    }
+}

@@ -1,0 +1,46 @@
+//! What a command makes, and its bytes.
+
+ghost use Rattle.std.specs.Prelude.{◌≡◌, IfOk};
+ghost use Rattle.fst_command.specs.Meaning.{bytes_of};
+ghost use Rattle.fst_command.specs.Seeing.{bytes_seen, made_seen};
+
+use fst_binary::encode;
+use fst_codex::{Codex, write_codex};
+use fst_machine::Fst;
+use fst_semiring::Weight;
+use std::alloc::{AllocError, Global};
+
+/// What a command makes.
+#[derive(Drop)]
+pub(crate) enum Made<W: Weight> {
+    /// A machine.
+    Machine(Fst<W>),
+    /// A text.
+    Text(Vec<u8>),
+    /// A codex and a machine.
+    Coded(Codex<W>, Fst<W>),
+}
+
+/// The bytes of the outputs of a command, in the order in which they are stored.
+#[derive(Drop)]
+pub(crate) enum Bytes {
+    /// Those of one output.
+    One(Vec<u8>),
+    /// Those of two.
+    Two(Vec<u8>, Vec<u8>),
+}
+
+/// The bytes of what a command makes. A codex is freed when the machine beside it is written.
+pub(crate) fn bytes_of<W: Weight>(alloc: Global, made: Made<W>) -> Result<Bytes, AllocError>
+    ensures { IfOk result (λ bytes. bytes_seen bytes ≡ bytes_of (made_seen W.KIND W.value made)) }
+{
+    match made {
+        Made::Machine(machine) => Ok(Bytes::One(encode(alloc, &machine)?)),
+        Made::Text(text) => Ok(Bytes::One(text)),
+        Made::Coded(codex, machine) => {
+            let first = write_codex(alloc, &codex)?;
+            drop(codex);
+            Ok(Bytes::Two(first, encode(alloc, &machine)?))
+        }
+    }
+}

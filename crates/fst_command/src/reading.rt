@@ -1,0 +1,236 @@
+//! Reading the inputs of a command, each fetched and judged before the next.
+
+ghost use Rattle.std.specs.Prelude.{◌≡◌, codes};
+ghost use Rattle.std.specs.Result.{result_map_both};
+ghost use Rattle.fst_any.specs.Typed.{typed, typed_codex};
+ghost use Rattle.fst_binary.specs.Faults as binary;
+ghost use Rattle.fst_codex.specs.Faults as codices;
+ghost use Rattle.fst_rational.specs.Faults as pairs;
+ghost use Rattle.fst_symbols.specs.Faults as symbols;
+ghost use Rattle.fst_text.specs.Faults as texts;
+ghost use Rattle.fst_words.specs.Inputs.{input_seen};
+ghost use Rattle.fst_command.specs.Causes.{faulty, misread, refused};
+ghost use Rattle.fst_command.specs.Given.{arc_type_of, choices_by, codex_in, machine_in, pairs_in, put, table_in, text_in};
+ghost use Rattle.fst_command.specs.Seeing.{held_seen};
+ghost use Rattle.fst_command.specs.Steps.{ReadsAll, StepAnswer};
+ghost use Rattle.fst_command.specs.Told.{IsMade, Judges};
+
+use crate::files::read_input;
+use crate::given::{Held, arc_type_of};
+use crate::refusal::{Refusal, misread};
+use fst_any::{AnyCodex, AnyFst, compile_any, decode_any, read_any_codex};
+use fst_binary::{BinaryFault, BinaryKind};
+use fst_codex::{CodexFault, CodexKind};
+use fst_desk::Desk;
+use fst_rational::{Pairs, PairsFault};
+use fst_symbols::{SymbolTable, SymbolsFault};
+use fst_text::{TextFault, TextOptions};
+use fst_words::{Input, Options, Plan, Role};
+use std::alloc::Global;
+
+/// A content is not of its form, at a line.
+fn not_at_line(alloc: Global, name: &str, line: u64, reason: &'static str) -> Refusal
+    ensures { IsMade (refused (faulty (misread name.now (codes "line") line reason.now))) result }
+{
+    misread(alloc, name, "line", line, reason)
+}
+
+/// A content is no symbol table.
+fn not_symbols(alloc: Global, name: &str, fault: SymbolsFault) -> Refusal
+    ensures made { IsMade (refused (faulty (misread name.now (codes "line") (symbols.line_of fault) (symbols.reason_of fault)))) result }
+    ensures memory { fault ≡ SymbolsFault.Memory → result ≡ Refusal.Memory }
+{
+    match fault {
+        SymbolsFault::Memory => Refusal::Memory,
+        _ => not_at_line(alloc, name, fault.line(), fault.reason()),
+    }
+}
+
+/// The symbol table of a content.
+#[tactic(auto, unfolding(crate::specs::Given::table_in))]
+fn read_table(alloc: Global, name: &str, content: &[u8]) -> Result<SymbolTable, Refusal>
+    ensures { Judges (λ table. table) result (table_in name.now content.now) }
+{
+    match SymbolTable::read(alloc, content) {
+        Ok(table) => Ok(table),
+        Err(fault) => Err(not_symbols(alloc, name, fault)),
+    }
+}
+
+/// A content has no pairs of labels.
+fn not_pairs(alloc: Global, name: &str, fault: PairsFault) -> Refusal
+    ensures made { IsMade (refused (faulty (misread name.now (codes "line") (pairs.line_of fault) (pairs.reason_of fault)))) result }
+    ensures memory { fault ≡ PairsFault.Memory → result ≡ Refusal.Memory }
+{
+    match fault {
+        PairsFault::Memory => Refusal::Memory,
+        _ => not_at_line(alloc, name, fault.line(), fault.reason()),
+    }
+}
+
+/// The pairs of labels of a content.
+#[tactic(auto, unfolding(crate::specs::Given::pairs_in))]
+fn read_pairs(alloc: Global, name: &str, content: &[u8]) -> Result<Pairs, Refusal>
+    ensures { Judges (λ pairs. pairs) result (pairs_in name.now content.now) }
+{
+    match fst_rational::read_pairs(alloc, content) {
+        Ok(pairs) => Ok(pairs),
+        Err(fault) => Err(not_pairs(alloc, name, fault)),
+    }
+}
+
+/// How texts are read and printed.
+pub(crate) fn choices<'t>(
+    options: &Options,
+    isymbols: &'t Option<SymbolTable>,
+    osymbols: &'t Option<SymbolTable>,
+) -> TextOptions<'t>
+    ensures { result ≡ choices_by options.now isymbols.entry.now osymbols.entry.now }
+{
+    TextOptions {
+        acceptor: options.acceptor,
+        keep_state_numbering: options.keep_state_numbering,
+        show_weight_one: options.show_weight_one,
+        isymbols: isymbols.as_ref(),
+        osymbols: osymbols.as_ref(),
+    }
+}
+
+/// A content is no text of a machine.
+fn not_text(alloc: Global, name: &str, fault: TextFault) -> Refusal
+    ensures made { IsMade (refused (faulty (misread name.now (codes "line") (texts.line_of fault) (texts.reason_of fault)))) result }
+    ensures memory { fault ≡ TextFault.Memory → result ≡ Refusal.Memory }
+{
+    match fault {
+        TextFault::Memory => Refusal::Memory,
+        _ => not_at_line(alloc, name, fault.line(), fault.reason()),
+    }
+}
+
+/// The machine of a text, read by the tables that stand there.
+#[tactic(auto, unfolding(crate::specs::Given::text_in))]
+fn read_text(
+    alloc: Global,
+    options: &Options,
+    held: &Held,
+    name: &str,
+    content: &[u8],
+) -> Result<AnyFst, Refusal>
+    ensures { Judges (λ m. typed m) result (text_in (arc_type_of options.now) (choices_by options.now held.now.isymbols held.now.osymbols) name.now content.now) }
+{
+    let kind = arc_type_of(options);
+    let choices = choices(options, &held.isymbols, &held.osymbols);
+    match compile_any(alloc, kind, content, &choices) {
+        Ok(machine) => Ok(machine),
+        Err(fault) => Err(not_text(alloc, name, fault)),
+    }
+}
+
+/// A content is no binary form of a machine.
+fn not_binary(alloc: Global, name: &str, fault: BinaryFault) -> Refusal
+    ensures made { IsMade (refused (faulty (misread name.now (codes "byte") fault.offset (binary.reason_of fault.kind)))) result }
+    ensures memory { fault.kind ≡ BinaryKind.Memory → result ≡ Refusal.Memory }
+{
+    match fault.kind {
+        BinaryKind::Memory => Refusal::Memory,
+        kind => misread(alloc, name, "byte", fault.offset, kind.reason()),
+    }
+}
+
+/// The machine of a content in the binary form.
+#[tactic(auto, unfolding(crate::specs::Given::machine_in))]
+fn read_machine(alloc: Global, name: &str, content: &[u8]) -> Result<AnyFst, Refusal>
+    ensures { Judges (λ m. typed m) result (machine_in name.now content.now) }
+{
+    match decode_any(alloc, content) {
+        Ok(machine) => Ok(machine),
+        Err(fault) => Err(not_binary(alloc, name, fault)),
+    }
+}
+
+/// A content is no codex.
+fn not_codex(alloc: Global, name: &str, fault: CodexFault) -> Refusal
+    ensures made { IsMade (refused (faulty (misread name.now (codes "byte") fault.offset (codices.reason_of fault.kind)))) result }
+    ensures memory { fault.kind ≡ CodexKind.Memory → result ≡ Refusal.Memory }
+{
+    match fault.kind {
+        CodexKind::Memory => Refusal::Memory,
+        kind => misread(alloc, name, "byte", fault.offset, kind.reason()),
+    }
+}
+
+/// The codex of a content.
+#[tactic(auto, unfolding(crate::specs::Given::codex_in))]
+fn read_codex(alloc: Global, name: &str, content: &[u8]) -> Result<AnyCodex, Refusal>
+    ensures { Judges (λ c. typed_codex c) result (codex_in name.now content.now) }
+{
+    match read_any_codex(alloc, content) {
+        Ok(codex) => Ok(codex),
+        Err(fault) => Err(not_codex(alloc, name, fault)),
+    }
+}
+
+/// Puts what a content stands for beside what stands there, by what the input is for.
+#[tactic(auto, unfolding(crate::specs::Given::put))]
+fn put(
+    alloc: Global,
+    options: &Options,
+    role: Role,
+    name: &str,
+    content: &[u8],
+    held: &mut Held,
+) -> Result<(), Refusal>
+    ensures { Judges (λ u. held_seen held.new) result (put options.now role name.now content.now (held_seen held.old)) }
+{
+    match role {
+        Role::InputSymbols => held.isymbols = Some(read_table(alloc, name, content)?),
+        Role::OutputSymbols => held.osymbols = Some(read_table(alloc, name, content)?),
+        Role::InputPairs => held.ipairs = read_pairs(alloc, name, content)?,
+        Role::OutputPairs => held.opairs = read_pairs(alloc, name, content)?,
+        Role::Text => {
+            let machine = read_text(alloc, options, held, name, content)?;
+            held.machines.push(machine)?;
+        }
+        Role::Machine => {
+            let machine = read_machine(alloc, name, content)?;
+            held.machines.push(machine)?;
+        }
+        Role::Codex => held.codex = Some(read_codex(alloc, name, content)?),
+        Role::Lines => held.lines = Vec::from_slice(alloc, content)?,
+    }
+    Ok(())
+}
+
+/// Fetches an input, and puts what it stands for beside what stands there.
+fn read_one<D: Desk>(
+    alloc: Global,
+    desk: &mut D,
+    options: &Options,
+    input: Input,
+    held: &mut Held,
+) -> Result<(), Refusal>
+    ensures { StepAnswer (input_seen input.entry) options.now (held_seen held.old) (held_seen held.new) (D.seen desk.old) (D.seen desk.new) result }
+{
+    let name = input.name.text();
+    let content = read_input(alloc, desk, name)?;
+    put(alloc, options, input.role, name, content.as_slice(), held)
+}
+
+/// Reads all inputs of a command, the files of its options first. Each is fetched once, and judged and freed before the
+/// next is fetched; the first that is too long or has a fault is the refusal.
+pub(crate) fn read_all<D: Desk>(alloc: Global, desk: &mut D, plan: &Plan) -> Result<Held, Refusal>
+    ensures { ReadsAll plan.now (D.seen desk.old) (D.seen desk.new) (result_map_both held_seen (λ e. e) result) }
+{
+    let inputs = match plan.inputs(alloc) {
+        Ok(inputs) => inputs,
+        Err(_) => return Err(Refusal::Memory),
+    };
+    let mut held = Held::new(alloc);
+    for place in 0..inputs.len() {
+        match read_one(alloc, desk, &plan.options, inputs[place], &mut held) {
+            Ok(()) => {}
+            Err(refusal) => return Err(refusal),
+        }
+    }
+    Ok(held)
+}

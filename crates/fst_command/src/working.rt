@@ -1,0 +1,59 @@
+//! The one choice of a type of weights, and the work that is done with it.
+
+ghost use Rattle.std.specs.Prelude.{◌≡◌, IsSome, length, map, true};
+ghost use Rattle.std.specs.Result.{result_map_both};
+ghost use Rattle.fst_any.specs.Typed.{typed};
+ghost use Rattle.fst_words.specs.Inputs.{has_codex, machine_count};
+ghost use Rattle.fst_words.specs.PlanLaws.{IsWhole};
+ghost use Rattle.fst_command.specs.Given.{kind_of};
+ghost use Rattle.fst_command.specs.Plans.{is_built};
+ghost use Rattle.fst_command.specs.Seeing.{bytes_seen, held_seen};
+ghost use Rattle.fst_command.specs.Steps.{Decides};
+
+use crate::commands::made;
+use crate::given::{Given, Held, alike};
+use crate::made::{Bytes, bytes_of};
+use crate::refusal::Refusal;
+use fst_any::Kinded;
+use fst_semiring::{ArcType, Boolean, Lexicographic, MinMax, Tropical};
+use fst_words::Plan;
+use std::alloc::Global;
+
+/// The bytes of what a command makes of what was read, whose arc type is that of the weights.
+fn worked_as<W: Kinded>(alloc: Global, plan: &Plan, held: Held) -> Result<Bytes, Refusal>
+    requires built { is_built plan.now.command ≡ true }
+    requires whole { IsWhole plan.now }
+    requires kind { kind_of plan.now.options (map typed held.machines.items) ≡ W.KIND }
+    requires machines { length held.machines.items ≡ machine_count plan.now }
+    requires codex { has_codex plan.now ≡ true → IsSome held.codex }
+    ensures { Decides plan.now (held_seen held) (result_map_both bytes_seen (λ e. e) result) }
+{
+    let given: Given<W> = match alike(alloc, held) {
+        Ok(given) => given,
+        Err(refusal) => return Err(refusal),
+    };
+    let made = match made(alloc, plan, given) {
+        Ok(made) => made,
+        Err(refusal) => return Err(refusal),
+    };
+    match bytes_of(alloc, made) {
+        Ok(bytes) => Ok(bytes),
+        Err(_) => Err(Refusal::Memory),
+    }
+}
+
+/// The bytes of what a command makes of what was read.
+pub(crate) fn worked(alloc: Global, plan: &Plan, held: Held) -> Result<Bytes, Refusal>
+    requires built { is_built plan.now.command ≡ true }
+    requires whole { IsWhole plan.now }
+    requires machines { length held.machines.items ≡ machine_count plan.now }
+    requires codex { has_codex plan.now ≡ true → IsSome held.codex }
+    ensures { Decides plan.now (held_seen held) (result_map_both bytes_seen (λ e. e) result) }
+{
+    match held.kind(&plan.options) {
+        ArcType::Boolean => worked_as::<Boolean>(alloc, plan, held),
+        ArcType::Tropical => worked_as::<Tropical>(alloc, plan, held),
+        ArcType::MinMax => worked_as::<MinMax>(alloc, plan, held),
+        ArcType::Lexicographic => worked_as::<Lexicographic>(alloc, plan, held),
+    }
+}
