@@ -33,3 +33,4 @@ pub use side::Side;
 pub use sorted::{is_sorted, stands_by};
 pub use sorting::{arcsort, sort_arcs};
 pub use summary::Info;
+pub use useful::accessible;
