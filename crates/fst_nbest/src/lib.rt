@@ -6,6 +6,7 @@
 mod chaining;
 mod comparing;
 mod entry;
+mod enumerating;
 mod heap;
 mod orders;
 mod system;
