@@ -17,3 +17,4 @@ pub mod Measured
 pub mod Starting
 pub mod Kept
 pub mod Finishing
+pub mod Accessed

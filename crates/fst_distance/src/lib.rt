@@ -18,9 +18,11 @@ mod measuring;
 mod node;
 mod searching;
 mod table;
+mod useful;
 mod widens;
 
 pub use direction::Direction;
 pub use distances::{distance, distance_boxed};
 pub use fault::DistanceFault;
+pub use useful::useful_distances;
 pub use widens::Widens;
