@@ -10,6 +10,7 @@ mod enumerating;
 mod heap;
 mod orders;
 mod system;
+mod turns;
 mod walking;
 
 pub use chaining::{ChainsFault, chains};
