@@ -11,3 +11,4 @@ pub mod Heaps
 pub mod Sorted
 pub mod Walks
 pub mod Routes
+pub mod Searches

@@ -19,7 +19,7 @@ use Rattle.fst_nbest.proofs.Sorted.{in_order_at}
 use Rattle.fst_nbest.proofs.Ranks.{first_ahead}
 use Rattle.fst_nbest.proofs.Peeling.{next_family, left_family, covered_empty, covered_permutation, leading_permutation, step_covered, step_leading, stop_covered}
 
-map_same : {X Y : Type 0} (P : X → Type 0) (f h : X → Y) (xs : List X) → ((x : X) → P x → f x ≡ h x) → All P xs → map f xs ≡ map h xs
+pub map_same : {X Y : Type 0} (P : X → Type 0) (f h : X → Y) (xs : List X) → ((x : X) → P x → f x ≡ h x) → All P xs → map f xs ≡ map h xs
 map_same P f h [] same all = refl
 map_same P f h (x ∷ xs) same all = ap₂ (◌∷◌) (same x (All-head P x xs all)) (map_same P f h xs same (All-tail P x xs all))
 
@@ -54,10 +54,10 @@ module _ {D : Type 0} (kind : ArcType) (g : Words ℕ) (dist : ℕ → Cost) (co
 
 module _ {D : Type 0} (kind : ArcType) (g : Words ℕ) (dist : ℕ → Cost) (count : ℕ → ℕ) (value : D → Cost) (bounded : ℕ → D → Type 0) (cancel : cancels kind ≡ true) (good : AreWords kind g dist count) where
   -- the moves of an entry begin with its own
-  entry_moves : (orders : List (List ℕ)) (e : Entry D) → e.rank < length (list_at orders e.name) → drop e.rank (list_at orders e.name) ≡ move_of orders e ∷ drop (e.rank + 1) (list_at orders e.name)
+  pub entry_moves : (orders : List (List ℕ)) (e : Entry D) → e.rank < length (list_at orders e.name) → drop e.rank (list_at orders e.name) ≡ move_of orders e ∷ drop (e.rank + 1) (list_at orders e.name)
   entry_moves orders e low = drop_more (list_at orders e.name) e.rank 0 low
 
-  some_order : (orders : List (List ℕ)) (x k : ℕ) → k < length (list_at orders x) → list_at orders x ≢ []
+  pub some_order : (orders : List (List ℕ)) (x k : ℕ) → k < length (list_at orders x) → list_at orders x ≢ []
   some_order orders x k low e = omega (arith, low, ap length e)
 
   -- a family of an entry does not change as orders are added and the word grows
@@ -68,7 +68,7 @@ module _ {D : Type 0} (kind : ArcType) (g : Words ℕ) (dist : ℕ → Cost) (co
       let prefix : take e.depth (word ++ more) ≡ take e.depth word = take-append-le e.depth word more (omega (arith, low, on.depth)) in
       ap₂ (λ (l p : List ℕ). record { prefix = p; at = e.name; front = value e.front; moves = drop e.rank l }) order prefix
 
-  entry_same : (old new : List (List ℕ)) (e : Entry D) → OrdersGrow old new → IsEntry kind g dist count value bounded old e → IsEntry kind g dist count value bounded new e
+  pub entry_same : (old new : List (List ℕ)) (e : Entry D) → OrdersGrow old new → IsEntry kind g dist count value bounded old e → IsEntry kind g dist count value bounded new e
   entry_same old new e grow h =
       let order : list_at new e.name ≡ list_at old e.name = grow.same e.name (some_order old e.name e.rank h.rank) in
       record {

@@ -11,6 +11,7 @@ use Rattle.fst_semiring.specs.declared.arc_type.ArcType.{ArcType}
 use Rattle.fst_semiring.specs.Semiring.{times}
 use Rattle.fst_nbest.specs.declared.entry.Entry.{Entry}
 use Rattle.fst_nbest.specs.Words.{Words, WeightedWord, Ahead, ahead_of, IsOrder}
+use Rattle.fst_nbest.specs.Heap.{IsHeap}
 use Rattle.fst_nbest.specs.Families.{Family, route, IsCovered, IsLeading}
 
 -- the list in a place, the empty list past the end
@@ -120,3 +121,18 @@ entry_total {D} value words orders = then_total (on_total (λ (e : Entry D). val
 -- the moves of an entry's prefix, and its own
 abbrev pub route_of : {D : Type 0} → List (List ℕ) → List (List ℕ) → Entry D → List ℕ
 route_of words orders e = route (prefix_of words e) (move_of orders e)
+
+module _ {D : Type 0} (kind : ArcType) (g : Words ℕ) (dist : ℕ → Cost) (count : ℕ → ℕ) (value : D → Cost) (bounded : ℕ → D → Type 0) (start : ℕ) where
+  -- an entry of the table, which begins as a listed word
+  pub record IsKept (words orders : List (List ℕ)) (e : Entry D) : Type 0 where
+    pub entry : IsEntry kind g dist count value bounded orders e
+    pub depth : e.depth ≤ length (list_at words e.path)
+
+  -- A search on its way: these are the first words, and the table has the families of all others.
+  pub record IsSearching (words orders : List (List ℕ)) (table : List (Entry D)) : Type 0 where
+    pub sorted : AreOrders kind g dist count orders
+    pub entries : All (IsKept words orders) table
+    pub heap : IsHeap (entry_cmp value words orders) table
+    pub listed : List WeightedWord
+    pub same : map (λ w. w.word) listed ≡ words
+    pub covered : IsCovered kind g dist count start listed (map (family_of value words orders) table)

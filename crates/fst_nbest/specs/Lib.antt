@@ -4,3 +4,4 @@ pub mod Heap
 pub mod Words
 pub mod Families
 pub mod Entries
+pub mod Turns

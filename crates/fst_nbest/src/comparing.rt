@@ -19,6 +19,16 @@ pub(crate) struct Comparing<'a, S> {
     pub(crate) orders: &'a Orders,
 }
 
+impl<'a, S> Drop for Comparing<'a, S> {
+    fn drop(self) {
+        let Comparing {
+            system: _,
+            listed: _,
+            orders: _,
+        } = self;
+    }
+}
+
 /// The move in a place of an entry's route: a step by place k is k + 1.
 fn turn_at<D>(listed: &Words, orders: &Orders, e: &Entry<D>, k: usize) -> u64
     requires can { CanCompare listed.now orders.now e.now }

@@ -6,9 +6,11 @@
 mod chaining;
 mod comparing;
 mod entry;
+mod enumerating;
 mod heap;
 mod orders;
 mod system;
+mod turns;
 mod walking;
 
 pub use chaining::{ChainsFault, chains};

@@ -74,6 +74,12 @@ pub(crate) trait System<D: Copy> {
         ensures bound { (depth : ℕ) → bounded depth front → bounded (depth + 1) result.0 }
         ensures name { result.1 < size self.now };
 
+    /// The weight and the number of arcs ahead of a name from which words go on.
+    fn whole(&self, name: u32) -> (D, usize)
+        requires { name < size self.now }
+        ensures total { value result.0 ≡ dist self.now name }
+        ensures arcs { result.1 ≡ count self.now name };
+
     // Factors cancel.
     ghost cancel: { cancels kind ≡ true };
 }
