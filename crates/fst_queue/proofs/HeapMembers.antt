@@ -4,7 +4,8 @@ use Rattle.std.specs.Option.{IfSome}
 use Rattle.std.specs.Result.{OnOk}
 use Rattle.std.proofs.lemmas.Bool.{cases_eq}
 use Rattle.fst_semiring.specs.declared.key.Key.{Key}
-use Rattle.fst_queue.specs.Members.{Has, Apart, Adds, Takes}
+use Rattle.fst_machine.specs.BreadthFirst.{Has, Apart}
+use Rattle.fst_queue.specs.Members.{Adds, Takes}
 use Rattle.fst_queue.specs.Heap.{key_at, entries_of, states_of, IsBest, Linked, NoWorse, Rekeys, SamePresent, TakesBest}
 
 -- a member stands in some place

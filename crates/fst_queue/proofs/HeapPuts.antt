@@ -4,7 +4,8 @@ use Rattle.std.proofs.lemmas.Bool.{cases_eq}
 use Rattle.std.proofs.lemmas.List.{get_or-set_same, get_or-set_other, length-set, length-append, get_or_append_left}
 use Rattle.std.proofs.Math.Seq.{get_or-append_seam}
 use Rattle.fst_semiring.specs.declared.key.Key.{Key}
-use Rattle.fst_queue.specs.Members.{Has, Adds}
+use Rattle.fst_machine.specs.BreadthFirst.{Has}
+use Rattle.fst_queue.specs.Members.{Adds}
 use Rattle.fst_queue.specs.Heap.{key_at, key_in, no_key, Falling, Heaped, IsBelow, Linked, NoWorse, Rising, SamePresent}
 use Rattle.fst_queue.proofs.Members.{pushed_adds}
 use Rattle.fst_queue.proofs.HeapMembers.{place_Has, same_members}

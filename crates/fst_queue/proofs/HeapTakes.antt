@@ -3,7 +3,8 @@ use Rattle.std.proofs.Common.{◌≡◌, ◌≢◌, ◌⊎◌, ◌↔◌, inl, i
 use Rattle.std.proofs.lemmas.Bool.{cases_eq}
 use Rattle.std.proofs.lemmas.List.{get_or-set_same, get_or-set_other, length-set, length-take-le, get_or-take}
 use Rattle.fst_semiring.specs.declared.key.Key.{Key}
-use Rattle.fst_queue.specs.Members.{Has, Takes}
+use Rattle.fst_machine.specs.BreadthFirst.{Has}
+use Rattle.fst_queue.specs.Members.{Takes}
 use Rattle.fst_queue.specs.Heap.{key_at, key_in, Falling, Heaped, IsBelow, IsBest, Linked, NoWorse, SamePresent}
 use Rattle.fst_queue.proofs.HeapMembers.{Has_place, place_Has, same_members}
 use Rattle.fst_queue.proofs.HeapOrder.{along, top_best}

@@ -3,17 +3,10 @@ use Rattle.std.proofs.Common.{◌≡◌, ◌≢◌, ◌⊎◌, inl, inr, ℕ, �
 use Rattle.std.specs.Bool.{Decides}
 use Rattle.std.proofs.lemmas.Bool.{cases_lt, cases_eq}
 use Rattle.std.proofs.lemmas.List.{get_or-set_same, get_or-set_other, get_or_past}
-use Rattle.fst_queue.specs.Members.{Has, Apart, Adds, Takes}
-use Rattle.fst_queue.specs.Orders.{Marks}
-
-pub Has-append_left : {X : Type 0} (xs ys : List X) (x : X) → Has xs x → Has (xs ++ ys) x
-Has-append_left [] ys x h = absurd h
-Has-append_left (z ∷ xs) ys x (inl e) = inl e
-Has-append_left (z ∷ xs) ys x (inr h) = inr (Has-append_left xs ys x h)
-
-pub Has-append_right : {X : Type 0} (xs ys : List X) (x : X) → Has ys x → Has (xs ++ ys) x
-Has-append_right [] ys x h = h
-Has-append_right (z ∷ xs) ys x h = inr (Has-append_right xs ys x h)
+use Rattle.fst_machine.specs.BreadthFirst.{Has, Apart}
+use Rattle.fst_machine.proofs.Elements.{Has-append_left, Has-append_right}
+use Rattle.fst_queue.specs.Members.{Adds, Takes}
+use Rattle.fst_machine.specs.Marks.{Marks}
 
 -- one more element after the others
 pub Has-push : {X : Type 0} (xs : List X) (y x : X) → Has (xs ++ y ∷ []) x → Has xs x ⊎ (x ≡ y)
@@ -25,14 +18,6 @@ Has-push {X} (z ∷ xs) y x (inr h) = by_rest (Has-push xs y x h)
     by_rest : Has xs x ⊎ (x ≡ y) → Has (z ∷ xs) x ⊎ (x ≡ y)
     by_rest (inl r) = inl (inr r)
     by_rest (inr e) = inr e
-
-pub Apart-push : {X : Type 0} (xs : List X) (x : X) → Apart xs → (Has xs x → ⊥) → Apart (xs ++ x ∷ [])
-Apart-push [] x apart new = ((λ h. h), tt)
-Apart-push {X} (z ∷ xs) x apart new = ((λ h. by_part (Has-push xs x z h)), Apart-push xs x apart.1 (λ h. new (inr h)))
-  where
-    by_part : Has xs z ⊎ (z ≡ x) → ⊥
-    by_part (inl front) = apart.0 front
-    by_part (inr e) = new (inl e)
 
 -- without the last element
 pub Apart-pop : {X : Type 0} (xs : List X) (x : X) → Apart (xs ++ x ∷ []) → Apart xs × (Has xs x → ⊥)

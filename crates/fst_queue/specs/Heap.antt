@@ -4,7 +4,7 @@ use Rattle.std.specs.Prelude.{List, [], Option, Some, None, map, length, get_or}
 use Rattle.std.specs.Ordering.{is_gt}
 use Rattle.fst_semiring.specs.declared.key.Key.{Key}
 use Rattle.fst_semiring.specs.Keys.{key_cmp}
-use Rattle.fst_queue.specs.Members.{Has}
+use Rattle.fst_machine.specs.BreadthFirst.{Has}
 
 -- the first key is no worse
 abbrev pub NoWorse : Key → Key → Type 0

@@ -1,15 +1,6 @@
 -- The members of a queue of states: a list whose order says nothing.
-use Rattle.std.specs.Prelude.{◌≡◌, ◌≢◌, ◌⊎◌, ◌↔◌, ℕ, List, [], ◌∷◌, Option, Some, None}
-
--- x stands in the list
-abbrev pub Has : {X : Type 0} → List X → X → Type 0
-Has [] x = ⊥
-Has (y ∷ ys) x = (y ≡ x) ⊎ Has ys x
-
--- no element stands twice
-abbrev pub Apart : {X : Type 0} → List X → Type 0
-Apart [] = Unit {0}
-Apart (x ∷ xs) = (Has xs x → ⊥) × Apart xs
+use Rattle.std.specs.Prelude.{◌≡◌, ◌≢◌, ◌⊎◌, ◌↔◌, ℕ, List, [], Option, Some, None}
+use Rattle.fst_machine.specs.BreadthFirst.{Has}
 
 -- the members after a put of a state: it and the old ones, so that a state that was present changes nothing
 abbrev pub Adds : List ℕ → ℕ → List ℕ → Type 0

@@ -1,7 +1,6 @@
 -- The orders of the queues, over the list of the members in the order in which they were put.
-use Rattle.std.specs.Prelude.{◌≡◌, ◌⊎◌, ℕ, Bool, false, List, [], ◌∷◌, ◌++◌, Option, Some, None, get_or}
-use Rattle.std.specs.Bool.{Decides}
-use Rattle.fst_queue.specs.Members.{Has}
+use Rattle.std.specs.Prelude.{◌≡◌, ◌⊎◌, ℕ, List, [], ◌∷◌, ◌++◌, Option, Some, None}
+use Rattle.fst_machine.specs.BreadthFirst.{Has}
 
 -- a state that is absent comes last; one that is present keeps its place
 abbrev pub Joins : List ℕ → ℕ → List ℕ → Type 0
@@ -16,7 +15,3 @@ TakesFirst old (Some state) new = old ≡ state ∷ new
 abbrev pub TakesLast : List ℕ → Option ℕ → List ℕ → Type 0
 TakesLast old None new = (old ≡ []) × (new ≡ [])
 TakesLast old (Some state) new = old ≡ new ++ state ∷ []
-
--- just the states of the list are marked
-abbrev pub Marks : List Bool → List ℕ → Type 0
-Marks marks states = (q : ℕ) → Decides (get_or marks q false) (Has states q)

@@ -2,7 +2,8 @@
 
 ghost use Rattle.std.specs.Prelude.{◌≡◌, [], OnOk, OnErr};
 ghost use Rattle.std.specs.Bool.{Decides};
-ghost use Rattle.fst_queue.specs.Members.{Adds, Apart, Takes};
+ghost use Rattle.fst_machine.specs.BreadthFirst.{Apart};
+ghost use Rattle.fst_queue.specs.Members.{Adds, Takes};
 ghost use Rattle.fst_queue.specs.Orders.{Joins, TakesFirst};
 
 use crate::marks::{grow, is_marked};
@@ -23,8 +24,8 @@ pub struct Fifo {
 
 impl Model for Fifo {
     ghost use Rattle.std.specs.Prelude.{ℕ, List};
-    ghost use Rattle.fst_queue.specs.Members.{Apart};
-    ghost use Rattle.fst_queue.specs.Orders.{Marks};
+    ghost use Rattle.fst_machine.specs.BreadthFirst.{Apart};
+    ghost use Rattle.fst_machine.specs.Marks.{Marks};
 
     ghost Value = { List ℕ };
 

@@ -7,7 +7,8 @@ ghost use Rattle.std.specs.Prelude.{◌≡◌, ◌≢◌, ◌+◌, ◌*◌, ◌<
 ghost use Rattle.std.specs.Ordering.{is_lt};
 ghost use Rattle.fst_semiring.specs.Keys.{key_cmp};
 ghost use Rattle.fst_queue.specs.Heap.{key_at, key_in, Falling, Heaped, IsBest, IsBestBelow, Linked, Ordered, Rising, SamePresent};
-ghost use Rattle.fst_queue.specs.Members.{Adds, Has, Takes};
+ghost use Rattle.fst_machine.specs.BreadthFirst.{Has};
+ghost use Rattle.fst_queue.specs.Members.{Adds, Takes};
 
 use fst_semiring::Key;
 use std::alloc::AllocError;

@@ -2,7 +2,8 @@
 
 ghost use Rattle.std.specs.Prelude.{◌≡◌, [], OnOk, OnErr};
 ghost use Rattle.std.specs.Bool.{Decides};
-ghost use Rattle.fst_queue.specs.Members.{Adds, Apart, Takes};
+ghost use Rattle.fst_machine.specs.BreadthFirst.{Apart};
+ghost use Rattle.fst_queue.specs.Members.{Adds, Takes};
 ghost use Rattle.fst_queue.specs.Orders.{Joins, TakesLast};
 
 use crate::marks::{grow, is_marked};
@@ -22,8 +23,8 @@ pub struct Lifo {
 
 impl Model for Lifo {
     ghost use Rattle.std.specs.Prelude.{ℕ, List};
-    ghost use Rattle.fst_queue.specs.Members.{Apart};
-    ghost use Rattle.fst_queue.specs.Orders.{Marks};
+    ghost use Rattle.fst_machine.specs.BreadthFirst.{Apart};
+    ghost use Rattle.fst_machine.specs.Marks.{Marks};
 
     ghost Value = { List ℕ };
 

@@ -2,7 +2,8 @@
 
 ghost use Rattle.std.specs.Prelude.{◌≡◌, [], OnOk, OnErr};
 ghost use Rattle.std.specs.Bool.{Decides};
-ghost use Rattle.fst_queue.specs.Members.{Adds, Apart, Takes};
+ghost use Rattle.fst_machine.specs.BreadthFirst.{Apart};
+ghost use Rattle.fst_queue.specs.Members.{Adds, Takes};
 
 use fst_semiring::Key;
 use std::alloc::AllocError;

@@ -107,7 +107,7 @@ pub fn info<W: Weight>(alloc: Global, a: &Fst<W>) -> Result<Info, AllocError>
 {
     let states = a.states();
     let final_states = count_finals(alloc, a)?;
-    let mut marks = accessible(alloc, a)?;
+    let mut marks = accessible::<W, Fst<W>>(alloc, a)?;
     let accessible = count_marks(marks.as_slice());
     let others = coaccessible(alloc, a)?;
     let coaccessible = count_marks(others.as_slice());

@@ -28,3 +28,4 @@ pub use side::Side;
 pub use sorted::is_sorted;
 pub use sorting::arcsort;
 pub use summary::Info;
+pub use useful::accessible;

@@ -3,9 +3,9 @@
 ghost use Rattle.std.specs.Prelude.{◌≡◌, ◌<◌, ◌++◌, ℕ, List, [], map, length, get_or, IfOk, OnOk};
 ghost use Rattle.fst_trim.specs.Targets.{IsJoined, targets_from};
 
+use crate::as_machine::AsMachine;
 use crate::sources::part;
-use fst_machine::{Fst, FstArc};
-use fst_semiring::Weight;
+use fst_machine::FstArc;
 use std::alloc::{AllocError, Global};
 
 /// For each state the states to which its arcs lead, one for each arc and in order: those of a state stand side
@@ -29,14 +29,17 @@ fn put_targets<W>(targets: &mut Vec<u32>, arcs: &[FstArc<W>]) -> Result<(), Allo
 /// Puts the states to which the arcs of each state lead side by side.
 ///
 /// Time and space: linear in the states and the arcs.
-pub(crate) fn targets_of<W: Weight>(alloc: Global, fst: &Fst<W>) -> Result<Targets, AllocError>
-    ensures { IfOk result (λ t. IsJoined (targets_from fst.now.states) t.firsts.items t.targets.items) }
+pub(crate) fn targets_of<V: Copy, M: AsMachine<V>>(
+    alloc: Global,
+    fst: &M,
+) -> Result<Targets, AllocError>
+    ensures { IfOk result (λ t. IsJoined (targets_from (M.machine fst.now).states) t.firsts.items t.targets.items) }
 {
-    let mut firsts = Vec::with_capacity(alloc, fst.states() as usize + 1)?;
-    let mut targets = Vec::with_capacity(alloc, fst.arc_count() as usize)?;
-    for state in 0..fst.states() {
+    let mut firsts = Vec::with_capacity(alloc, fst.state_count() as usize + 1)?;
+    let mut targets = Vec::with_capacity(alloc, fst.all_arcs() as usize)?;
+    for state in 0..fst.state_count() {
         firsts.push(targets.len())?;
-        put_targets(&mut targets, fst.arcs(state))?;
+        put_targets(&mut targets, fst.arcs_at(state))?;
     }
     firsts.push(targets.len())?;
     Ok(Targets { firsts, targets })

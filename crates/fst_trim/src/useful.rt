@@ -10,6 +10,7 @@ ghost use Rattle.fst_machine.specs.Machine.{valued};
 ghost use Rattle.fst_machine.specs.Marks.{Marks};
 ghost use Rattle.fst_trim.specs.Finals.{FoundFinals};
 
+use crate::as_machine::AsMachine;
 use crate::sources::sources_of;
 use crate::targets::targets_of;
 use fst_machine::{Fst, find};
@@ -38,13 +39,17 @@ fn find_each(names: &mut Vec<u32>, seen: &mut Vec<bool>, states: &[u32]) -> Resu
 }
 
 /// Marks the states that a state reaches, by a walk.
-fn reach<W: Weight>(alloc: Global, fst: &Fst<W>, start: u32) -> Result<Vec<bool>, AllocError>
-    requires { start < length fst.now.states }
-    ensures size { IfOk result (λ marks. length marks.items ≡ length fst.now.states) }
-    ensures marks { IfOk result (λ marks. (names : List ℕ) × IsWalked (graph_of (valued W.value fst.now)) start names × Marks marks.items names) }
+fn reach<V: Copy, M: AsMachine<V>>(
+    alloc: Global,
+    fst: &M,
+    start: u32,
+) -> Result<Vec<bool>, AllocError>
+    requires { start < length (M.machine fst.now).states }
+    ensures size { IfOk result (λ marks. length marks.items ≡ length (M.machine fst.now).states) }
+    ensures marks { IfOk result (λ marks. (names : List ℕ) × IsWalked (graph_of (valued M.value (M.machine fst.now))) start names × Marks marks.items names) }
 {
-    let targets = targets_of(alloc, fst)?;
-    let mut seen = vec![in alloc; false; fst.states() as usize]?;
+    let targets = targets_of::<V, M>(alloc, fst)?;
+    let mut seen = vec![in alloc; false; fst.state_count() as usize]?;
     let mut names = Vec::new(alloc);
     find(&mut names, &mut seen, start)?;
     let mut taken = 0;
@@ -57,16 +62,18 @@ fn reach<W: Weight>(alloc: Global, fst: &Fst<W>, start: u32) -> Result<Vec<bool>
 }
 
 /// Marks the states that the start reaches.
-pub(crate) fn accessible<W: Weight>(alloc: Global, fst: &Fst<W>) -> Result<Vec<bool>, AllocError>
-    ensures size { IfOk result (λ marks. length marks.items ≡ length fst.now.states) }
-    ensures marks { IfOk result (λ marks. (p : ℕ) → Decides (get_or marks.items p false) (IsAccessible (graph_of (valued W.value fst.now)) p)) }
+///
+/// Time and space: linear in the states and the arcs, on any depth of the machine.
+pub fn accessible<V: Copy, M: AsMachine<V>>(alloc: Global, fst: &M) -> Result<Vec<bool>, AllocError>
+    ensures size { IfOk result (λ marks. length marks.items ≡ length (M.machine fst.now).states) }
+    ensures marks { IfOk result (λ marks. (p : ℕ) → Decides (get_or marks.items p false) (IsAccessible (graph_of (valued M.value (M.machine fst.now))) p)) }
 {
-    match fst.start() {
+    match fst.start_state() {
         Some(start) => {
-            let marks = reach(alloc, fst, start)?;
+            let marks = reach::<V, M>(alloc, fst, start)?;
             Ok(marks)
         }
-        None => Ok(vec![in alloc; false; fst.states() as usize]?),
+        None => Ok(vec![in alloc; false; fst.state_count() as usize]?),
     }
 }
 
@@ -127,7 +134,7 @@ pub(crate) fn useful<W: Weight>(alloc: Global, fst: &Fst<W>) -> Result<Vec<bool>
     ensures size { IfOk result (λ marks. length marks.items ≡ length fst.now.states) }
     ensures marks { IfOk result (λ marks. (p : ℕ) → Decides (get_or marks.items p false) (IsUseful (graph_of (valued W.value fst.now)) p)) }
 {
-    let mut marks = accessible(alloc, fst)?;
+    let mut marks = accessible::<W, Fst<W>>(alloc, fst)?;
     let others = coaccessible(alloc, fst)?;
     keep_both(&mut marks, others.as_slice());
     Ok(marks)

@@ -1,6 +1,8 @@
 use Rattle.std.proofs.Common.{◌≡◌, ◌∷◌, ◌++◌, [], sym, subst}
-use Rattle.fst_queue.specs.Members.{Has, Apart, Adds}
-use Rattle.fst_queue.proofs.Members.{Apart-push, Marks-put, pushed_adds, unmarked}
+use Rattle.fst_machine.specs.BreadthFirst.{Has, Apart}
+use Rattle.fst_queue.specs.Members.{Adds}
+use Rattle.fst_machine.proofs.Elements.{Apart-push}
+use Rattle.fst_queue.proofs.Members.{Marks-put, pushed_adds, unmarked}
 use Rattle.fst_queue.proofs.lifo.LifoStateQueue.put.Goals as goal
 
 pub invariant_of-self-2 : goal.invariant_of-self-2

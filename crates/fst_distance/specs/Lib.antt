@@ -1,0 +1,7 @@
+pub mod Hops
+pub mod Searching
+pub mod Beginning
+pub mod ArcHops
+pub mod Trying
+pub mod Cycles
+pub mod Distances
