@@ -13,3 +13,5 @@ pub mod Ascending
 pub mod WeightKeys
 pub mod Said
 pub mod Describe
+pub mod Linking
+pub mod Made

@@ -3,7 +3,7 @@
 use Rattle.std.specs.Prelude.{◌≡◌, ◌↔◌, ℕ, ◌<◌, ◌≤◌, List, Some, length, map, get_or, slice_get}
 use Rattle.std.specs.Option.{option_map}
 use Rattle.fst_semiring.specs.Cost.{Cost}
-use Rattle.fst_machine.specs.Machine.{Machine}
+use Rattle.fst_machine.specs.Machine.{State, Machine}
 use Rattle.fst_machine.specs.Graph.{graph_of, renamed}
 use Rattle.fst_minimize.specs.Behaviour.{Alike}
 
@@ -23,3 +23,11 @@ pub record HasClasses (m c : Machine Cost) : Type 0 where
   pub start : c.start ≡ option_map (λ p. get_or class p 0) m.start
   pub final : (i p : ℕ) → slice_get least i ≡ Some p → (graph_of c).final i ≡ (graph_of m).final p
   pub arcs : (i p : ℕ) → slice_get least i ≡ Some p → (graph_of c).arcs i ≡ map (renamed (λ q. get_or class q 0)) ((graph_of m).arcs p)
+
+-- the state that stands for a class, by one of its members
+abbrev pub class_state : Machine Cost → List ℕ → ℕ → State Cost
+class_state m numbers p = record { final = (graph_of m).final p; arcs = map (renamed (λ q. get_or numbers q 0)) ((graph_of m).arcs p) }
+
+-- the machine of the classes, by the numbers of the states and the members that stand for the classes
+abbrev pub class_machine : Machine Cost → List ℕ → List ℕ → Machine Cost
+class_machine m numbers least = record { start = option_map (λ p. get_or numbers p 0) m.start; states = map (class_state m numbers) least }

@@ -9,3 +9,4 @@ pub mod Rows
 pub mod Refining
 pub mod Saying
 pub mod Described
+pub mod Ready

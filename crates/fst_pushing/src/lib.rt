@@ -5,6 +5,8 @@
 #![tactic(auto)]
 
 pub mod laws;
+mod narrowing;
 mod pushing;
 
+pub use narrowing::narrow_state;
 pub use pushing::Pushing;
