@@ -13,6 +13,9 @@ ghost use Rattle.fst_compose.specs.Composition.{start_name, composed};
 ghost use Rattle.fst_trim.specs.KeptPaths.{KeepsPaths};
 ghost use Rattle.fst_compose.specs.Theorem.{IsComposed, IsComposition, IsConnectedComposition, RelatesNothing};
 ghost use Rattle.fst_compose.specs.NameLaws.{NameLaws};
+ghost use Rattle.fst_compose.specs.Matching.{IsSearchable};
+ghost use Rattle.fst_trim.specs.Sides.{IsSortedOn};
+ghost use Rattle.fst_trim.specs.declared.side.Side.TheVariants as sides;
 
 /// What composition gives: the successful paths of the result are the matching pairs of paths, one to one, with the
 /// triple of each, in the graph of the composition and in each machine that numbers its names. Where a start is
@@ -33,4 +36,10 @@ pub fn name_laws()
 /// paths, one to one.
 pub fn trimming_laws<N, M>()
     ensures { (kind : ArcType) (a : Graph N) (b : Graph M) (names : List (Name N M)) (whole c : Machine Cost) (kept : List ℕ) → IsComposition kind a b names whole → KeepsPaths kind whole c kept → IsConnectedComposition kind a b names whole kept c }
+{}
+
+/// Where the arcs of a machine are in order, those of each of its states can be searched.
+pub fn searching_laws<V>()
+    ensures first { (a b : Machine V) (n : Name ℕ ℕ) → IsSortedOn sides.Output a → IsSearchable sides.Output a b n }
+    ensures second { (a b : Machine V) (n : Name ℕ ℕ) → IsSortedOn sides.Input b → IsSearchable sides.Input a b n }
 {}
