@@ -7,6 +7,7 @@ pub mod Theorem
 pub mod Numbered
 pub mod Through
 pub mod Ranges
+pub mod Searching
 mod Appending
 mod Segments
 mod Counting

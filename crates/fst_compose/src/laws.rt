@@ -15,6 +15,9 @@ ghost use Rattle.fst_compose.specs.Theorem.{IsComposed, IsComposition, IsConnect
 ghost use Rattle.fst_compose.specs.NameLaws.{NameLaws};
 ghost use Rattle.fst_compose.specs.Answers.{Refuses};
 ghost use Rattle.fst_compose.specs.declared.fault.ComposeFault.{ComposeFault};
+ghost use Rattle.fst_compose.specs.Matching.{IsSearchable};
+ghost use Rattle.fst_trim.specs.Sides.{IsSortedOn};
+ghost use Rattle.fst_trim.specs.declared.side.Side.TheVariants as sides;
 
 /// What composition gives: the successful paths of the result are the matching pairs of paths, one to one, with the
 /// triple of each, in the graph of the composition and in each machine that numbers its names. Where a start is
@@ -40,4 +43,10 @@ pub fn trimming_laws<N, M>()
 /// One cause refuses a composition.
 pub fn one_refusal()
     ensures { (kind : ArcType) (a b : Machine Cost) (most : ℕ) (f h : ComposeFault) → Refuses kind a b most f → Refuses kind a b most h → f ≡ h }
+{}
+
+/// Where the arcs of a machine are in order, those of each of its states can be searched.
+pub fn searching_laws<V>()
+    ensures first { (a b : Machine V) (n : Name ℕ ℕ) → IsSortedOn sides.Output a → IsSearchable sides.Output a b n }
+    ensures second { (a b : Machine V) (n : Name ℕ ℕ) → IsSortedOn sides.Input b → IsSearchable sides.Input a b n }
 {}
