@@ -18,3 +18,11 @@ mod MadeCount
 mod Stored
 mod Decided
 mod Places
+mod Deciding
+mod DecidingSizes
+mod DecidingCoding
+mod DecidingComposing
+mod DecidingDeterminizing
+mod OneOutcome
+mod Exactly
+mod Determinized

@@ -8,6 +8,7 @@ use Rattle.fst_words.specs.Plans.{rule_labels}
 use Rattle.fst_command.specs.Meaning.{Meaning, never}
 use Rattle.fst_command.specs.Coding.{encode_meaning}
 use Rattle.fst_command.specs.Composing.{compose_meaning}
+use Rattle.fst_command.specs.Determinizing.{determinize_meaning}
 use Rattle.fst_command.specs.Describing.{info_meaning}
 use Rattle.fst_command.specs.Rational.{closure_meaning, concat_meaning, invert_meaning, project_meaning, relabel_meaning, reverse_meaning, union_meaning}
 use Rattle.fst_command.specs.Replacing.{replace_meaning}
@@ -39,7 +40,7 @@ meaning_by Shortestdistance labels o = unbuilt
 meaning_by Shortestpath labels o = unbuilt
 meaning_by Push labels o = unbuilt
 meaning_by Encode labels o = encode_meaning o
-meaning_by Determinize labels o = unbuilt
+meaning_by Determinize labels o = determinize_meaning o
 meaning_by Minimize labels o = unbuilt
 meaning_by Batch labels o = unbuilt
 meaning_by Make labels o = unbuilt

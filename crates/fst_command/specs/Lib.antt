@@ -11,10 +11,12 @@ pub mod Describing
 pub mod Texts
 pub mod Replacing
 pub mod Composing
+pub mod Determinizing
 pub mod Coding
 pub mod Commands
 pub mod Plans
 pub mod Outcome
+pub mod OneOutcome
 pub mod Told
 pub mod Seeing
 pub mod Steps

@@ -12,6 +12,7 @@ ghost use Rattle.fst_command.specs.Seeing.{given_seen, made_seen};
 mod coding;
 mod composing;
 mod describing;
+mod determinizing;
 mod rational;
 mod replacing;
 mod texts;
@@ -51,12 +52,12 @@ pub(crate) fn made<W: Weight>(
         Verb::Relabel => rational::relabelled(alloc, given),
         Verb::Arcsort => trimming::sorted(alloc, &plan.options, given),
         Verb::Compose => composing::composed(alloc, &plan.options, given),
+        Verb::Determinize => determinizing::determinized(alloc, &plan.options, given),
         Verb::Encode => coding::coded(alloc, &plan.options, given),
         Verb::Rmepsilon
         | Verb::Shortestdistance
         | Verb::Shortestpath
         | Verb::Push
-        | Verb::Determinize
         | Verb::Minimize
         | Verb::Batch
         | Verb::Make => unreachable!(),

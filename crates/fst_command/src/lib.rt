@@ -11,10 +11,12 @@ mod carrying;
 mod commands;
 mod files;
 mod given;
+mod laws;
 mod made;
 mod reading;
 mod refusal;
 mod top;
 mod working;
 
+pub use laws::one_outcome;
 pub use top::run;

@@ -33,6 +33,7 @@ fn is_ready(verb: Verb) -> bool
             | Verb::Encode
             | Verb::Replace
             | Verb::Compose
+            | Verb::Determinize
     )
 }
 

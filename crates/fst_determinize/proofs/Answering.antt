@@ -53,7 +53,7 @@ module _ {V : Type 0} (kind : ArcType) (value : V → Cost) (m : Machine V) (mos
     cause_there (walk.Overflow place) s = (acceptor, s)
 
     -- and each other cause is that of a fault of the walk
-    cause_back : (fault : DeterminizeFault) → Refuses kind value m most fault → (from : WalkFault) × (cause_of from ≡ fault) × Stops (subsets kind (graph_of (valued value m))) most from
+    pub cause_back : (fault : DeterminizeFault) → Refuses kind value m most fault → (from : WalkFault) × (cause_of from ≡ fault) × Stops (subsets kind (graph_of (valued value m))) most from
     cause_back (NotAcceptor state place) r = absurd (acceptor state place r.0)
     cause_back (StateLimit limit) r = (walk.StateLimit limit, refl, (r.1, more_back kind (graph_of (valued value m)) weighted most r.2))
     cause_back TooManyArcs r = (walk.TooManyArcs, refl, r.1)

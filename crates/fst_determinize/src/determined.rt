@@ -7,7 +7,7 @@ ghost use Rattle.fst_trim.specs.FirstArcs as arcs;
 ghost use Rattle.fst_walk.specs.Answers.{IsNamed};
 ghost use Rattle.fst_determinize.specs.Answers.{IsExact, IsExactly, cause_of};
 ghost use Rattle.fst_determinize.specs.Theorem.{AreSubsets, IsDeterminized};
-ghost use Rattle.fst_determinize.specs.Ways.{subsets};
+ghost use Rattle.fst_determinize.specs.Ways.{IsWeighted, subsets};
 ghost use Rattle.fst_determinize.specs.Weighed.{IsWeighed};
 
 use crate::determinizing::walk_subsets;
@@ -180,6 +180,8 @@ pub fn determinize<W: Weight>(
     ensures subsets { IfOk result (λ d. AreSubsets W.KIND (graph_of (valued W.value fst.now)) d.subsets) }
     ensures determinizes { IfOk result (λ d. IsDeterminized W.KIND (graph_of (valued W.value fst.now)) (graph_of (valued W.value d.fst))) }
     ensures exact { IsExactly W.KIND W.value fst.now max_states result }
+    // What is known of the weights of every machine.
+    ensures weighted { IsWeighted W.KIND (graph_of (valued W.value fst.now)) }
 {
     weigh(fst);
     match made_of_acceptor(alloc, fst, max_states) {

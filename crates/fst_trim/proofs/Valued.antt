@@ -185,6 +185,15 @@ decided r to from d = (λ e. to (d.0 e), λ q. d.1 (from q))
 pub IsSortedOn-valued : {V : Type 0} (value : V → Cost) (side : Side) (m : Machine V) → IsSortedOn side m ↔ IsSortedOn side (valued value m)
 IsSortedOn-valued value side m = (like_sorted (values_from value m) side, like_sorted (from_values value m) side)
 
+-- and an arc with two labels, or with the input label of an earlier one, is in the same place
+pub two_labels-valued : {V : Type 0} (value : V → Cost) (m : Machine V) (state place : ℕ) → Meets HasTwoLabels m state place ↔ Meets HasTwoLabels (valued value m) state place
+two_labels-valued value m state place =
+    (like_meets (from_values value m) HasTwoLabels HasTwoLabels (λ _ _ one. like_two_labels one) state place, like_meets (values_from value m) HasTwoLabels HasTwoLabels (λ _ _ one. like_two_labels one) state place)
+
+pub repeats-valued : {V : Type 0} (value : V → Cost) (m : Machine V) (state place : ℕ) → Meets Repeats m state place ↔ Meets Repeats (valued value m) state place
+repeats-valued value m state place =
+    (like_meets (from_values value m) Repeats Repeats (λ _ _ one. like_repeats one) state place, like_meets (values_from value m) Repeats Repeats (λ _ _ one. like_repeats one) state place)
+
 pub IsInfo-valued : {V : Type 0} (kind : ArcType) (value : V → Cost) (m : Machine V) (i : Info) → IsInfo kind value m i → IsInfo kind (λ w. w) (valued value m) i
 IsInfo-valued kind value m i h =
     let again = valued_costs (valued value m) in

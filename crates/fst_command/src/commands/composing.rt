@@ -21,7 +21,7 @@ use fst_words::Options;
 use std::alloc::Global;
 
 /// The most states of a composition before it is connected: 1,000,000 without the option.
-fn limit_of(options: &Options) -> u32
+pub(super) fn limit_of(options: &Options) -> u32
     requires { HasNumbersInRange options.now }
     ensures value { result ≡ state_limit options.now }
     ensures some { 0 < result }

@@ -1,0 +1,40 @@
+-- What is said of one thing alone: of the one machine or the two, of a machine that is made, of what tells a fault.
+use Rattle.std.proofs.Common.{◌≡◌, List, [], ◌∷◌, refl, sym, ap, ◌∙◌}
+use Rattle.fst_semiring.specs.declared.arc_type.ArcType.{ArcType}
+use Rattle.fst_semiring.specs.Cost.{Cost}
+use Rattle.fst_machine.specs.Machine.{Machine}
+use Rattle.fst_command.specs.Meaning.{IsMachine, coded, for_one, for_two, machine, never, text}
+use Rattle.fst_command.specs.OneOutcome.{One}
+
+-- nothing
+pub one_never : One never
+one_never f h one two = absurd one
+
+-- what is equal to this
+pub one_equal : {X : Type 0} (it : X) (Q : X → Type 0) → One (λ x. (x ≡ it) × Q x)
+one_equal it Q x y one two = one.0 ∙ sym two.0
+
+-- what tells one thing
+pub one_told : {W Y : Type 0} (P : W → Type 0) (tell : W → Y) → One P → One (λ y. (w : W) × P w × (y ≡ tell w))
+one_told P tell only x y one two = one.2 ∙ (ap tell (only one.0 two.0 one.1 two.1) ∙ sym two.2)
+
+module _ {X : Type 0} where
+  -- what is said with the one machine, and with the two
+  pub one_for_one : (says : X → Machine Cost → Type 0) → ((m : Machine Cost) → One (λ x. says x m)) → (ms : List (Machine Cost)) → One (λ x. for_one ms (says x))
+  one_for_one says only [] x y one two = absurd one
+  one_for_one says only (m ∷ []) x y one two = only m x y one two
+  one_for_one says only (m ∷ n ∷ ms) x y one two = absurd one
+
+  pub one_for_two : (says : X → Machine Cost → Machine Cost → Type 0) → ((m n : Machine Cost) → One (λ x. says x m n)) → (ms : List (Machine Cost)) → One (λ x. for_two ms (says x))
+  one_for_two says only [] x y one two = absurd one
+  one_for_two says only (m ∷ []) x y one two = absurd one
+  one_for_two says only (m ∷ n ∷ []) x y one two = only m n x y one two
+  one_for_two says only (m ∷ n ∷ o ∷ ms) x y one two = absurd one
+
+-- a machine that is made
+pub one_made : (kind : ArcType) (says : Machine Cost → Type 0) → One says → One (IsMachine kind says)
+one_made kind says only (machine k m) (machine j n) one two = rw (one.0, two.0, only m n one.1 two.1) refl
+one_made kind says only (machine k m) (text bytes) one two = absurd two
+one_made kind says only (machine k m) (coded j table n) one two = absurd two
+one_made kind says only (text bytes) y one two = absurd one
+one_made kind says only (coded j table n) y one two = absurd one

@@ -1,0 +1,14 @@
+//! The law of one outcome. It stands on the contract of a function with nothing to do, so that it is proved.
+
+ghost use Rattle.fst_desk.specs.Seen.{Files};
+ghost use Rattle.fst_words.specs.declared.plan.Plan.{Plan};
+ghost use Rattle.fst_command.specs.Commands.{meaning_for};
+ghost use Rattle.fst_command.specs.Given.{Given};
+ghost use Rattle.fst_command.specs.OneOutcome.{HasOneOutcome, OneOutcome};
+
+/// Of what a command is given, one fault stops it and one thing is made; so the same words and the same contents of
+/// files prescribe one list of outputs or one cause, and never both.
+pub fn one_outcome()
+    ensures meanings { (plan : Plan) (given : Given) → HasOneOutcome (meaning_for plan) given }
+    ensures outcomes { (plan : Plan) (files : Files) → OneOutcome plan files }
+{}
