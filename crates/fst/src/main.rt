@@ -2,9 +2,10 @@
 //! ends with the status of `fst_command::run`, which does all the work.
 #![tactic(auto)]
 
-use fst_command::run;
+use fst_command::{Queues, run};
 use fst_desk::RealDesk;
-use std::alloc::Global;
+use fst_queue::{BestFirst, Fifo, Lifo};
+use std::alloc::{AllocError, Global};
 use std::io::ErrorKind;
 use std::process::ExitCode;
 use std::{env, io};
@@ -18,14 +19,26 @@ fn words(rt: &HostRuntime, alloc: Global) -> io::Result<Vec<String>> {
     Ok(words)
 }
 
+/// The queues that a search of distances may take its states from.
+fn queues(alloc: Global) -> Result<Queues, AllocError> {
+    Ok(Queues {
+        fifo: Box::new(alloc, Fifo::new(alloc))?,
+        lifo: Box::new(alloc, Lifo::new(alloc))?,
+        best: Box::new(alloc, BestFirst::new(alloc))?,
+    })
+}
+
 fn main(rt: HostRuntime) -> ExitCode {
     let alloc = rt.alloc();
     let mut desk = RealDesk::new(alloc, &rt);
+    let Ok(queues) = queues(alloc) else {
+        return ExitCode::from(3);
+    };
     let status = match words(&rt, alloc) {
-        Ok(words) => run(&rt, alloc, words.as_slice(), &mut desk),
+        Ok(words) => run(&rt, alloc, words.as_slice(), &mut desk, queues),
         Err(fault) if fault.kind() == ErrorKind::OutOfMemory => 3,
         // A word that is no text makes a command line that no command has, as no words do.
-        Err(_) => run(&rt, alloc, &[], &mut desk),
+        Err(_) => run(&rt, alloc, &[], &mut desk, queues),
     };
     ExitCode::from(status)
 }

@@ -26,3 +26,4 @@ mod DecidingDeterminizing
 mod OneOutcome
 mod Exactly
 mod Determinized
+mod Measured

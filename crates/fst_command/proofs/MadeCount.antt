@@ -21,6 +21,7 @@ use Rattle.fst_trim.specs.declared.summary.Info.{Info as Summary}
 use Rattle.fst_text.specs.Printed.{text_of_machine}
 use Rattle.fst_command.specs.Descriptions.{info_text}
 use Rattle.fst_command.specs.Given.{Given, Held, choices_by}
+use Rattle.fst_command.specs.Measuring.{AreDistances, direction_of, distance_lines}
 use Rattle.fst_command.specs.Meaning.{IsMachine, Made, bytes_of, coded, for_one, for_two, machine, text}
 use Rattle.fst_command.specs.Steps.{IsWorked}
 
@@ -81,7 +82,8 @@ made_count Relabel labels o given made is = one_of given.machines given.kind _ m
 made_count Arcsort labels o given made is = one_of given.machines given.kind _ made is
 made_count Compose labels o given made is = two_of given.machines given.kind _ made is
 made_count Rmepsilon labels o given made is = absurd is
-made_count Shortestdistance labels o given made is = absurd is
+made_count Shortestdistance labels o given made is =
+    of_one given.machines (λ m x. (ds : List Cost) × AreDistances (direction_of o) given.kind m ds × (x ≡ text (distance_lines given.kind 0 ds))) made (λ m h. ap (λ x. length (bytes_of x)) h.2) is
 made_count Shortestpath labels o given made is = absurd is
 made_count Push labels o given made is = absurd is
 made_count Encode labels o given made is = of_coding o.decode o.encode_weights given made is

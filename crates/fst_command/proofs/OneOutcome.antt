@@ -17,6 +17,7 @@ use Rattle.fst_command.specs.Commands.{meaning_by, meaning_for}
 use Rattle.fst_command.specs.Composing.{state_limit}
 use Rattle.fst_command.specs.Given.{Given, choices_by, given_of}
 use Rattle.fst_command.specs.Meaning.{Made, bytes_of}
+use Rattle.fst_command.specs.Measuring.{direction_of}
 use Rattle.fst_command.specs.OneOutcome.{HasOneOutcome, One, OneOutcome}
 use Rattle.fst_command.specs.Outcome.{Agrees, AreNamed, IsCause, Output, Prescribes, Refuses}
 use Rattle.fst_command.specs.Trimming.{side_of}
@@ -25,6 +26,7 @@ use Rattle.fst_command.proofs.DecidingCoding.{one_coding_makes, one_coding_stops
 use Rattle.fst_command.proofs.DecidingComposing.{one_composed}
 use Rattle.fst_command.proofs.DecidingDeterminizing.{one_determinized, one_undetermined}
 use Rattle.fst_command.proofs.DecidingSizes.{one_cause, one_too_large}
+use Rattle.fst_command.proofs.Measured.{one_distances, one_unmeasured}
 
 -- ---- what reading a text, or printing one, gives
 
@@ -59,7 +61,10 @@ one_meaning Compose labels o given = record {
 }
 one_meaning Encode labels o given = record { stopped = one_coding_stops o.decode given; made = one_coding_makes o.decode o.encode_weights given }
 one_meaning Rmepsilon labels o given = record { stopped = one_never; made = λ x y one two. absurd one }
-one_meaning Shortestdistance labels o given = record { stopped = one_never; made = λ x y one two. absurd one }
+one_meaning Shortestdistance labels o given = record {
+  stopped = one_for_one _ (λ m. one_told _ _ (one_unmeasured given.kind m (direction_of o))) given.machines;
+  made = one_for_one _ (λ m. one_told _ _ (one_distances given.kind m (direction_of o))) given.machines;
+}
 one_meaning Shortestpath labels o given = record { stopped = one_never; made = λ x y one two. absurd one }
 one_meaning Push labels o given = record { stopped = one_never; made = λ x y one two. absurd one }
 one_meaning Determinize labels o given = record {

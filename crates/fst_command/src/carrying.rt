@@ -9,6 +9,7 @@ ghost use Rattle.fst_command.specs.Steps.{Works, WorksAfter};
 
 use crate::files::{write_both, write_output};
 use crate::made::Bytes;
+use crate::queues::Queues;
 use crate::reading::read_all;
 use crate::refusal::Refusal;
 use crate::working::worked;
@@ -35,7 +36,12 @@ fn store<D: Desk>(alloc: Global, desk: &mut D, plan: &Plan, bytes: Bytes) -> Res
 }
 
 /// Does what a plan asks for. All bytes are there before the first is written.
-pub(crate) fn carry_out<D: Desk>(alloc: Global, desk: &mut D, plan: &Plan) -> Result<(), Refusal>
+pub(crate) fn carry_out<D: Desk>(
+    alloc: Global,
+    desk: &mut D,
+    plan: &Plan,
+    queues: Queues,
+) -> Result<(), Refusal>
     requires built { is_built plan.now.command ≡ true }
     requires whole { IsWhole plan.now }
     ensures { Works (Some plan.now) (D.seen desk.old) (D.seen desk.new) result }
@@ -44,7 +50,7 @@ pub(crate) fn carry_out<D: Desk>(alloc: Global, desk: &mut D, plan: &Plan) -> Re
         Ok(held) => held,
         Err(refusal) => return Err(refusal),
     };
-    let bytes = match worked(alloc, plan, held) {
+    let bytes = match worked(alloc, plan, held, queues) {
         Ok(bytes) => bytes,
         Err(refusal) => return Err(refusal),
     };

@@ -13,6 +13,7 @@ mod coding;
 mod composing;
 mod describing;
 mod determinizing;
+mod measuring;
 mod rational;
 mod replacing;
 mod texts;
@@ -20,6 +21,7 @@ mod trimming;
 
 use crate::given::Given;
 use crate::made::Made;
+use crate::queues::Queues;
 use crate::refusal::Refusal;
 use fst_semiring::Weight;
 use fst_words::{Plan, Verb};
@@ -30,6 +32,7 @@ pub(crate) fn made<W: Weight>(
     alloc: Global,
     plan: &Plan,
     given: Given<W>,
+    queues: Queues,
 ) -> Result<Made<W>, Refusal>
     requires built { is_built plan.now.command ≡ true }
     requires whole { IsWhole plan.now }
@@ -54,8 +57,8 @@ pub(crate) fn made<W: Weight>(
         Verb::Compose => composing::composed(alloc, &plan.options, given),
         Verb::Determinize => determinizing::determinized(alloc, &plan.options, given),
         Verb::Encode => coding::coded(alloc, &plan.options, given),
+        Verb::Shortestdistance => measuring::measured(alloc, &plan.options, given, queues),
         Verb::Rmepsilon
-        | Verb::Shortestdistance
         | Verb::Shortestpath
         | Verb::Push
         | Verb::Minimize

@@ -13,10 +13,12 @@ mod files;
 mod given;
 mod laws;
 mod made;
+mod queues;
 mod reading;
 mod refusal;
 mod top;
 mod working;
 
 pub use laws::one_outcome;
+pub use queues::Queues;
 pub use top::run;

@@ -6,6 +6,7 @@ ghost use Rattle.fst_command.specs.Outcome.{Runs, Completes};
 ghost use Rattle.fst_command.specs.Steps.{Works};
 
 use crate::carrying::carry_out;
+use crate::queues::Queues;
 use crate::refusal::Refusal;
 use fst_desk::Desk;
 use fst_words::{Verb, WordsFault, read_words};
@@ -34,11 +35,17 @@ fn is_ready(verb: Verb) -> bool
             | Verb::Replace
             | Verb::Compose
             | Verb::Determinize
+            | Verb::Shortestdistance
     )
 }
 
 /// Does what the words ask for.
-fn work<D: Desk>(alloc: Global, words: &[String], desk: &mut D) -> Result<(), Refusal>
+fn work<D: Desk>(
+    alloc: Global,
+    words: &[String],
+    desk: &mut D,
+    queues: Queues,
+) -> Result<(), Refusal>
     ensures { Works (plan_of (map (λ w. string_bytes w) words.now)) (D.seen desk.old) (D.seen desk.new) result }
 {
     match read_words(alloc, words) {
@@ -46,7 +53,7 @@ fn work<D: Desk>(alloc: Global, words: &[String], desk: &mut D) -> Result<(), Re
             if !is_ready(plan.command) {
                 return Err(Refusal::Usage);
             }
-            carry_out(alloc, desk, &plan)
+            carry_out(alloc, desk, &plan, queues)
         }
         Err(WordsFault::Usage) => Err(Refusal::Usage),
         Err(WordsFault::Memory) => Err(Refusal::Memory),
@@ -54,10 +61,10 @@ fn work<D: Desk>(alloc: Global, words: &[String], desk: &mut D) -> Result<(), Re
 }
 
 /// Does what the words ask for, and shows the line of a refusal.
-fn finish<D: Desk>(alloc: Global, words: &[String], desk: &mut D) -> u8
+fn finish<D: Desk>(alloc: Global, words: &[String], desk: &mut D, queues: Queues) -> u8
     ensures { Runs (map (λ w. string_bytes w) words.now) (D.seen desk.old) (D.seen desk.new) result }
 {
-    match work(alloc, words, desk) {
+    match work(alloc, words, desk, queues) {
         Ok(()) => 0,
         Err(refusal) => {
             // A line that cannot be shown leaves the status as it is.
@@ -68,17 +75,24 @@ fn finish<D: Desk>(alloc: Global, words: &[String], desk: &mut D) -> u8
 }
 
 /// The top call: all that the program does. `words` are those of the command line after the program's
-/// name. It fetches, works and stores through the desk, and on a refusal shows one line.
+/// name. It fetches, works and stores through the desk, and on a refusal shows one line. A search of distances takes
+/// its states from the queue that the words name, whose own states are taken out first; the other queues are dropped.
 ///
 /// The result is the status: 0 where the outputs stand, 3 out of memory, 4 where an input could not be
 /// read, 5 where an output could not be written, and 1 for every other refusal.
 ///
 /// With 0 there was one fetch for each input, one store for each output and no show. Else there was at most one
 /// fetch for each input, no store but those of the outputs as far as one that failed, and one show.
-pub fn run<R: Threads + Sync, D: Desk>(rt: &R, alloc: Global, words: &[String], desk: &mut D) -> u8
+pub fn run<R: Threads + Sync, D: Desk>(
+    rt: &R,
+    alloc: Global,
+    words: &[String],
+    desk: &mut D,
+    queues: Queues,
+) -> u8
     ensures runs { Runs (map (λ w. string_bytes w) words.now) (D.seen desk.old) (D.seen desk.new) result }
     ensures completes { Completes (map (λ w. string_bytes w) words.now) (D.seen desk.old) (D.seen desk.new) result }
 {
     let _ = rt;
-    finish(alloc, words, desk)
+    finish(alloc, words, desk, queues)
 }

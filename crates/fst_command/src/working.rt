@@ -13,6 +13,7 @@ ghost use Rattle.fst_command.specs.Steps.{Decides};
 use crate::commands::made;
 use crate::given::{Given, Held, alike};
 use crate::made::{Bytes, bytes_of};
+use crate::queues::Queues;
 use crate::refusal::Refusal;
 use fst_any::Kinded;
 use fst_semiring::{ArcType, Boolean, Lexicographic, MinMax, Tropical};
@@ -20,7 +21,12 @@ use fst_words::Plan;
 use std::alloc::Global;
 
 /// The bytes of what a command makes of what was read, whose arc type is that of the weights.
-fn worked_as<W: Kinded>(alloc: Global, plan: &Plan, held: Held) -> Result<Bytes, Refusal>
+fn worked_as<W: Kinded>(
+    alloc: Global,
+    plan: &Plan,
+    held: Held,
+    queues: Queues,
+) -> Result<Bytes, Refusal>
     requires built { is_built plan.now.command ≡ true }
     requires whole { IsWhole plan.now }
     requires kind { kind_of plan.now.options (map typed held.machines.items) ≡ W.KIND }
@@ -32,7 +38,7 @@ fn worked_as<W: Kinded>(alloc: Global, plan: &Plan, held: Held) -> Result<Bytes,
         Ok(given) => given,
         Err(refusal) => return Err(refusal),
     };
-    let made = match made(alloc, plan, given) {
+    let made = match made(alloc, plan, given, queues) {
         Ok(made) => made,
         Err(refusal) => return Err(refusal),
     };
@@ -43,7 +49,12 @@ fn worked_as<W: Kinded>(alloc: Global, plan: &Plan, held: Held) -> Result<Bytes,
 }
 
 /// The bytes of what a command makes of what was read.
-pub(crate) fn worked(alloc: Global, plan: &Plan, held: Held) -> Result<Bytes, Refusal>
+pub(crate) fn worked(
+    alloc: Global,
+    plan: &Plan,
+    held: Held,
+    queues: Queues,
+) -> Result<Bytes, Refusal>
     requires built { is_built plan.now.command ≡ true }
     requires whole { IsWhole plan.now }
     requires machines { length held.machines.items ≡ machine_count plan.now }
@@ -51,9 +62,9 @@ pub(crate) fn worked(alloc: Global, plan: &Plan, held: Held) -> Result<Bytes, Re
     ensures { Decides plan.now (held_seen held) (result_map_both bytes_seen (λ e. e) result) }
 {
     match held.kind(&plan.options) {
-        ArcType::Boolean => worked_as::<Boolean>(alloc, plan, held),
-        ArcType::Tropical => worked_as::<Tropical>(alloc, plan, held),
-        ArcType::MinMax => worked_as::<MinMax>(alloc, plan, held),
-        ArcType::Lexicographic => worked_as::<Lexicographic>(alloc, plan, held),
+        ArcType::Boolean => worked_as::<Boolean>(alloc, plan, held, queues),
+        ArcType::Tropical => worked_as::<Tropical>(alloc, plan, held, queues),
+        ArcType::MinMax => worked_as::<MinMax>(alloc, plan, held, queues),
+        ArcType::Lexicographic => worked_as::<Lexicographic>(alloc, plan, held, queues),
     }
 }
