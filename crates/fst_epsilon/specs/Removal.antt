@@ -35,7 +35,7 @@ pub record Removes {N : Type 0} (kind : ArcType) (g h : Graph N) (Domain : N →
   pub within : (n : N) (k : ℕ) (a : Arc Cost N) → Domain n → slice_get (g.arcs n) k ≡ Some a → Domain a.next
   pub solid : (n : N) (k : ℕ) (a : Arc Cost N) → slice_get (g.arcs n) k ≡ Some a → a.weight ≡ infinite → ⊥
   pub from : (n : N) (k : ℕ) (b : Arc Cost N) → Domain n → slice_get (h.arcs n) k ≡ Some b → IsBehind kind g n b
-  pub each : (n p : N) (c : Cost) (j : ℕ) (a : Arc Cost N) → Domain n → Reaches kind g EpsilonArc n p c → slice_get (g.arcs p) j ≡ Some a → (EpsilonArc a → ⊥)
-      → (k : ℕ) × (b : Arc Cost N) × (slice_get (h.arcs n) k ≡ Some b) × StandsFor a b × NoWorse b.weight (times kind c a.weight)
+  pub each : (n p : N) (c : Cost) (j : ℕ) (a : Arc Cost N) → Domain n → Reaches kind g EpsilonArc n p c → slice_get (g.arcs p) j ≡ Some a
+      → (EpsilonArc a → ⊥) → (k : ℕ) × (b : Arc Cost N) × (slice_get (h.arcs n) k ≡ Some b) × StandsFor a b × NoWorse b.weight (times kind c a.weight)
   pub ends : (n : N) → Domain n → (h.final n ≡ infinite) ⊎ ((p : N) × (c : Cost) × Reaches kind g EpsilonArc n p c × (h.final n ≡ times kind c (g.final p)))
   pub finals : (n p : N) (c : Cost) → Domain n → Reaches kind g EpsilonArc n p c → NoWorse (h.final n) (times kind c (g.final p))
