@@ -15,7 +15,7 @@ use Rattle.fst_semiring.proofs.Laws.{times_only_zero}
 use Rattle.fst_semiring.proofs.Ranges.{Within-more, Within-times}
 use Rattle.fst_machine.specs.BreadthFirst.{Has}
 use Rattle.fst_machine.specs.Graph.{graph_of, no_state}
-use Rattle.fst_machine.specs.Machine.{Arc, IsArc, IsMachine, Machine, State, valued, valued_arc, valued_state}
+use Rattle.fst_machine.specs.Machine.{Arc, IsArc, IsMachine, Machine, State, most_states, valued, valued_arc, valued_state}
 use Rattle.fst_machine.specs.Paths.{IsPath, Transition}
 use Rattle.fst_machine.proofs.Arcs.{mapped_at}
 use Rattle.fst_machine.proofs.Elements.{at_Has}
@@ -23,7 +23,7 @@ use Rattle.fst_machine.proofs.Valued.{IsMachine-valued}
 use Rattle.fst_machine.proofs.Walking.{graph_arcs}
 use Rattle.fst_walk.specs.Names.{IsNear}
 use Rattle.fst_determinize.specs.Kept.{AreGoodWays, IsGoodWay, WayAs, rank, way_as, ways_as}
-use Rattle.fst_determinize.specs.Subsets.{Member}
+use Rattle.fst_determinize.specs.Subsets.{IsSubset, Member}
 use Rattle.fst_determinize.specs.Ways.{Way, arc_by, arcs_by, best_of, members_of, member_by, subsets, ways}
 use Rattle.fst_determinize.specs.Weighed.{AreMembers, HasGoodArcs, IsWeighed, IsWeighedAt}
 use Rattle.fst_determinize.proofs.Best.{best_alike}
@@ -111,22 +111,23 @@ module _ {V : Type 0} (kind : ArcType) (value : V → Cost) (m : Machine V) (h :
       subst (λ (z : Way). (z.state < 4294967296) × IsWide z.weight × (z.weight ≢ infinite)) way.is
       (small, wide, λ e. elim (times_only_zero kind way.member.residual way.arc.weight e) [ inl one ↦ good.not_zero way.member way.stands one | inr two ↦ weight.1 two ])
 
+  -- the members of the subset of a word that is not too long
+  pub subset_members : (word : List ℕ) (b : Cost) (s : List Member) → IsSubset kind (graph_of (valued value m)) word b s → length word < most_states → AreMembers (length m.states) s
+  subset_members word b s sub short = record {
+    state = λ n k.
+        let from = member_stands kind (graph_of (valued value m)) h.weighted word b s sub n k in
+        let same = long in
+        let low = path_inside (valued value m) limits from.spells.path from.spells.first n.state from.spells.leads (start_below (valued value m) limits from.spells.first from.spells.starts) in
+        omega (arith, low, same);
+    modest = λ n k.
+        Within-more (2 * (length word * 1000000000000000000)) 332306998946228968225951765070086144 n.residual (omega (arith, short))
+        (residual_within kind (graph_of (valued value m)) h.weighted 1000000000000000000 h.ranged word b s n sub k);
+    not_zero = λ n k. (residual_kind kind (graph_of (valued value m)) h.weighted word b n (member_stands kind (graph_of (valued value m)) h.weighted word b s sub n k)).1;
+  }
+
   -- a name near the start has members that can be gone on from
   pub near_members : (s : List Member) → IsNear (subsets kind (graph_of (valued value m))) s → AreMembers (length m.states) s
-  near_members s near =
-      let sub = near_subset kind (graph_of (valued value m)) h.weighted s near in
-      let short = sub.3 in
-      record {
-        state = λ n k.
-            let from = member_stands kind (graph_of (valued value m)) h.weighted sub.0 sub.1 s sub.2 n k in
-            let same = long in
-            let low = path_inside (valued value m) limits from.spells.path from.spells.first n.state from.spells.leads (start_below (valued value m) limits from.spells.first from.spells.starts) in
-            omega (arith, low, same);
-        modest = λ n k.
-            Within-more (2 * (length sub.0 * 1000000000000000000)) 332306998946228968225951765070086144 n.residual (omega (arith, short))
-            (residual_within kind (graph_of (valued value m)) h.weighted 1000000000000000000 h.ranged sub.0 sub.1 s n sub.2 k);
-        not_zero = λ n k. (residual_kind kind (graph_of (valued value m)) h.weighted sub.0 sub.1 n (member_stands kind (graph_of (valued value m)) h.weighted sub.0 sub.1 s sub.2 n k)).1;
-      }
+  near_members s near = let sub = near_subset kind (graph_of (valued value m)) h.weighted s near in subset_members sub.0 sub.1 s sub.2 sub.3
 
   -- and its arcs are arcs of a machine
   pub good_arcs : HasGoodArcs kind (graph_of (valued value m))

@@ -16,7 +16,10 @@ equal_tells Greater e = absurd (true≢false (sym e))
 
 -- values that tie are one
 pub cost_decides : (a b : Cost) → Decides (same_cost a b) (a ≡ b)
-cost_decides a b = ((λ e. cost_cmp_equal a b (equal_tells (cost_cmp a b) e)), (λ e. ap (λ (z : Cost). is_eq (cost_cmp a z)) (sym e) ∙ ap is_eq (cost_cmp_same a)))
+cost_decides a b = (
+  (λ e. cost_cmp_equal a b (equal_tells (cost_cmp a b) e)),
+  (λ e. ap (λ (z : Cost). is_eq (cost_cmp a z)) (sym e) ∙ ap is_eq (cost_cmp_same a)),
+)
 
 pub member_decides : (a b : Member) → Decides (same_member a b) (a ≡ b)
 member_decides a b = (tells, λ e. subst (λ (m : Member). same_member a m ≡ true) e own)

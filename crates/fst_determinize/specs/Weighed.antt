@@ -1,14 +1,14 @@
 -- What is known of a machine that can be determinized, and of a subset of its states.
-use Rattle.std.specs.Prelude.{◌≡◌, ◌≢◌, ◌<◌, ℕ, List, Some, slice_get}
+use Rattle.std.specs.Prelude.{◌≡◌, ◌≢◌, ◌<◌, ℕ, List, Some, slice_get, length}
 use Rattle.fst_semiring.specs.Cost.{Cost, infinite}
 use Rattle.fst_semiring.specs.Semiring.{InRange, IsCost}
 use Rattle.fst_semiring.specs.declared.arc_type.ArcType.{ArcType}
 use Rattle.fst_machine.specs.BreadthFirst.{Has}
 use Rattle.fst_machine.specs.Graph.{Graph, graph_of}
-use Rattle.fst_machine.specs.Machine.{Arc, IsMachine, Machine, valued}
+use Rattle.fst_machine.specs.Machine.{Arc, IsMachine, Machine, most_states, valued}
 use Rattle.fst_walk.specs.Names.{IsGoodArc, IsNear}
 use Rattle.fst_determinize.specs.Kept.{IsModest}
-use Rattle.fst_determinize.specs.Subsets.{Member}
+use Rattle.fst_determinize.specs.Subsets.{IsSubset, Member}
 use Rattle.fst_determinize.specs.Ways.{IsWeighted, subsets}
 
 -- the weights of the graph's arcs are in range
@@ -34,5 +34,10 @@ pub record IsWeighedAt (kind : ArcType) (g : Graph ℕ) (p : ℕ) : Type 0 where
 
 -- The arcs of subsets that the start reaches have labels in range and weights that are not Zero.
 abbrev pub HasGoodArcs : ArcType → Graph ℕ → Type 0
-HasGoodArcs kind g = (n : List Member) → IsNear (subsets kind g) n → (k : ℕ) (a : Arc Cost (List Member)) → slice_get ((subsets kind g).arcs n) k ≡ Some a
-    → IsGoodArc a
+HasGoodArcs kind g = (n : List Member) → IsNear (subsets kind g) n → (k : ℕ) (a : Arc Cost (List Member))
+    → slice_get ((subsets kind g).arcs n) k ≡ Some a → IsGoodArc a
+
+-- The members of the subset of a word with fewer labels than a machine can have states are such members.
+abbrev pub MemberLaw : {V : Type 0} → ArcType → (V → Cost) → Machine V → Type 0
+MemberLaw kind value m = IsWeighed kind value m → (word : List ℕ) (b : Cost) (s : List Member) → IsSubset kind (graph_of (valued value m)) word b s
+    → length word < most_states → AreMembers (length m.states) s

@@ -1,6 +1,7 @@
 //! The deterministic machine of an acceptor, with the subsets that its states stand for.
 
-ghost use Rattle.std.specs.Prelude.{◌≡◌, ◌<◌, ◌≤◌, ◌++◌, IfOk, Some, length, slice_get};
+ghost use Rattle.std.specs.Prelude.{◌≡◌, ◌<◌, ◌≤◌, List, IfOk, Some, length, slice_get};
+ghost use Rattle.fst_determinize.specs.Subsets.{Member};
 ghost use Rattle.fst_machine.specs.Graph.{graph_of};
 ghost use Rattle.fst_machine.specs.Machine.{most_states, valued};
 ghost use Rattle.fst_trim.specs.FirstArcs as arcs;
@@ -33,12 +34,48 @@ pub struct Subsets<W: Weight> {
 }
 
 impl<W: Weight> Model for Subsets<W> {
-    ghost use Rattle.std.specs.Prelude.{List, ◌++◌};
+    ghost use Rattle.std.specs.Prelude.{◌≡◌, ◌⊎◌, List, [], ◌++◌};
     ghost use Rattle.fst_determinize.specs.Subsets.{Member};
 
     ghost Value = { List (List Member) };
 
     ghost view = { λ s. s.narrow ++ s.broad };
+
+    ghost invariant = { λ s. (s.narrow ≡ []) ⊎ (s.broad ≡ []) };
+}
+
+impl<W: Weight> Subsets<W> {
+    /// How many subsets there are. Takes no memory.
+    pub fn len(&self) -> usize
+        ensures { result ≡ length self.now }
+    {
+        let narrow = self.narrow.len();
+        if narrow > 0 {
+            return narrow;
+        }
+        self.broad.len()
+    }
+
+    /// The member in a place of the subset in a place, both from 0: its state, and its residual. Takes no memory.
+    pub fn item(&self, index: usize, place: usize) -> (u32, W::Wide)
+        requires { (s : List Member) × (slice_get self.now index ≡ Some s) × (place < length s) }
+        ensures { (s : List Member) → slice_get self.now index ≡ Some s → slice_get s place ≡ Some (record { state = result.0; residual = W.wide_value result.1 }) }
+    {
+        let narrow = self.narrow.len();
+        if narrow > 0 {
+            return member_at(self.narrow.item(index), place);
+        }
+        member_at(self.broad.item(index), place)
+    }
+}
+
+/// The member of a subset in a place: its state, and its residual in the wide form.
+fn member_at<W: Weight, R: Residual<W>>(subset: &SubsetOf<R>, place: usize) -> (u32, W::Wide)
+    requires { place < length subset.now }
+    ensures { slice_get subset.now place ≡ Some (record { state = result.0; residual = W.wide_value result.1 }) }
+{
+    let member = subset.item(place);
+    (member.state, member.residual.wide())
 }
 
 /// A deterministic machine, and the subsets that its states stand for.
@@ -110,9 +147,9 @@ fn made_broad<W: Weight>(
     }
 }
 
-/// The deterministic machine or why there is none, with memory apart. Residuals are kept in the form of weights; where one
-/// does not fit, all is made again with residuals in the wide form. (It may lie on a way that leads to no final state, so
-/// that it says nothing of the weights of the result.)
+/// The deterministic machine or why there is none, with memory apart. Residuals are kept in the form of weights;
+/// where one does not fit, all is made again with residuals in the wide form. (It may lie on a way that leads to no
+/// final state, so that it says nothing of the weights of the result.)
 fn made_narrow<W: Weight>(
     alloc: Global,
     fst: &Fst<W>,
@@ -155,20 +192,21 @@ fn made_of_acceptor<W: Weight>(
     made_narrow(alloc, fst, max_states)
 }
 
-/// The deterministic machine of an acceptor, by weighted subsets: its states are just the subsets of words that are not
-/// empty, in the order of the least words that have them, shorter words first. Each label word, epsilon being a label
-/// like others, has at most one successful path, and each pair of strings the weight that it had. Where the machine has no
-/// start, the result has no states. (Mohri 2009, weighted determinization; OpenFst manual, "Determinize".)
+/// The deterministic machine of an acceptor, by weighted subsets: its states are just the subsets of words that are
+/// not empty, in the order of the least words that have them, shorter words first. Each label word, epsilon being a
+/// label like others, has at most one successful path, and each pair of strings the weight that it had. Where the
+/// machine has no start, the result has no states. (Mohri 2009, weighted determinization; OpenFst manual,
+/// "Determinize".)
 ///
-/// `NotAcceptor` exactly where an arc has two different labels, with the first such arc; else `StateLimit` exactly where
-/// words give more than `max_states` different subsets that are not empty, which is answered as soon as so many are found;
-/// else `TooManyArcs` exactly where these have more than 33,554,432 arcs; else `Overflow` exactly where a weight has a
-/// number of absolute value above 10 to the 18, with the first state that has such a weight. `Memory` may come in place of
-/// any answer. Not every machine has finitely many subsets, so that `max_states` is what ends the call. It is 1 to
-/// 4,194,304.
+/// `NotAcceptor` exactly where an arc has two different labels, with the first such arc; else `StateLimit` exactly
+/// where words give more than `max_states` different subsets that are not empty, which is answered as soon as so many
+/// are found; else `TooManyArcs` exactly where these have more than 33,554,432 arcs; else `Overflow` exactly where a
+/// weight has a number of absolute value above 10 to the 18, with the first state that has such a weight. `Memory`
+/// may come in place of any answer. Not every machine has finitely many subsets, so that `max_states` is what ends
+/// the call. It is 1 to 4,194,304.
 ///
-/// Time: for each subset that of its arcs, and of sorting them by label where they do not stand so. Space: the result, the
-/// subsets, and the arcs of one.
+/// Time: for each subset that of its arcs, and of sorting them by label where they do not stand so. Space: the
+/// result, the subsets, and the arcs of one.
 pub fn determinize<W: Weight>(
     alloc: Global,
     fst: &Fst<W>,

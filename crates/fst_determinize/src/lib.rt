@@ -2,11 +2,11 @@
 //! (Mohri 2009, weighted determinization; OpenFst manual, "Determinize".)
 //!
 //! `determinize` makes the machine of an acceptor; `start_subset`, `subset_arcs` and `subset_final` take subsets on
-//! demand, of a machine that `weigh` has gone over. Residuals are kept in the form of weights, and in the wide form where
-//! one does not fit.
+//! demand, of a machine that `weigh` has gone over. Residuals are kept in the form of weights, and in the wide form
+//! where one does not fit.
 //!
-//! The definitions stand in `specs`, over graphs of plain values: the weighted subset of a word, the graph of subsets as
-//! it is made subset by subset, and what its machine gives. `laws` asks for their laws.
+//! The definitions stand in `specs`, over graphs of plain values: the weighted subset of a word, the graph of subsets
+//! as it is made subset by subset, and what its machine gives. `laws` asks for their laws.
 #![tactic(auto)]
 
 mod determined;

@@ -15,8 +15,8 @@ use fst_semiring::Weight;
 use fst_walk::NameArc;
 use std::alloc::{AllocError, Global};
 
-/// A weighted subset: states by number, each with what is left of the best weight that reaches it when the best of all is
-/// divided off. One of up to two states takes no memory of its own.
+/// A weighted subset: states by number, each with what is left of the best weight that reaches it when the best of
+/// all is divided off. One of one state takes no memory of its own.
 pub type Subset<W> = SubsetOf<Broad<W, <W as Weight>::Wide>>;
 
 /// An arc to a subset; both labels are the same. Its weight is in the wide form.
@@ -29,13 +29,13 @@ pub fn start_subset<W: Weight>(alloc: Global, fst: &Fst<W>) -> Option<Subset<W>>
     first_subset(alloc, fst)
 }
 
-/// The arcs of a subset: one for each label of an arc of its members, by label. Its weight is the best, over the members
-/// and their arcs with the label, of residual Times arc weight; it leads to the states that these arcs reach, each with
-/// the best such product over the arcs to it, divided by that weight. Where the subset is that of a word, the arc leads to
-/// the subset of the word followed by the label.
+/// The arcs of a subset: one for each label of an arc of its members, by label. Its weight is the best, over the
+/// members and their arcs with the label, of residual Times arc weight; it leads to the states that these arcs reach,
+/// each with the best such product over the arcs to it, divided by that weight. Where the subset is that of a word,
+/// the arc leads to the subset of the word followed by the label.
 ///
-/// The members are states of the machine, no residual is Zero, and their numbers have absolute value at most 2 to the 118.
-/// The numbers of the residuals of a word with n labels have absolute value at most 2 n times 10 to the 18.
+/// The members are states of the machine, no residual is Zero, and their numbers have absolute value at most 2 to the
+/// 118. So it is of the subset of each word of fewer than 4,194,304 labels, by `laws::member_laws`.
 ///
 /// Time: that of sorting the arcs of the members by label, where they do not stand so. Space: linear in them.
 pub fn subset_arcs<W: Weight>(

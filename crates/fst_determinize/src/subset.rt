@@ -1,6 +1,6 @@
 //! Weighted subsets as keys of a table.
 
-ghost use Rattle.std.specs.Prelude.{◌≡◌, ◌<◌, [], ◌∷◌, ◌++◌, IfOk, length};
+ghost use Rattle.std.specs.Prelude.{◌≡◌, ◌<◌, [], ◌∷◌, ◌++◌, IfOk, Some, length, slice_get};
 ghost use Rattle.std.specs.Cmp.{on_equiv, on_per, partial_equiv_from_equiv};
 ghost use Rattle.std.proofs.Common.{ap};
 ghost use Rattle.fst_determinize.specs.Kept.{member_as, member_input, members_as, same_member, same_members, subset_input};
@@ -55,8 +55,8 @@ impl<R: Kept> Hash for Held<R> {
     }
 }
 
-/// A weighted subset that is not empty: states by number, each with its residual. One of one state takes no memory of its
-/// own.
+/// A weighted subset that is not empty: states by number, each with its residual. One of one state takes no memory of
+/// its own.
 #[derive(Drop)]
 pub struct SubsetOf<R: Kept> {
     first: Held<R>,
@@ -129,5 +129,23 @@ impl<R: Kept> SubsetOf<R> {
         ensures { member_as R.value result.0 ∷ members_as R.value result.1.now ≡ self.now }
     {
         (self.first, self.rest.as_slice())
+    }
+
+    /// How many members it has. Takes no memory.
+    pub fn len(&self) -> usize
+        ensures { result ≡ length self.now }
+    {
+        self.rest.len() + 1
+    }
+
+    /// The member in a place, by state, from 0. Takes no memory.
+    pub fn item(&self, index: usize) -> Held<R>
+        requires { index < length self.now }
+        ensures { slice_get self.now index ≡ Some (member_as R.value result) }
+    {
+        if index == 0 {
+            return self.first;
+        }
+        self.rest[index - 1]
     }
 }
