@@ -6,11 +6,15 @@
 #![tactic(auto)]
 
 #[cfg(test)]
+mod acceptors;
+#[cfg(test)]
 mod codices;
 #[cfg(test)]
 mod composition;
 #[cfg(test)]
 mod desks;
+#[cfg(test)]
+mod distances;
 #[cfg(test)]
 mod faults;
 #[cfg(test)]

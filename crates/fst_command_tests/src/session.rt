@@ -1,7 +1,8 @@
 //! Rows of tests, played one after the other over a desk in memory.
 
-use fst_command::run;
+use fst_command::{Queues, run};
 use fst_desk::MemoryDesk;
+use fst_queue::{BestFirst, Fifo, Lifo};
 use std::alloc::{AllocError, Global};
 use std::process::Abort;
 use std::test::Fail;
@@ -43,6 +44,15 @@ fn split(alloc: Global, line: &str) -> Result<Vec<String>, AllocError> {
     Ok(words)
 }
 
+/// The queues of the program.
+fn queues(alloc: Global) -> Result<Queues, AllocError> {
+    Ok(Queues {
+        fifo: Box::new(alloc, Fifo::new(alloc))?,
+        lifo: Box::new(alloc, Lifo::new(alloc))?,
+        best: Box::new(alloc, BestFirst::new(alloc))?,
+    })
+}
+
 /// Asks that the words end with a status, and that these bytes are then shown after those that were.
 pub(crate) fn ends<R: Threads + Sync + Abort>(
     rt: &R,
@@ -54,7 +64,9 @@ pub(crate) fn ends<R: Threads + Sync + Abort>(
 ) -> Result<(), AllocError> {
     let before = desk.shown_bytes().len();
     let words = split(alloc, line)?;
-    assert_eq!(rt; run(rt, alloc, words.as_slice(), desk), status, "{line}");
+    let queues = queues(alloc)?;
+    let ended = run(rt, alloc, words.as_slice(), desk, queues);
+    assert_eq!(rt; ended, status, "{line}");
     let found = desk.shown_bytes().get(before..).unwrap_or(&[]);
     assert_eq!(rt; found, shown, "{line}");
     Ok(())
