@@ -10,12 +10,16 @@ same machine has its state numbers permuted and spread out, as multiples of the 
     machines.py --pairs PATH COUNT
     machines.py --rules ROOT RULE LABEL ARCS
     machines.py --pair FIRST SECOND STATES
+    machines.py --word WORD LEXICON LETTERS ARCS
+    machines.py --hubs FIRST SECOND MATCHES ARCS
 
 With --symbols the labels are written by their names in a table of so many symbols, which is written too.
 With --chain each state has one arc, to the next one, and the last is final. With --pairs so many labels
 below 5,000 are given new ones. With --rules a root and a rule of 100 arcs are written, of which the root calls
 the rule by the label so often that with all calls replaced there are about so many arcs. With --pair two machines of so many states are written to be
-composed: 20 arcs a state over 60 labels, one in ten of which writes, or reads, epsilon.
+composed: 20 arcs a state over 60 labels, one in ten of which writes, or reads, epsilon. With --word a word of so many letters
+is written, and a lexicon of one state with so many arcs, in order, which reads them; with --hubs two machines whose starts have so
+many arcs in order, of which so many match.
 """
 import random
 import sys
@@ -133,6 +137,35 @@ def write_pair(first, second, states, seed=1, fan=20, labels=60):
                     out.write(f"{state}\t{draw.randrange(1000)}\n")
 
 
+def write_hub(path, target, labels, side, draw):
+    """Writes a machine whose start has an arc to this state for each label, in order."""
+    with open(path, "w") as out:
+        for label in sorted(labels):
+            arc = [draw.randrange(1, 1_000_000), draw.randrange(1, 1_000_000)]
+            arc[side] = label
+            out.write(f"0\t{target}\t{arc[0]}\t{arc[1]}\t{draw.randrange(1000)}\n")
+        out.write(f"{target}\t0\n")
+
+
+def write_word(word, lexicon, letters, arcs, seed=1):
+    """Writes a word, and a lexicon of one state that reads its letters."""
+    draw = random.Random(seed)
+    labels = draw.sample(range(1, 1_000_000), arcs)
+    write_hub(lexicon, 0, labels, 0, draw)
+    with open(word, "w") as out:
+        for state, label in enumerate(draw.sample(labels, letters)):
+            out.write(f"{state}\t{state + 1}\t{label}\t{label}\t0\n")
+        out.write(f"{letters}\t0\n")
+
+
+def write_hubs(first, second, matches, arcs, seed=1):
+    """Writes two machines whose starts have so many arcs, of which some match."""
+    draw = random.Random(seed)
+    labels = draw.sample(range(1, 1_000_000), 2 * arcs - matches)
+    write_hub(first, 1, labels[:arcs], 1, draw)
+    write_hub(second, 1, labels[arcs - matches :], 0, draw)
+
+
 if __name__ == "__main__":
     if sys.argv[1] == "--chain":
         write_chain(sys.argv[2], int(sys.argv[3]))
@@ -142,6 +175,10 @@ if __name__ == "__main__":
         write_rules(sys.argv[2], sys.argv[3], *map(int, sys.argv[4:6]))
     elif sys.argv[1] == "--pair":
         write_pair(sys.argv[2], sys.argv[3], int(sys.argv[4]))
+    elif sys.argv[1] == "--word":
+        write_word(sys.argv[2], sys.argv[3], *map(int, sys.argv[4:6]))
+    elif sys.argv[1] == "--hubs":
+        write_hubs(sys.argv[2], sys.argv[3], *map(int, sys.argv[4:6]))
     elif sys.argv[1] == "--symbols":
         write_symbols(sys.argv[2], int(sys.argv[3]))
         if len(sys.argv) > 4:

@@ -30,6 +30,13 @@ TIME, MEMORY, COMPOSE_MEMORY = 0.5, 1.7, 2.0
 # How many arcs the composition of two machines of one state each would have: two machines of n states make n * n times
 # as many.
 PAIR_ARCS = 14
+# How many arcs a state of these machines has; what they are, their names, and how many letters the word has and how many
+# arcs of the hubs match.
+FAN = 100_000
+FANS = [
+    ("a word of 20 letters and a lexicon", "--word", ("word", "lexicon"), (20, FAN)),
+    ("two hubs of which 100 arcs match", "--hubs", ("hub", "other_hub"), (100, FAN)),
+]
 # How many times as long an operation may take for ten times the arcs.
 GROWTH = 20
 # The operations: the command and its words, in which {0} is a machine and {1} a file of pairs. Both programs
@@ -133,6 +140,21 @@ def pair_cases(fst, size, scratch):
     out = os.path.join(scratch, "out")
     most = f"--max_states={MOST_STATES}"
     return [("compose", [fst, "compose", most, *ours, out + ".ours"], ["fstcompose", *theirs, out + ".theirs"], TIME, COMPOSE_MEMORY)]
+
+
+def fan_cases(fst, scratch):
+    """The rows of `compose` where a state has very many arcs: a word and a lexicon, either first, and two hubs."""
+    cases = []
+    for name, mode, names, words in FANS:
+        ours, theirs = two_machines(fst, mode, names, words, FAN, scratch)
+        for turn, order in ("", lambda files: files), (", turned", reversed):
+            out = os.path.join(scratch, "out")
+            ours, theirs = list(order(list(ours))), list(order(list(theirs)))
+            commands = [fst, "compose", *ours, out + ".ours"], ["fstcompose", *theirs, out + ".theirs"]
+            cases.append((f"compose, {name}{turn}", *commands, TIME, COMPOSE_MEMORY))
+            if mode == "--hubs":
+                break
+    return cases
 
 
 def operation_cases(fst, size, scratch):
@@ -272,7 +294,8 @@ def operations(fst, sizes, rounds, scratch):
     over = is_over(found, sizes)
     if sizes[-1] >= 1_000_000:
         found_chain = shown_rows(MOST_STATES, chain_cases(fst, scratch), rounds, scratch)
-        over = over or not all(row and row[1] for row in found_chain.values())
+        found_fan = shown_rows(FAN, fan_cases(fst, scratch), rounds, scratch)
+        over = over or not all(row and row[1] for found in (found_chain, found_fan) for row in found.values())
     over = grows(found, sizes) or over
     missing = [name for name, row in found[sizes[-1]].items() if not row]
     if missing:

@@ -149,8 +149,10 @@ fn composed<W: Weight>(
 /// above 10 to the 18, with the first state that has such a weight. `Memory` may come in place of any answer. States
 /// after the first that does not fit are not kept.
 ///
-/// Time: for each name the product of the numbers of arcs of its two states. Space: the result, and the arcs of one
-/// name.
+/// Time: where both machines have their arcs in order, for each name a search for each label of its second state, each
+/// from where the last one ended, or one for each arc of its first state where the second has many times as many; where
+/// one machine has, as `expand_counted` by its side. And a look-up for each arc of the result. Space: the result, and
+/// the arcs of one name.
 pub fn compose<W: Weight>(
     alloc: Global,
     a: &Fst<W>,

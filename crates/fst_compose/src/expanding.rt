@@ -128,9 +128,9 @@ pub(crate) fn put_seconds<W: Weight>(
 /// The arcs of a name, as `expand` has them. For the input side the arcs of the name's second state are searched, for
 /// the output side those of its first. (OpenFst manual, "Matchers".)
 ///
-/// A step is one comparison with the label of an arc in a search. Where the first state has m arcs and the second n, there
-/// are at most 2 (m + 1) steps for each binary digit of n for the input side, and 2 n for each binary digit of m for the
-/// output side. What std's sort compares is not counted: for the output side the arcs of the second state are put in
+/// A step is one comparison with the label of an arc in a search. Where the first state has m arcs and the second n,
+/// there are at most 2 (m + 1) steps for each binary digit of n for the input side, and 2 n for each binary digit of m
+/// for the output side. What std's sort compares is not counted: for the output side the arcs of the second state are put in
 /// order where they are not.
 pub fn expand_counted<W: Weight, L: Ledger>(
     alloc: Global,

@@ -2,7 +2,8 @@
 //! writes what the second reads.
 //!
 //! `expand` gives the arcs of one state of the result by its name, and `compose` the machine of all names that the
-//! start reaches. (Mohri 2009, section 4.1; OpenFst manual, "Compose".)
+//! start reaches. Arcs that match are found by searches among arcs that stand by their labels; `expand_counted` says how
+//! many steps these take. (Mohri 2009, section 4.1; OpenFst manual, "Compose" and "Matchers".)
 //!
 //! The definitions stand in `specs`, over graphs of plain values with any kind of name: the names and the arcs of a
 //! composition, how its paths are read off to a path of each machine, and what it gives. `laws` asks for the theorem

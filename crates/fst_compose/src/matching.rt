@@ -21,7 +21,7 @@ use std::sync::ledger::{Blank, Ledger};
 /// How many arcs of a first state are few enough to be gone along for each arc of a second whose arcs are in no order.
 const FEW: usize = 6;
 
-/// How many times as many arcs the second state has where it is searched for each arc of the first, and both are in order.
+/// How many times as many arcs the second state has where it is searched for each arc of the first, both being in order.
 const MANY_TIMES: usize = 8;
 
 /// Which of two machines have their arcs in the order that lets them be searched: the first by its output labels, the
@@ -132,7 +132,7 @@ fn put_runs<W: Weight, L: Ledger>(
     Ok(())
 }
 
-/// Puts the arcs of a name after the others. The arcs of both of its states are in order; those of the first are searched.
+/// Puts the arcs of a name after the others. The arcs of both states are in order; those of the first are searched.
 fn put_by_both<W: Weight, L: Ledger>(
     out: &mut Vec<KeyArc<W>>,
     key: ComposeKey,

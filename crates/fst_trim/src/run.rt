@@ -26,8 +26,8 @@ fn compare<W: Weight, L: Ledger>(
     (label(arc, side) as u64).cmp(&other)
 }
 
-/// The first place of those from `start` up to before `stop` whose label is not below a number, or `stop`; and whether a
-/// label that is the number was met on the way, without which none of them has it.
+/// The first place of those from `start` up to before `stop` whose label is not below a number, or `stop`; and whether
+/// a label that is the number was met on the way, without which none of them has it.
 fn first_place<W: Weight, L: Ledger>(
     arcs: &[FstArc<W>],
     side: Side,
@@ -63,8 +63,8 @@ fn first_place<W: Weight, L: Ledger>(
     (low, met)
 }
 
-/// Where the arcs with a label on a side stand, among arcs that stand by their labels on it: in the places from the first
-/// number up to before the second. Where there is none, both numbers are the place at which such an arc would stand.
+/// Where the arcs with a label on a side stand, among arcs that stand by their labels on it: in the places from the
+/// first number up to before the second. Where there is none, both numbers are the place at which such an arc would stand.
 /// (OpenFst manual, "Matchers".) Takes no memory.
 ///
 /// A step is one comparison with the label of an arc. There are two searches, each with at most as many steps as the
@@ -137,11 +137,11 @@ pub fn run_end<W: Weight>(arcs: &[FstArc<W>], side: Side, other: u32, start: usi
     end
 }
 
-/// The same as `find_run`, begun at a place before which all labels are lower, so that a label that is near is found soon.
-/// Takes no memory.
+/// The same as `find_run`, begun at a place before which all labels are lower, so that a near label is found soon. Takes
+/// no memory.
 ///
-/// A step is one comparison with the label of an arc, in the search of the first arc with the label. The search looks at
-/// places by steps that double, and then between the last two; it takes at most twice as many steps as the number of
+/// A step is one comparison with the label of an arc, in the search of the first arc with the label. The search looks
+/// at places by steps that double, and then between the last two; it takes at most twice as many steps as the number of
 /// arcs has binary digits. The arcs with the label are then gone along, and not counted.
 pub fn run_from<W: Weight, L: Ledger>(
     arcs: &[FstArc<W>],
