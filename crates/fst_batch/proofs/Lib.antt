@@ -5,3 +5,7 @@ pub mod Drawn
 pub mod Finding
 pub mod Jobs
 pub mod Caching
+pub mod Blocking
+pub mod Own
+pub mod Served
+pub mod Running
