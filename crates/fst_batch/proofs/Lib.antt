@@ -9,3 +9,6 @@ pub mod Blocking
 pub mod Own
 pub mod Served
 pub mod Running
+pub mod Turns
+pub mod Joining
+pub mod Gathering

@@ -1,18 +1,24 @@
 //! A phase of a batch: workers serve their jobs beside each other.
 
-ghost use Rattle.std.specs.Prelude.{◌≡◌, ◌+◌, ◌-◌, ◌<◌, ◌≤◌, ℕ, OnOk, Some, length, slice_get};
+ghost use Rattle.std.specs.Prelude.{◌≡◌, [], true, ◌+◌, ◌-◌, ◌<◌, ◌≤◌, ℕ, OnOk, Some, length, slice_get};
 ghost use Rattle.fst_claims.specs.Passes.{IsPassOf, found, parts, won};
-ghost use Rattle.fst_delayed.specs.Caches.{IsTrueOf};
+ghost use Rattle.fst_delayed.specs.Caches.{IsTrueOf, keys};
+ghost use Rattle.fst_delayed.specs.Coding.{code_of};
+ghost use Rattle.fst_delayed.specs.Handed.{Name};
+ghost use Rattle.fst_machine.specs.BreadthFirst.{Has};
+ghost use Rattle.std.specs.List.{Contains};
+ghost use Rattle.fst_claims.specs.declared.table.Pass.{Pass};
+ghost use Rattle.fst_batch.specs.Serving.{codes};
 ghost use Rattle.fst_delayed.specs.Graphs.{delayed_graph};
-ghost use Rattle.fst_batch.specs.Phases.{AllRun, HasRun, IsReady, Laborer};
+ghost use Rattle.fst_batch.specs.Phases.{AllRun, AreEach, AreGathered, HasRun, IsDue, IsHanded, IsReady, IsTakenIn, Laborer};
 
 use crate::gate::Gate;
 use crate::lines::Lines;
 use crate::worker::Worker;
-use fst_claims::Claims;
+use fst_claims::{Claims, Pass};
 use fst_delayed::{Cache, Delayed, Meter};
 use fst_semiring::Weight;
-use std::alloc::Global;
+use std::alloc::{AllocError, Global};
 use std::thread::{Threads, for_each_mut};
 
 /// Runs the workers, each with its pass, beside each other.
@@ -46,4 +52,57 @@ where
             ensures run { HasRun W.KIND W.value W.wide_value M.count M.parts_out M.is_part delayed.entry.now lines.entry.now cache.entry.now claims.entry.now worker.entry.now worker.exit.now }
         { worker.run(alloc, delayed, gate, number as u32, claims, lines, cache) },
     );
+}
+
+/// Gives each worker a pass with one part.
+fn hand_out<W: Weight, M: Meter>(claims: &Claims, pass: &mut Pass, workers: &mut [Worker<W, M>])
+    requires pass { IsPassOf claims.now pass.old }
+    requires parts { length workers.old < parts pass.old }
+    ensures pass { IsPassOf claims.now pass.new × (won pass.new ≡ won pass.old) × (found pass.new ≡ found pass.old) × (parts pass.new + length workers.old ≡ parts pass.old) }
+    ensures handed { AreEach (IsHanded claims.now) workers.old workers.new }
+{
+    for worker in workers.iter_mut() {
+        worker.hand(claims.split(pass));
+    }
+}
+
+/// Joins the pass of a worker to another, and moves what it has expanded behind the entries of a cache.
+fn take_in<W: Weight, M: Meter>(
+    claims: &Claims,
+    pass: &mut Pass,
+    worker: &mut Worker<W, M>,
+    cache: &mut Cache<W>,
+) -> Result<(), AllocError>
+    requires pass { IsPassOf claims.now pass.old }
+    requires seat { (seat : Pass) × (worker.old.pass ≡ Some seat) × IsPassOf claims.now seat × (won seat ≡ codes worker.old.own) }
+    requires known { (n : Name ℕ ℕ) → Has (keys cache.old) n → Has (keys worker.old.own) n → Contains (won pass.old) (code_of n) }
+    ensures taken { OnOk result (IsTakenIn claims.now pass.old pass.new cache.old cache.new worker.old worker.new) }
+{
+    let Some(seat) = worker.give_back() else {
+        return Err(AllocError);
+    };
+    claims.join(pass, seat);
+    worker.hand_over(cache)?;
+    Ok(())
+}
+
+/// Joins the passes of all workers to another, in order, and moves what they have expanded behind the entries of a cache.
+fn gather<W: Weight, M: Meter>(
+    claims: &Claims,
+    pass: &mut Pass,
+    workers: &mut [Worker<W, M>],
+    cache: &mut Cache<W>,
+) -> Result<(), AllocError>
+    requires pass { IsPassOf claims.now pass.old × (won pass.old ≡ []) }
+    requires due { (k : ℕ) (v : Laborer W.Wide M) → slice_get workers.old k ≡ Some v → v.served ≡ true → IsDue claims.now cache.old v }
+    ensures served { OnOk result ((k : ℕ) (v : Laborer W.Wide M) → slice_get workers.old k ≡ Some v → v.served ≡ true) }
+    ensures gathered { OnOk result (AreGathered claims.now pass.old pass.new cache.old cache.new workers.old workers.new) }
+{
+    for worker in workers.iter_mut() {
+        if !worker.has_served() {
+            return Err(AllocError);
+        }
+        take_in(claims, pass, worker, cache)?;
+    }
+    Ok(())
 }

@@ -1,7 +1,7 @@
 //! A worker of a batch.
 
-ghost use Rattle.std.specs.Prelude.{◌≡◌, ◌++◌, ◌∷◌, [], None, OnErr, OnOk};
-ghost use Rattle.fst_delayed.specs.Caches.{IsTrueOf};
+ghost use Rattle.std.specs.Prelude.{◌≡◌, ◌++◌, ◌∷◌, [], None, OnErr, OnOk, Some};
+ghost use Rattle.fst_delayed.specs.Caches.{AreApart, IsTrueOf};
 ghost use Rattle.fst_delayed.specs.Graphs.{delayed_graph};
 ghost use Rattle.fst_batch.specs.Phases.{HasRun, IsReady};
 
@@ -54,6 +54,38 @@ impl<W: Weight, M: Meter> Worker<W, M> {
         ensures err { OnErr result (self.new.jobs ≡ self.old.jobs) }
     {
         self.jobs.push(job)?;
+        Ok(())
+    }
+
+    /// Gives it a pass for a phase.
+    pub(crate) fn hand(&mut self, pass: Pass)
+        ensures { self.new ≡ record self.old { pass = Some pass } }
+    {
+        self.pass = Some(pass);
+    }
+
+    /// Whether it served all its jobs in the last phase.
+    pub(crate) fn has_served(&self) -> bool
+        ensures { result ≡ self.now.served }
+    {
+        self.served
+    }
+
+    /// Takes its pass back.
+    pub(crate) fn give_back(&mut self) -> Option<Pass>
+        ensures pass { result ≡ self.old.pass }
+        ensures rest { self.new ≡ record self.old { pass = None } }
+    {
+        self.pass.take()
+    }
+
+    /// Moves what it has expanded behind the entries of a cache. Where there is no memory, all is as before.
+    pub(crate) fn hand_over(&mut self, cache: &mut Cache<W>) -> Result<(), AllocError>
+        requires apart { AreApart cache.old self.old.own }
+        ensures added { OnOk result (cache.new ≡ cache.old ++ self.old.own) }
+        ensures rest { OnOk result (self.new ≡ record self.old { own = [] }) }
+    {
+        cache.append(&mut self.own)?;
         Ok(())
     }
 
