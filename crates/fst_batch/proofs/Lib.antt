@@ -12,3 +12,4 @@ pub mod Running
 pub mod Turns
 pub mod Joining
 pub mod Gathering
+pub mod Rounds

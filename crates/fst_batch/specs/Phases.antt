@@ -1,18 +1,21 @@
 -- A worker in a phase of a batch, and what a phase does.
-use Rattle.std.specs.Prelude.{◌≡◌, ◌≢◌, ◌++◌, ◌+◌, ◌<◌, ◌^◌, ℕ, List, [], Bool, true, Option, None, Some, length, slice_get}
+use Rattle.std.specs.Prelude.{◌⊎◌, ◌≡◌, ◌≢◌, ◌++◌, ◌+◌, ◌<◌, ◌^◌, ℕ, List, [], Bool, true, Option, None, Some, length, slice_get}
 use Rattle.std.specs.List.{AllPairs, Contains, flat_map}
 use Rattle.fst_semiring.specs.Cost.{Cost}
 use Rattle.fst_semiring.specs.declared.arc_type.ArcType.{ArcType}
+use Rattle.fst_machine.specs.BreadthFirst.{Has}
 use Rattle.fst_machine.specs.Machine.{Machine}
 use Rattle.fst_claims.specs.declared.table.Claims.{Claims}
 use Rattle.fst_claims.specs.declared.table.Pass.{Pass}
 use Rattle.fst_claims.specs.Passes.{IsPassOf, found, parts, won}
 use Rattle.fst_claims.specs.Rule.{all_parts}
-use Rattle.fst_delayed.specs.Caches.{AreApart, Entries, keys}
+use Rattle.fst_delayed.specs.Caches.{AreApart, Entries, IsTrueOf, keys}
+use Rattle.fst_delayed.specs.Coding.{code_of}
 use Rattle.fst_delayed.specs.Graphs.{delayed_graph}
 use Rattle.fst_delayed.specs.Handed.{Name}
-use Rattle.fst_batch.specs.Serving.{HasServed, IsJobOf, IsOwn, codes}
-use Rattle.fst_batch.specs.Walks.{LineWalk}
+use Rattle.fst_batch.specs.Serving.{HasServed, IsJobOf, IsNeededBy, IsOwn, IsSameJob, codes}
+use Rattle.fst_batch.specs.Lattice.{Point}
+use Rattle.fst_batch.specs.Walks.{IsHead, IsOver, LineWalk}
 
 -- What a worker is: its jobs, what it has expanded in this phase, its meter, its pass in a phase, and whether it has served
 -- all jobs in the last phase.
@@ -129,3 +132,35 @@ module _ {V M : Type 0} (t : Claims) (before after : Pass) (old new : Entries V 
     pub learned : 0 < length vs → Learned t after
     pub finds : (k : ℕ) (v : Laborer V M) (seat : Pass) → slice_get vs k ≡ Some v → v.pass ≡ Some seat → (x : ℕ × ℕ) → Contains (found seat) x → Contains (found after) x
     pub emptied : AreEach IsEmptied vs ws
+
+-- A phase: the pass of the table has won the codes of what was added to the cache, in order.
+module _ {W V M : Type 0} (kind : ArcType) (weight : W → Cost) (value : V → Cost) (count parts_out : M → ℕ) (is_part : M → Bool) (d : Machine W × Machine W) (lines : List (List ℕ)) (t : Claims) (pass : Pass) (old new : Entries V (Name ℕ ℕ)) where
+  -- The job is the same. It is over, or waits before a name whose key neither the old cache nor its own worker has: that key was
+  -- won by another worker in this phase, or the table is full.
+  pub record IsLeft (own : Entries V (Name ℕ ℕ)) (j now : LineWalk) : Type 0 where
+    pub same : IsSameJob j now
+    pub job_of : IsJobOf kind weight value d lines (keys new) now
+    pub left : IsOver now ⊎ ((at : Point (Name ℕ ℕ)) × IsHead now at × (Has (keys old ++ keys own) at.name → ⊥) × (Contains (won pass) (code_of at.name) ⊎ (length (won pass) ≡ t.places)))
+
+  -- what became of a worker that has expanded this
+  pub record HasEnded (v w : Laborer V M) (own : Entries V (Name ℕ ℕ)) : Type 0 where
+    pub empty : w.own ≡ []
+    pub no_pass : w.pass ≡ None
+    pub counted : count w.meter ≡ count v.meter + length own
+    pub out : parts_out w.meter ≡ parts_out v.meter
+    pub part : is_part w.meter ≡ is_part v.meter
+    pub size : length w.jobs ≡ length v.jobs
+    pub jobs : (k : ℕ) (now : LineWalk) → slice_get w.jobs k ≡ Some now → (j : LineWalk) × (slice_get v.jobs k ≡ Some j) × IsLeft own j now
+    pub needed : (n : Name ℕ ℕ) → Has (keys own) n → IsNeededBy kind weight value d lines v.jobs n
+
+  pub record IsPhase (vs ws : List (Laborer V M)) : Type 0 where
+    pub of : IsPassOf t pass
+    pub whole : parts pass ≡ all_parts
+    pub owns : List (Entries V (Name ℕ ℕ))
+    pub entries : new ≡ old ++ flat_map (λ es. es) owns
+    pub won_codes : won pass ≡ codes (flat_map (λ es. es) owns)
+    pub distinct : AllPairs (λ a b. a ≢ b) (won pass)
+    pub apart : AreApart old (flat_map (λ es. es) owns)
+    pub true_arcs : IsTrueOf value (delayed_graph kind weight d) new
+    pub size : length ws ≡ length vs
+    pub each : (k : ℕ) (w : Laborer V M) → slice_get ws k ≡ Some w → (v : Laborer V M) × (own : Entries V (Name ℕ ℕ)) × (slice_get vs k ≡ Some v) × (slice_get owns k ≡ Some own) × HasEnded v w own

@@ -1,6 +1,6 @@
 //! The walk of a line.
 
-ghost use Rattle.std.specs.Prelude.{◌≡◌, ◌+◌, ◌<◌, ◌≤◌, ◌++◌, [], ℕ, List, IfOk, MatchOption, OnOk, Some, length, map, slice_get};
+ghost use Rattle.std.specs.Prelude.{◌≡◌, true, false, ◌+◌, ◌<◌, ◌≤◌, ◌++◌, [], ℕ, List, IfOk, MatchOption, OnOk, Some, length, map, slice_get};
 ghost use Rattle.std.specs.Bool.{Decides};
 ghost use Rattle.fst_machine.specs.BreadthFirst.{Has};
 ghost use Rattle.fst_machine.specs.Machine.{most_states};
@@ -8,7 +8,7 @@ ghost use Rattle.fst_delayed.specs.Caches.{IsTrueOf, keys};
 ghost use Rattle.fst_delayed.specs.Graphs.{delayed_graph};
 ghost use Rattle.fst_delayed.specs.Handed.{Name};
 ghost use Rattle.fst_batch.specs.Lattice.{HasNoZero, Point};
-ghost use Rattle.fst_batch.specs.Walks.{IsJob, IsState};
+ghost use Rattle.fst_batch.specs.Walks.{IsJob, IsOver, IsState};
 
 use crate::following::follow;
 use crate::points::Points;
@@ -102,6 +102,14 @@ impl Job {
         ensures { result ≡ self.now.index }
     {
         self.index
+    }
+
+    /// Whether its walk is over. Takes no memory.
+    pub fn is_over(&self) -> bool
+        ensures over { result ≡ true → IsOver self.now }
+        ensures left { result ≡ false → (self.now.stage ≡ Stage.Going) × (self.now.taken < length self.now.points) }
+    {
+        !self.is_left()
     }
 
     /// Whether a name is left to take.

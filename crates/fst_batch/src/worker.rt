@@ -1,6 +1,6 @@
 //! A worker of a batch.
 
-ghost use Rattle.std.specs.Prelude.{◌≡◌, ◌++◌, ◌∷◌, [], None, OnErr, OnOk, Some};
+ghost use Rattle.std.specs.Prelude.{◌≡◌, ◌++◌, ◌∷◌, [], ◌<◌, None, OnErr, OnOk, Some, length, slice_get};
 ghost use Rattle.fst_delayed.specs.Caches.{AreApart, IsTrueOf};
 ghost use Rattle.fst_delayed.specs.Graphs.{delayed_graph};
 ghost use Rattle.fst_batch.specs.Phases.{HasRun, IsReady};
@@ -55,6 +55,21 @@ impl<W: Weight, M: Meter> Worker<W, M> {
     {
         self.jobs.push(job)?;
         Ok(())
+    }
+
+    /// The number of its jobs. Takes no memory.
+    pub fn len(&self) -> usize
+        ensures { result ≡ length self.now.jobs }
+    {
+        self.jobs.len()
+    }
+
+    /// One of its jobs, by its place from 0. Takes no memory.
+    pub fn job(&self, index: usize) -> &Job
+        requires { index < length self.now.jobs }
+        ensures { slice_get self.now.jobs index ≡ Some result.now }
+    {
+        &self.jobs[index]
     }
 
     /// Gives it a pass for a phase.

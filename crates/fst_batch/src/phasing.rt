@@ -1,6 +1,6 @@
 //! A phase of a batch: workers serve their jobs beside each other.
 
-ghost use Rattle.std.specs.Prelude.{◌≡◌, [], true, ◌+◌, ◌-◌, ◌<◌, ◌≤◌, ℕ, OnOk, Some, length, slice_get};
+ghost use Rattle.std.specs.Prelude.{◌≡◌, [], true, ◌+◌, ◌-◌, ◌<◌, ◌≤◌, ℕ, IfOk, OnOk, Some, length, slice_get};
 ghost use Rattle.fst_claims.specs.Passes.{IsPassOf, found, parts, won};
 ghost use Rattle.fst_delayed.specs.Caches.{IsTrueOf, keys};
 ghost use Rattle.fst_delayed.specs.Coding.{code_of};
@@ -10,7 +10,7 @@ ghost use Rattle.std.specs.List.{Contains};
 ghost use Rattle.fst_claims.specs.declared.table.Pass.{Pass};
 ghost use Rattle.fst_batch.specs.Serving.{codes};
 ghost use Rattle.fst_delayed.specs.Graphs.{delayed_graph};
-ghost use Rattle.fst_batch.specs.Phases.{AllRun, AreEach, AreGathered, HasRun, IsDue, IsHanded, IsReady, IsTakenIn, Laborer};
+ghost use Rattle.fst_batch.specs.Phases.{AllRun, AreEach, AreGathered, HasRun, IsDue, IsHanded, IsIdle, IsPhase, IsReady, IsTakenIn, Laborer};
 
 use crate::gate::Gate;
 use crate::lines::Lines;
@@ -105,4 +105,43 @@ fn gather<W: Weight, M: Meter>(
         take_in(claims, pass, worker, cache)?;
     }
     Ok(())
+}
+
+/// What a phase reports: its claim table, and the pass that has all parts of it.
+#[derive(Drop)]
+pub struct PhaseReport {
+    /// The table.
+    pub claims: Claims,
+    /// The pass: it has won the codes of the names that were added to the cache, in order.
+    pub pass: Pass,
+}
+
+/// A phase of a batch over a claim table of 65,536 places: 1 to 64 workers serve their jobs beside each other. A job whose
+/// next name's arcs are not there makes its worker claim that name; the worker that wins it expands it into a cache of its
+/// own and goes on, and where it is taken or the table is full, the job waits and the worker takes up the next. Then what
+/// the workers have expanded stands behind the entries of the shared cache, worker by worker. After `Memory` the batch is
+/// over.
+pub fn phase<R: Threads + Sync, W: Weight + Send + Sync, G: Gate, M: Meter>(
+    rt: &R,
+    alloc: Global,
+    delayed: &Delayed<'_, W, M>,
+    lines: &Lines,
+    cache: &mut Cache<W>,
+    workers: &mut [Worker<W, M>],
+    gate: &G,
+) -> Result<PhaseReport, AllocError>
+where
+    W::Wide: Send + Sync,
+    requires some { 0 < length workers.old }
+    requires few { length workers.old ≤ 64 }
+    requires entries { IsTrueOf W.wide_value (delayed_graph W.KIND W.value delayed.now) cache.old }
+    requires idle { (k : ℕ) (w : Laborer W.Wide M) → slice_get workers.old k ≡ Some w → IsIdle W.KIND W.value W.wide_value M.count M.parts_out M.is_part delayed.now lines.now cache.old w }
+    ensures places { IfOk result (λ r. r.claims.places ≡ 65536) }
+    ensures phase { IfOk result (λ r. IsPhase W.KIND W.value W.wide_value M.count M.parts_out M.is_part delayed.now lines.now r.claims r.pass cache.old cache.new workers.old workers.new) }
+{
+    let (claims, mut pass) = Claims::new(alloc, 65_536)?;
+    hand_out(&claims, &mut pass, workers);
+    run_all(rt, alloc, delayed, gate, &claims, lines, cache, workers);
+    gather(&claims, &mut pass, workers, cache)?;
+    Ok(PhaseReport { claims, pass })
 }

@@ -2,7 +2,7 @@ use Rattle.std.proofs.Common.{◌≡◌, ◌+◌, ◌<◌, ◌≤◌, ℕ, Some,
 use Rattle.fst_claims.specs.Passes.{IsPassOf, found, parts, won}
 use Rattle.fst_batch.specs.Phases.{IsHanded, Laborer}
 use Rattle.fst_batch.proofs.Turns.{InTurn}
-use Rattle.fst_batch.proofs.phase.hand_out.Given as goal
+use Rattle.fst_batch.proofs.phasing.hand_out.Given as goal
 
 abbrev pub invariant-loop-worker : goal.invariant-loop-worker
 invariant-loop-worker g l = record {

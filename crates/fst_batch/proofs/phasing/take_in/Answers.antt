@@ -9,7 +9,7 @@ use Rattle.fst_delayed.specs.Handed.{Name}
 use Rattle.fst_batch.specs.Phases.{Laborer}
 use Rattle.fst_batch.specs.Serving.{codes}
 use Rattle.fst_batch.proofs.Joining.{code_there, distinct_parts}
-use Rattle.fst_batch.proofs.phase.take_in.Goals as goal
+use Rattle.fst_batch.proofs.phasing.take_in.Goals as goal
 
 same_pass : (a b : Pass) → Some a ≡ Some b → a ≡ b
 same_pass a b e = cc

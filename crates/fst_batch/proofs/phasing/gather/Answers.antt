@@ -2,7 +2,7 @@ use Rattle.std.proofs.Common.{◌≡◌, ◌<◌, ◌≤◌, ℕ, Some, true, le
 use Rattle.std.proofs.lemmas.Option.{slice_get-get_or, slice_get_within}
 use Rattle.fst_batch.specs.Phases.{Laborer}
 use Rattle.fst_batch.proofs.Gathering.{gathering_ends, gathering_goes, known}
-use Rattle.fst_batch.proofs.phase.gather.Goals as goal
+use Rattle.fst_batch.proofs.phasing.gather.Goals as goal
 
 pub take_in-requires-clause-seat : goal.take_in-requires-clause-seat
 take_in-requires-clause-seat g c κs within =

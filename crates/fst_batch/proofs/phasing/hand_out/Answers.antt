@@ -1,7 +1,7 @@
 use Rattle.std.proofs.Common.{◌≡◌, ◌+◌, ◌<◌, ◌≤◌, ℕ, length, ap, ◌∙◌, arith}
 use Rattle.fst_batch.specs.Phases.{IsHanded}
 use Rattle.fst_batch.proofs.Turns.{turn_ends, turn_goes}
-use Rattle.fst_batch.proofs.phase.hand_out.Goals as goal
+use Rattle.fst_batch.proofs.phasing.hand_out.Goals as goal
 
 pub loop-worker-preserved : goal.loop-worker-preserved
 loop-worker-preserved g c =
