@@ -5,3 +5,11 @@ pub mod Drawn
 pub mod Finding
 pub mod Jobs
 pub mod Caching
+pub mod Blocking
+pub mod Own
+pub mod Served
+pub mod Running
+pub mod Turns
+pub mod Joining
+pub mod Gathering
+pub mod Rounds

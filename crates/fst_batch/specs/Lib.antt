@@ -3,5 +3,7 @@ pub mod LinePaths
 pub mod Needed
 pub mod Walks
 pub mod Points
+pub mod Serving
+pub mod Phases
 pub mod Draws
 pub mod Cascade

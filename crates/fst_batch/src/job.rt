@@ -1,14 +1,14 @@
 //! The walk of a line.
 
-ghost use Rattle.std.specs.Prelude.{◌≡◌, ◌+◌, ◌<◌, ◌≤◌, ◌++◌, [], ℕ, List, IfOk, MatchOption, OnOk, Some, length, map, slice_get};
+ghost use Rattle.std.specs.Prelude.{◌≡◌, true, false, ◌+◌, ◌<◌, ◌≤◌, ◌++◌, [], ℕ, List, IfOk, MatchOption, OnOk, Some, length, map, slice_get};
 ghost use Rattle.std.specs.Bool.{Decides};
 ghost use Rattle.fst_machine.specs.BreadthFirst.{Has};
 ghost use Rattle.fst_machine.specs.Machine.{most_states};
 ghost use Rattle.fst_delayed.specs.Caches.{IsTrueOf, keys};
 ghost use Rattle.fst_delayed.specs.Graphs.{delayed_graph};
 ghost use Rattle.fst_delayed.specs.Handed.{Name};
-ghost use Rattle.fst_batch.specs.Lattice.{HasNoZero};
-ghost use Rattle.fst_batch.specs.Walks.{IsJob, IsState};
+ghost use Rattle.fst_batch.specs.Lattice.{HasNoZero, Point};
+ghost use Rattle.fst_batch.specs.Walks.{IsJob, IsOver, IsState};
 
 use crate::following::follow;
 use crate::points::Points;
@@ -104,6 +104,14 @@ impl Job {
         self.index
     }
 
+    /// Whether its walk is over. Takes no memory.
+    pub fn is_over(&self) -> bool
+        ensures over { result ≡ true → IsOver self.now }
+        ensures left { result ≡ false → (self.now.stage ≡ Stage.Going) × (self.now.taken < length self.now.points) }
+    {
+        !self.is_left()
+    }
+
     /// Whether a name is left to take.
     fn is_left(&self) -> bool
         ensures { Decides result ((self.now.stage ≡ Stage.Going) × (self.now.taken < length self.now.points)) }
@@ -127,6 +135,8 @@ impl Job {
         requires entries { IsTrueOf W.wide_value (delayed_graph W.KIND W.value delayed.now) (cache.now ++ own.now) }
         ensures job { OnOk result (IsJob W.KIND W.value delayed.now line.now (keys cache.now ++ keys own.now) self.new) }
         ensures same { (self.new.index ≡ self.old.index) × (self.new.limit ≡ self.old.limit) }
+        ensures taken { OnOk result (self.old.taken ≤ self.new.taken) }
+        ensures front { OnOk result ((more : List (Point (Name ℕ ℕ))) × (self.new.points ≡ self.old.points ++ more)) }
         ensures next { IfOk result (λ next. MatchOption next (self.new.taken ≡ self.old.taken + 1) (λ name. IsState self.new (keys cache.now ++ keys own.now) (JobState.Needs name))) }
     {
         // With the start it is known that both are machines.
@@ -159,6 +169,8 @@ impl Job {
         requires entries { IsTrueOf W.wide_value (delayed_graph W.KIND W.value delayed.now) (cache.now ++ own.now) }
         ensures job { OnOk result (IsJob W.KIND W.value delayed.now line.now (keys cache.now ++ keys own.now) self.new) }
         ensures same { (self.new.index ≡ self.old.index) × (self.new.limit ≡ self.old.limit) }
+        ensures taken { OnOk result (self.old.taken ≤ self.new.taken) }
+        ensures front { OnOk result ((more : List (Point (Name ℕ ℕ))) × (self.new.points ≡ self.old.points ++ more)) }
         ensures state { IfOk result (IsState self.new (keys cache.now ++ keys own.now)) }
     {
         while self.is_left() {

@@ -9,15 +9,22 @@
 mod cascade;
 mod drawing;
 mod following;
+mod gate;
 mod job;
 pub mod laws;
 mod lines;
+mod phasing;
 mod points;
+mod serving;
 mod stage;
 mod state;
+mod worker;
 
 pub use cascade::{Cascade, make_cascade};
+pub use gate::{Gate, OpenGate};
 pub use job::Job;
 pub use lines::Lines;
+pub use phasing::{PhaseReport, phase};
 pub use stage::Stage;
 pub use state::JobState;
+pub use worker::Worker;

@@ -1,13 +1,13 @@
 -- The exchange of 0 for a code keeps the rule, where the places before this one hold other codes.
-use Rattle.std.proofs.Common.{◌≡◌, ◌≢◌, ⊎_elim, ℕ, ◌+◌, ◌<◌, ◌≤◌, [], ◌∷◌, ◌++◌, length, set, get_or, length-set, get_or-set_same, get_or-set_other, eqb, refl, sym, ap, ◌∙◌, subst, arith}
+use Rattle.std.proofs.Common.{List, zero, suc, ◌≡◌, ◌≢◌, ⊎_elim, ℕ, ◌+◌, ◌<◌, ◌≤◌, [], ◌∷◌, ◌++◌, length, set, get_or, length-set, get_or-set_same, get_or-set_other, eqb, refl, sym, ap, ◌∙◌, subst, arith}
 use Rattle.std.proofs.lemmas.Bool.{cases_lt}
 use mathlib.Core.Logic.{dite}
-use mathlib.Core.Option.{some, none}
+use mathlib.Core.Option.{none, some, some-ne-none}
 use native.Mathlib.Decide.{ℕ_discrete}
 use lib.ListN.{get_elem?}
 use prog.Atomic.{either}
 use Rattle.atomic_table.specs.Table.{Allows, Me, State, keeps, step}
-use Rattle.atomic_table.proofs.Lists.{exchanged}
+use Rattle.atomic_table.proofs.Lists.{exchanged, set_here}
 use Rattle.fst_claims.specs.declared.view.View.{View}
 use Rattle.fst_claims.specs.Counts.{one_if, times, total}
 use Rattle.fst_claims.specs.Rule.{Fits, IsOther, Kept, place_of}
@@ -15,7 +15,7 @@ use Rattle.fst_claims.specs.Plays.{IsNew, Took, wins}
 use Rattle.fst_claims.specs.Claimed.{HasFound}
 use Rattle.fst_claims.proofs.Counts.{one_other, times-here, times-none, times-one, times-set, total-set}
 use Rattle.fst_claims.proofs.Places.{place-lt, place-onto, place-same}
-use Rattle.fst_claims.proofs.Steps.{Goes, finds_word, won_few}
+use Rattle.fst_claims.proofs.Steps.{Goes, finds_word, knows, won_few}
 use Rattle.fst_claims.proofs.Views.{fits_all, stands_set}
 
 module _ (p : ℕ) (s : State (Unit {0}) View) (kept : Kept p s) (id : ℕ) (v : View) (at : get_elem? s.views id ≡ some v) (has : 0 < v.parts)
@@ -43,7 +43,7 @@ module _ (p : ℕ) (s : State (Unit {0}) View) (kept : Kept p s) (id : ℕ) (v :
   is_new = record {
     not_won = omega (arith, won_few p s kept id v at code, no_word);
     not_found = λ place h. let x = fits.stands place code h in let w = times-here code s.words place x.0 x.2 in omega (arith, w, no_word);
-    had_none = record { words = s.words; sized = kept.sized ∙ sym (fits.sized has); found = fits.stands; won = won_few p s kept id v at; none = no_word };
+    had_none = record { words = s.words; sized = kept.sized ∙ sym (fits.sized has); found = fits.stands; won = won_few p s kept id v at; none = no_word; free = place_of p code k; inside = within; unset = blank };
   }
 
   -- a place that is not this one
@@ -91,6 +91,15 @@ module _ (p : ℕ) (s : State (Unit {0}) View) (kept : Kept p s) (id : ℕ) (v :
           let z : one_if c n ≡ 0 = one_other c n (λ q. let y : c ≡ 0 = q ∙ blank in omega (arith, y)) in
           omega (arith, a, b, z, times-one c code v.won, kept.won_once c some')
 
+within_at : {X : Type 0} (xs : List X) (i : ℕ) (x : X) → get_elem? xs i ≡ some x → i < length xs
+within_at [] i x e = absurd (some-ne-none x (sym e))
+within_at (y ∷ xs) zero x e = omega arith
+within_at (y ∷ xs) (suc i) x e = omega (arith, within_at xs i x e)
+
+-- no more are won than there are places
+few_won : (p : ℕ) (s : State (Unit {0}) View) (id : ℕ) (v w : View) (words : List ℕ) → get_elem? s.views id ≡ some v → Kept p (record { words = words; homes = s.homes; views = set s.views id w }) → 0 < w.parts → length w.won ≤ w.places
+few_won p s id v w words at kept has = (knows p (record { words = words; homes = s.homes; views = set s.views id w }) kept id w (set_here s.views id w (within_at s.views id v at)) has).few
+
 pub takes : (p slots id code k i : ℕ) (me : Me (Unit {0}) View) → 0 < me.0.parts → 0 < code → k < p → HasFound p code k me.0 → i ≡ place_of p code k
     → Allows (Kept p) slots id me i (λ n. either (eqb n 0) code n) (Took (step slots i 0 code none) me)
 takes p slots id code k i me has pos lt passed is s kept wide at small =
@@ -101,6 +110,6 @@ takes p slots id code k i me has pos lt passed is s kept wide at small =
       keeps,
       tt,
       subst (λ (j : ℕ). Kept p (record { words = set s.words j code; homes = s.homes; views = set s.views id (wins me.0 code) })) (sym is) (put p s kept id me.0 at has code k pos lt passed blank'),
-      (refl, (λ _. (refl, is_new p s kept id me.0 at has code k pos lt passed blank')), λ full. absurd (full blank)),
+      (refl, (λ _. (refl, is_new p s kept id me.0 at has code k pos lt passed blank', few_won p s id me.0 (wins me.0 code) (set s.words (place_of p code k) code) at (put p s kept id me.0 at has code k pos lt passed blank') has)), λ full. absurd (full blank)),
     ))
     (λ full. finds_word p s kept i id me (Took (step slots i 0 code none) me) has (subst (λ (j : ℕ). j < p) (sym is) (place-lt p code k (omega arith))) at full (refl, (λ blank. absurd (full blank)), λ _. refl))

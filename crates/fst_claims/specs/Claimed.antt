@@ -1,5 +1,5 @@
 -- What a claim answers.
-use Rattle.std.specs.Prelude.{◌≡◌, ◌≢◌, ℕ, ◌<◌, List, [], ◌∷◌, ◌++◌, length, Some, slice_get}
+use Rattle.std.specs.Prelude.{◌≤◌, ◌≡◌, ◌≢◌, ℕ, ◌<◌, List, [], ◌∷◌, ◌++◌, length, Some, slice_get}
 use Rattle.std.specs.List.{Contains}
 use Rattle.fst_claims.specs.declared.view.View.{View}
 use Rattle.fst_claims.specs.declared.claim.Claim.{Claim}
@@ -33,6 +33,7 @@ module _ (places code : ℕ) (v w : View) where
     pub found : w.found ≡ v.found ++ seen
     pub won : w.won ≡ v.won ++ code ∷ []
     pub new : IsNew code (finds_all v seen)
+    pub few : length w.won ≤ w.places
     pub like : IsLike v w
 
   -- the claim found the code in a place, and others in the places before it

@@ -1,5 +1,5 @@
 -- What each kind of atomic step tells the pass that makes it.
-use Rattle.std.specs.Prelude.{◌≡◌, ◌≢◌, ℕ, ◌+◌, ◌-◌, ◌<◌, ◌≤◌, List, [], ◌∷◌, ◌++◌, length}
+use Rattle.std.specs.Prelude.{slice_index, ◌≡◌, ◌≢◌, ℕ, ◌+◌, ◌-◌, ◌<◌, ◌≤◌, List, [], ◌∷◌, ◌++◌, length}
 use Rattle.std.specs.List.{Contains}
 use Rattle.atomic_table.specs.Table.{Me, Step}
 use Rattle.fst_claims.specs.declared.view.View.{View}
@@ -22,13 +22,17 @@ finds v place word = finds_all v ((place, word) ∷ [])
 abbrev pub wins : View → ℕ → View
 wins v code = record { places = v.places; parts = v.parts; won = v.won ++ code ∷ []; found = v.found }
 
--- Some words, those of the table at that step, had what this view has found and won, and none of them held the code.
+-- Some words, those of the table at that step, had what this view has found and won; none of them held the code, and one
+-- was not set.
 pub record HadNone (code : ℕ) (v : View) : Type 0 where
   pub words : List ℕ
   pub sized : length words ≡ v.places
   pub found : Stands words v.found
   pub won : (c : ℕ) → times c v.won ≤ times c words
   pub none : times code words ≡ 0
+  pub free : ℕ
+  pub inside : free < length words
+  pub unset : slice_index words free ≡ 0
 
 -- the code is new: this view has neither won nor found it, and no word held it
 pub record IsNew (code : ℕ) (v : View) : Type 0 where
@@ -41,9 +45,10 @@ module _ (st : Step (Unit {0})) (m : Me (Unit {0}) View) (n : ℕ) (m' : Me (Uni
   abbrev pub Looked : Type 0
   Looked = (m'.1 ≡ m.1) × (n ≡ 0 → m'.0 ≡ m.0) × (n ≢ 0 → m'.0 ≡ finds m.0 st.word n)
 
-  -- an exchange of 0 for a code: it succeeds where the word was 0, and the code is won; else the word is found
+  -- An exchange of 0 for a code: it succeeds where the word was 0, and the code is won; no more codes are then won than there
+  -- are places. Else the word is found.
   abbrev pub Took : Type 0
-  Took = (m'.1 ≡ m.1) × (n ≡ 0 → (m'.0 ≡ wins m.0 st.second) × IsNew st.second m.0) × (n ≢ 0 → m'.0 ≡ finds m.0 st.word n)
+  Took = (m'.1 ≡ m.1) × (n ≡ 0 → (m'.0 ≡ wins m.0 st.second) × IsNew st.second m.0 × (length m'.0.won ≤ m'.0.places)) × (n ≢ 0 → m'.0 ≡ finds m.0 st.word n)
 
 -- What the rule says of one view that has a part: no code was won twice, no more were won than there are places, codes in
 -- different places differ; and where it has all parts, each code that it has found was won, and as many codes as there

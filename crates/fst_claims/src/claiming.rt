@@ -27,6 +27,14 @@ impl Claims {
         Ok((Claims { table, places }, Pass { seat }))
     }
 
+    /// The number of its places. Takes no memory.
+    pub fn places(&self) -> usize
+        ensures value { result ≡ self.now.places }
+        ensures range { (0 < self.now.places) × (self.now.places ≤ 1048576) }
+    {
+        self.places
+    }
+
     /// Moves one part to a new pass, which has won and found nothing. Takes no memory.
     pub fn split(&self, pass: &mut Pass) -> Pass
         requires pass { IsPassOf self.now pass.old }
@@ -67,7 +75,7 @@ impl Claims {
         requires within { k < self.now.places }
         requires passed { HasFound self.now.places code k (view pass.old) }
         ensures pass { IsSamePass pass.old pass.new }
-        ensures won { result ≡ 0 → (view pass.new ≡ wins (view pass.old) code) × IsNew code (view pass.old) }
+        ensures won { result ≡ 0 → (view pass.new ≡ wins (view pass.old) code) × IsNew code (view pass.old) × (length (won pass.new) ≤ (view pass.new).places) }
         ensures found { result ≢ 0 → view pass.new ≡ finds (view pass.old) (place_of self.now.places code k) result }
     {
         let place = (start + k) % self.places;

@@ -1,5 +1,7 @@
-use Rattle.std.proofs.Common.{◌≡◌, ◌+◌, ◌-◌, ◌++◌}
+use Rattle.std.proofs.Common.{◌≡◌, ◌+◌, ◌-◌, ◌≤◌, ◌++◌, List, ℕ}
 use Rattle.fst_delayed.specs.Caches.{keys}
+use Rattle.fst_delayed.specs.Handed.{Name}
+use Rattle.fst_batch.specs.Lattice.{Point}
 use Rattle.fst_batch.specs.Walks.{IsJob}
 use Rattle.fst_batch.proofs.job.Job.advance.Given as goal
 
@@ -8,6 +10,8 @@ invariant-loop-self g l = record {
   job : IsJob g.W.Weight.KIND g.W.Weight.value l.delayed l.line (keys l.cache ++ keys l.own) l.self;
   index : l.self.index ≡ l.initial.self.index;
   limit : l.self.limit ≡ l.initial.self.limit;
+  taken : l.initial.self.taken ≤ l.self.taken;
+  front : (more : List (Point (Name ℕ ℕ))) × (l.self.points ≡ l.initial.self.points ++ more);
 }
 
 abbrev pub decreases-loop-self : goal.decreases-loop-self
