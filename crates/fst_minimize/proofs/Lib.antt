@@ -15,3 +15,4 @@ pub mod Said
 pub mod Describe
 pub mod Linking
 pub mod Made
+pub mod Whole
