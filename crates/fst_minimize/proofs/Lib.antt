@@ -16,3 +16,4 @@ pub mod Describe
 pub mod Linking
 pub mod Made
 pub mod Whole
+pub mod SameWords

@@ -100,7 +100,7 @@ module _ (kind : ArcType) (m r : Machine Cost) (total : Cost) (h : IsPushed kind
         let place = pushed_ready.once p i j a b one two label in
         same_Some a b (sym one ∙ (ap (slice_get ((graph_of r).arcs p)) place ∙ two))
 
-    normal : IsNormal kind r
+    pub normal : IsNormal kind r
     normal = record { closed = closed; trim = pushed_trim kind m r total h some; single = single; acceptor = pushed_ready.acceptor; values = values; one = pushed_one kind m r total h some }
 
     -- without a start there are no classes

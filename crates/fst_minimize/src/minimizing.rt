@@ -8,7 +8,7 @@ ghost use Rattle.fst_machine.specs.Narrowing.{IsInRange};
 ghost use Rattle.fst_trim.specs.FirstArcs.{IsAcceptor, IsDeterministic};
 ghost use Rattle.fst_distance.specs.Distances.{NoneImproves};
 ghost use Rattle.fst_minimize.specs.Minimized.{IsMinimizeFault, IsMinimized};
-ghost use Rattle.fst_minimize.specs.Words.{IsMinimal};
+ghost use Rattle.fst_minimize.specs.Words.{IsMinimal, SameWords};
 
 use crate::fault::MinimizeFault;
 use crate::making::{make, number_classes};
@@ -41,6 +41,7 @@ pub fn minimize<W: Weight, Q: StateQueue>(
 ) -> Result<Fst<W>, MinimizeFault>
     requires { Q.members queue.old ≡ [] }
     ensures machine { IfOk result (λ r. IsMinimized W.KIND (valued W.value fst.now) (valued W.value r)) }
+    ensures words { IfOk result (λ r. SameWords W.KIND (graph_of (valued W.value fst.now)) (graph_of (valued W.value r))) }
     ensures minimal { IfOk result (λ r. W.CANCELS ≡ true → IsMinimal W.KIND (valued W.value r)) }
     ensures acceptor { OnOk result (IsAcceptor fst.now) }
     ensures deterministic { OnOk result (IsDeterministic fst.now) }
