@@ -18,3 +18,4 @@ pub mod Starting
 pub mod Kept
 pub mod Finishing
 pub mod Accessed
+pub mod Relaxed

@@ -48,7 +48,8 @@ pub record IsOnly (kind : ArcType) (source : ℕ → Cost) (start : ℕ) : Type 
   pub others : (q : ℕ) → (q ≡ start → ⊥) → source q ≡ infinite
 
 -- what a search with given first values answers: the values, with an empty queue, or the cycle
-abbrev pub Measures : {V E : Type 0} → (V → List Cost) → (E → List Step) → ArcType → (Hop → Type 0) → (ℕ → Cost) → Direction → ℕ → ℕ → List ℕ → Result V E → Type 0
+abbrev pub Measures : {V E : Type 0} → (V → List Cost) → (E → List Step) → ArcType → (Hop → Type 0) → (ℕ → Cost) → Direction → ℕ → ℕ
+    → List ℕ → Result V E → Type 0
 Measures values steps kind Goes source direction n bound members (Ok v) = (members ≡ []) × AreLeast kind Goes source n bound (values v)
 Measures values steps kind Goes source direction n bound members (Err e) = IsFound kind Goes source direction (steps e)
 

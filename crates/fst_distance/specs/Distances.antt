@@ -49,7 +49,8 @@ IfImproving Memory P = Unit {0}
 
 -- The distances of n states of a graph, whose numbers are within n times a bound, where no cycle on a state that counts
 -- is better than One.
-pub record IsMeasured (kind : ArcType) (g : Graph ℕ) (Distance : ℕ → Cost → Type 0) (Counting : ℕ → Type 0) (n bound : ℕ) (values : List Cost) : Type 0 where
+pub record IsMeasured (kind : ArcType) (g : Graph ℕ) (Distance : ℕ → Cost → Type 0) (Counting : ℕ → Type 0) (n bound : ℕ)
+    (values : List Cost) : Type 0 where
   pub size : length values ≡ n
   pub distances : (q : ℕ) (d : Cost) → slice_get values q ≡ Some d → Distance q d
   pub numbers : (q : ℕ) (d : Cost) → slice_get values q ≡ Some d → Within (n * bound) d

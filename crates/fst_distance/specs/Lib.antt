@@ -5,3 +5,4 @@ pub mod ArcHops
 pub mod Trying
 pub mod Cycles
 pub mod Distances
+pub mod Laws

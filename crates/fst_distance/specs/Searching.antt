@@ -59,7 +59,8 @@ pub record Tentative (kind : ArcType) (Goes : Hop → Type 0) (source : ℕ → 
 -- What holds in a round that has k rounds before it. Paths of at most k hops are taken into account; a state that does
 -- not wait has handed on what such a path gives it, and one that is not put off its distance; one that is put off is
 -- better than they are.
-pub record Round (kind : ArcType) (Goes : Hop → Type 0) (source : ℕ → Cost) (k : ℕ) (D : ℕ → Cost) (Waits : ℕ → Type 0) (later : List ℕ) : Type 0 where
+pub record Round (kind : ArcType) (Goes : Hop → Type 0) (source : ℕ → Cost) (k : ℕ) (D : ℕ → Cost)
+    (Waits : ℕ → Type 0) (later : List ℕ) : Type 0 where
   pub short : (q p : ℕ) (back : List Hop) → length back ≤ k → IsBack Goes q back p → NoWorse (D q) (value_by kind source back p)
   pub relaxed : (h : Hop) (p : ℕ) (back : List Hop) → Goes h → (Waits h.from → ⊥) → length back ≤ k → IsBack Goes h.from back p
       → NoWorse (D h.to) (times kind h.weight (value_by kind source back p))
@@ -71,7 +72,8 @@ abbrev pub most_number : ℕ
 most_number = 1180591620717411303424
 
 -- Which states are members of the queue, which are put off and which were met, by their turns, and how far numbers go.
-pub record Marked (kind : ArcType) (Goes : Hop → Type 0) (source : ℕ → Cost) (n bound mark takes : ℕ) (nodes : List (Node Cost)) (members later met : List ℕ) : Type 0 where
+pub record Marked (kind : ArcType) (Goes : Hop → Type 0) (source : ℕ → Cost) (n bound mark takes : ℕ)
+    (nodes : List (Node Cost)) (members later met : List ℕ) : Type 0 where
   pub size : length nodes ≡ n
   pub members_low : (q : ℕ) → Has members q → turn_at nodes q < mark
   pub members_met : (q : ℕ) → Has members q → Has met q

@@ -1,9 +1,9 @@
 //! Shortest distances, by one search for every queue.
 //!
-//! `distance` gives the distances from the start or to the final states of a machine. The search goes in rounds, in each
-//! of which a state is taken at most once, so that it ends with every queue that keeps the clauses of `StateQueue`, and
-//! its answer does not depend on the queue. Where a cycle is better than One, so that there is no best path, it is
-//! listed.
+//! `distance` gives the distances from the start or to the final states of a machine, and `useful_distances` those to
+//! the final states where only cycles on successful paths count. The search goes in rounds, in each of which a state is
+//! taken at most once, so that it ends with every queue that keeps the clauses of `StateQueue`, and its answer does not
+//! depend on the queue. Where a cycle is better than One, so that there is no best path, it is listed.
 //!
 //! The definitions stand in `specs`: hops between states, along arcs or back along them, which a search follows; what
 //! holds of a search on its way; and what is promised in the words of machines.
@@ -14,6 +14,7 @@ mod cycle;
 mod direction;
 mod distances;
 mod fault;
+pub mod laws;
 mod measuring;
 mod node;
 mod searching;

@@ -37,12 +37,12 @@ fn useful_measured<W: Weight, V: Copy, M: Widens<W, V>, Q: StateQueue>(
 }
 
 /// The distances to the final states of the states that the start reaches; Zero for all others. Only cycles on states
-/// that successful paths meet count, so that this gives what the n best paths and pushing need, in the states and places
-/// of the given machine: `Fst`, or `WideFst` where no number has an absolute value above 2 to the 70.
+/// that successful paths meet count, so that this gives what the n best paths and pushing need, in the states and
+/// places of the given machine: `Fst`, or `WideFst` where no number has an absolute value above 2 to the 70.
 ///
 /// `ImprovingCycle` exactly where a cycle with a product better than One has states that successful paths meet; the
-/// fault lists such a cycle. `Memory` may come in place of any answer. After an `Ok` the queue is empty; after a refusal
-/// it may hold states of the machine.
+/// fault lists such a cycle. `Memory` may come in place of any answer. After an `Ok` the queue is empty; after a
+/// refusal it may hold states of the machine.
 ///
 /// Time and space: as `distance`, and one byte for each state.
 pub fn useful_distances<W: Weight, V: Copy, M: Widens<W, V>, Q: StateQueue>(

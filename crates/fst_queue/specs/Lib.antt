@@ -1,3 +1,4 @@
 pub mod Members
 pub mod Orders
+pub mod Leaving
 pub mod Heap

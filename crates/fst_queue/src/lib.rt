@@ -9,13 +9,13 @@
 #![tactic(auto)]
 
 mod best_first;
-mod fifo;
+mod ends;
 mod heap;
-mod lifo;
+mod in_order;
 mod marks;
 mod queue;
 
 pub use best_first::BestFirst;
-pub use fifo::Fifo;
-pub use lifo::Lifo;
+pub use ends::{End, First, Last};
+pub use in_order::{Fifo, InOrder, Lifo};
 pub use queue::StateQueue;

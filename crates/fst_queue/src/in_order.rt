@@ -1,28 +1,36 @@
-//! The queue that takes the state that was put first.
+//! The queues that take states by the order in which they were put.
 
 ghost use Rattle.std.specs.Prelude.{◌≡◌, [], OnOk, OnErr};
 ghost use Rattle.std.specs.Bool.{Decides};
 ghost use Rattle.fst_machine.specs.BreadthFirst.{Apart};
 ghost use Rattle.fst_queue.specs.Members.{Adds, Takes};
-ghost use Rattle.fst_queue.specs.Orders.{Joins, TakesFirst};
+ghost use Rattle.fst_queue.specs.Orders.{Joins};
 
+use crate::ends::{End, First, Last};
 use crate::marks::{grow, is_marked};
 use crate::queue::StateQueue;
 use fst_semiring::Key;
 use std::alloc::{AllocError, Global};
 use std::collections::VecDeque;
-use std::marker::Model;
+use std::marker::{Model, PhantomData};
 
-/// First in, first out. Contracts see the members in the order in which they were put.
+/// States in the order in which they were put, which leave at one end. Contracts see the members in this order.
 ///
 /// It takes 4 bytes a member and one byte for each state up to the greatest that was ever put.
 #[derive(Drop)]
-pub struct Fifo {
+pub struct InOrder<E: End> {
     states: VecDeque<u32>,
     marks: Vec<bool>,
+    end: PhantomData<E>,
 }
 
-impl Model for Fifo {
+/// First in, first out.
+pub type Fifo = InOrder<First>;
+
+/// Last in, first out.
+pub type Lifo = InOrder<Last>;
+
+impl<E: End> Model for InOrder<E> {
     ghost use Rattle.std.specs.Prelude.{ℕ, List};
     ghost use Rattle.fst_machine.specs.BreadthFirst.{Apart};
     ghost use Rattle.fst_machine.specs.Marks.{Marks};
@@ -34,19 +42,20 @@ impl Model for Fifo {
     ghost invariant = { λ q. Apart q.states.items × Marks q.marks.items q.states.items };
 }
 
-impl Fifo {
+impl<E: End> InOrder<E> {
     /// The queue without members. Takes constant time and no memory.
-    pub fn new(alloc: Global) -> Fifo
+    pub fn new(alloc: Global) -> InOrder<E>
         ensures { result ≡ [] }
     {
-        Fifo {
+        InOrder {
             states: VecDeque::new(alloc),
             marks: Vec::new(alloc),
+            end: PhantomData,
         }
     }
 }
 
-impl StateQueue for Fifo {
+impl<E: End> StateQueue for InOrder<E> {
     ghost members = { λ q. q };
 
     /// Adds a state after the others. A state that is present keeps its place. The key says nothing.
@@ -67,13 +76,13 @@ impl StateQueue for Fifo {
         Ok(())
     }
 
-    /// Takes the state that was put first. Takes constant time and no memory.
+    /// Takes the state at the end at which states leave. Takes constant time and no memory.
     fn take(&mut self) -> Option<u32>
         ensures takes { Takes self.old result self.new }
         ensures apart { Apart self.new }
-        ensures first { TakesFirst self.old result self.new }
+        ensures leaves { E.leaves self.old result self.new }
     {
-        let state = self.states.pop_front()?;
+        let state = E::pop(&mut self.states)?;
         self.marks[state as usize] = false;
         Some(state)
     }

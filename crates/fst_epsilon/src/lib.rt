@@ -1,0 +1,4 @@
+//! Removal of epsilon arcs.
+#![tactic(auto)]
+
+pub mod laws;
