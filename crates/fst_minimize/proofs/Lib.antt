@@ -15,3 +15,5 @@ pub mod Said
 pub mod Describe
 pub mod Linking
 pub mod Made
+pub mod Whole
+pub mod SameWords

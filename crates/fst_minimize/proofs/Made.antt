@@ -11,7 +11,7 @@ use Rattle.std.proofs.lemmas.Option.{slice_get-get_or, slice_get_within, get_or_
 use Rattle.fst_semiring.specs.Cost.{Cost, infinite}
 use Rattle.fst_semiring.specs.declared.arc_type.ArcType.{ArcType}
 use Rattle.fst_semiring.specs.Semiring.{times}
-use Rattle.fst_machine.specs.Machine.{Arc, State, Machine, IsArc, IsMachine, arc_total, most_arcs, most_states}
+use Rattle.fst_machine.specs.Machine.{Arc, State, Machine, IsArc, IsMachine, arc_total, most_arcs, most_states, valued_arc}
 use Rattle.fst_machine.specs.Graph.{Graph, graph_of, no_state, renamed}
 use Rattle.fst_machine.specs.Narrowing.{IsInRange, IsFirstPast}
 use Rattle.fst_machine.proofs.Arcs.{at_mapped, mapped_at}
@@ -115,7 +115,7 @@ module _ (kind : ArcType) (total : Cost) (m : Machine Cost) (numbers least : Lis
   pub made_at : (i p : ℕ) → slice_get least i ≡ Some p → slice_get made.states i ≡ Some (totalled_state kind total (class_state m numbers p))
   made_at i p e = at_mapped (totalled_state kind total) (map (class_state m numbers) least) i (class_state m numbers p) (at_mapped (class_state m numbers) least i p e)
 
-  least_low : (i p : ℕ) → slice_get least i ≡ Some p → p < length m.states
+  pub least_low : (i p : ℕ) → slice_get least i ≡ Some p → p < length m.states
   least_low i p e = let low = slice_get_within numbers p i (h.member i p e) in omega arith
 
   pub made_total : arc_total made.states ≤ arc_total m.states
@@ -168,3 +168,18 @@ room_step states i s n there so_far few =
     let within = sum_by_more_le (λ (t : State Cost). length t.arcs) states i s (slice_get_within states i s there) in
     let own : length (get_or states i s).arcs ≡ length s.arcs = ap (λ (t : State Cost). length t.arcs) (get_or_from_slice_get states i s s there) in
     omega (arith, within, own)
+
+-- the ends of the arcs that are read
+pub ends_below : {V : Type 0} (value : V → Cost) (arcs : List (Arc V ℕ)) (others : List (Arc Cost ℕ)) (n : ℕ) → map (valued_arc value) arcs ≡ others → All (λ a. a.next < n) others → All (λ a. a.next < n) arcs
+ends_below value arcs others n same all k d low =
+    let there = at_mapped (valued_arc value) arcs k (get_or arcs k d) (slice_get-get_or arcs k d low) in
+    all_at (λ a. a.next < n) others k (valued_arc value (get_or arcs k d)) (ap (λ xs. slice_get xs k) (sym same) ∙ there) all
+
+-- two maps, one after the other
+pub map_fuse : {X Y Z : Type 0} (f : X → Y) (g : Y → Z) (xs : List X) → map (λ x. g (f x)) xs ≡ map g (map f xs)
+map_fuse f g [] = refl
+map_fuse f g (x ∷ xs) = ap (λ ys. g (f x) ∷ ys) (map_fuse f g xs)
+
+-- arcs of a state lead to states
+pub arcs_below : (m : Machine Cost) (p n : ℕ) → IsMachine (λ v. v) m → p < length m.states → n ≡ length m.states → All (λ a. a.next < n) ((graph_of m).arcs p)
+arcs_below m p n is low same k d within = let near = (is.arcs p no_state low k d within).next in omega arith

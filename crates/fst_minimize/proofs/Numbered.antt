@@ -4,25 +4,10 @@ use Rattle.std.proofs.lemmas.List.{length-append}
 use Rattle.std.proofs.lemmas.Option.{slice_get-get_or, slice_get_within, same_Some}
 use Rattle.std.specs.Bool.{Decides}
 use Rattle.fst_machine.proofs.Arcs.{append_at, at_append_left, at_append_right}
+use Rattle.fst_pushing.proofs.Lists.{push_at, push_last}
 use Rattle.fst_minimize.specs.Pairs.{IsNext, IsNumberTable, KnowsMore, Spells, packed}
 use Rattle.fst_minimize.specs.Numbered.{AreSmall, IsNumbering, Notes, Reads, Numbers, TellsApart}
 use Rattle.fst_minimize.proofs.Tables.{Spells_more, Spells_same, Spells_once, packed_once}
-
--- what is in a place of a list with one element more
-pub push_at : {X : Type 0} (xs : List X) (x y : X) (k : ℕ) → slice_get (xs ++ x ∷ []) k ≡ Some y → (slice_get xs k ≡ Some y) ⊎ ((k ≡ length xs) × (x ≡ y))
-push_at {X} xs x y k e = by (append_at xs (x ∷ []) k y e)
-  where
-    at_one : (j : ℕ) → slice_get (x ∷ []) j ≡ Some y → (j ≡ 0) × (x ≡ y)
-    at_one zero h = (refl, same_Some x y h)
-    at_one (suc j) h = absurd (cc)
-
-    by : (slice_get xs k ≡ Some y) ⊎ ((j : ℕ) × (slice_get (x ∷ []) j ≡ Some y) × (k ≡ length xs + j)) → (slice_get xs k ≡ Some y) ⊎ ((k ≡ length xs) × (x ≡ y))
-    by (inl h) = inl h
-    by (inr h) = let o = at_one h.0 h.1 in inr ((let a = o.0 in let b = h.2 in omega arith), o.1)
-
--- the last place
-pub push_last : {X : Type 0} (xs : List X) (x : X) → slice_get (xs ++ x ∷ []) (length xs) ≡ Some x
-push_last xs x = let none : length xs + 0 ≡ length xs = omega arith in subst (λ (k : ℕ). slice_get (xs ++ x ∷ []) k ≡ Some x) none (at_append_right xs (x ∷ []) 0 x refl)
 
 -- one row more with a number that is known
 pub numbering_known : (numbers least : List ℕ) (n : ℕ) → IsNumbering numbers least → n < length least → IsNumbering (numbers ++ n ∷ []) least

@@ -10,3 +10,4 @@ pub mod Refining
 pub mod Saying
 pub mod Described
 pub mod Ready
+pub mod Minimized

@@ -1,10 +1,21 @@
 //! Minimization of deterministic weighted acceptors.
+//!
+//! `minimize` makes one state of all states of the pushed machine that behave the same. The states are numbered by rows
+//! of numbers, and the numbers refined by rounds, until states with one number behave the same. The laws of equal
+//! behaviour, that the machine of the classes relates the same, and that no deterministic machine with the same word
+//! weights has fewer states, stand over graphs of any kind of name; `laws` asks for them.
 #![tactic(auto)]
 
 mod describing;
+mod fault;
 pub mod laws;
+mod making;
+mod minimizing;
 mod numberer;
 mod pairs;
 mod rounds;
 mod rows;
 mod weights;
+
+pub use fault::MinimizeFault;
+pub use minimizing::minimize;

@@ -151,3 +151,19 @@ module _ (m c : Machine Cost) (h : IsConnected m c) where
       let labels : x.1.ilabel ≡ y.1.ilabel = ap (λ (l : Letter). l.ilabel) x.3 ∙ (label ∙ sym (ap (λ (l : Letter). l.ilabel) y.3)) in
       let place : x.0 ≡ y.0 = once p x.0 y.0 x.1 y.1 x.2 y.2 labels in
       one_place h.kept ((graph_of m).arcs p) x.0 i j x.5 (subst (λ (k : ℕ). IsKeptAt h.kept ((graph_of m).arcs p) k j) (sym place) y.5)
+
+-- a name from which a path goes on to a final one is the number of a state
+pub coaccessible_below : (m : Machine Cost) (p : ℕ) → IsCoaccessible (graph_of m) p → p < length m.states
+coaccessible_below m p f = by_path f.path f.leads
+  where
+    by_path : (path : List (Transition ℕ)) → IsPath (graph_of m) p path f.last → p < length m.states
+    by_path (t ∷ path) leads = state_below m p t.place t.arc leads.0.1
+    by_path [] here = by (cases_lt p (length m.states))
+      where
+        by : (p < length m.states) ⊎ (length m.states ≤ p) → p < length m.states
+        by (inl low) = low
+        by (inr past) = absurd (f.final (ap (graph_of m).final (sym here) ∙ final_past m p past))
+
+-- the kept states are states of the machine
+pub kept_below : (m c : Machine Cost) (h : IsConnected m c) (i p : ℕ) → slice_get h.kept i ≡ Some p → p < length m.states
+kept_below m c h i p e = coaccessible_below m p (kept_useful m c h i p e).1

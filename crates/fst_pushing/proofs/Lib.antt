@@ -7,3 +7,4 @@ pub mod Pushed
 pub mod Bounds
 pub mod Lists
 pub mod View
+pub mod Picked

@@ -32,3 +32,8 @@ pub record HasDistances (kind : ArcType) (c : Machine Cost) (d : ℕ → Cost) :
   pub distance : (p : ℕ) → p < length c.states → IsFinalDistance kind (graph_of c) p (d p)
   pub potential : IsPotential kind d (graph_of c) (λ p. p < length c.states)
   pub range : (p : ℕ) → p < length c.states → Within most_distance (d p)
+
+-- The list has what the other has in these places.
+pub record Picks {X : Type 0} (places : List ℕ) (all picked : List X) : Type 0 where
+  pub size : length picked ≡ length places
+  pub at : (i p : ℕ) → slice_get places i ≡ Some p → (x : X) × (slice_get picked i ≡ Some x) × (slice_get all p ≡ Some x)

@@ -4,9 +4,11 @@
 //! The distances that weights are pushed by are handed in, so that this crate does not search.
 #![tactic(auto)]
 
+mod by_distance;
 pub mod laws;
 mod narrowing;
 mod pushing;
 
+pub use by_distance::{Totalled, push_lazily};
 pub use narrowing::narrow_state;
 pub use pushing::Pushing;

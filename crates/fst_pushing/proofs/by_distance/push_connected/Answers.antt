@@ -1,0 +1,66 @@
+use Rattle.std.proofs.Common.{◌≡◌, ◌<◌, ◌≤◌, ℕ, List, Some, length, get_or, slice_get, refl, sym, ap, ◌∙◌, subst, arith}
+use Rattle.std.specs.Prelude.{IfSome}
+use Rattle.std.proofs.lemmas.List.{length-map}
+use Rattle.std.proofs.lemmas.Option.{slice_get-get_or}
+use Rattle.fst_semiring.specs.Cost.{Cost}
+use Rattle.fst_semiring.specs.Semiring.{Within}
+use Rattle.fst_machine.specs.Machine.{Machine, IsMachine, valued, valued_state, most_states}
+use Rattle.fst_machine.specs.Connected.{IsConnected}
+use Rattle.fst_machine.proofs.Valued.{IsMachine-valued}
+use Rattle.fst_pushing.specs.Pushing.{IsPushed, pushed_machine, value_at}
+use Rattle.fst_pushing.specs.Values.{Picks, most_distance, value_in}
+use Rattle.fst_pushing.proofs.Connecting.{connected_start, kept_below}
+use Rattle.fst_pushing.proofs.Picked.{machine_some, picked_distances, picked_pushed, picked_range, value_at_within}
+use Rattle.fst_pushing.proofs.by_distance.push_connected.Goals as goal
+
+pub pick-requires : goal.pick-requires
+pick-requires g c = λ i d low.
+    let m = valued g.W.Weight.value c.args.fst.now in
+    let n = valued g.W.Weight.value c.in_ok-machine.field-0.machine in
+    let on = c.in_ok-machine.ensures.machine in
+    let size : length m.states ≡ length c.args.fst.now.states = length-map c.args.fst.now.states (valued_state g.W.Weight.value) in
+    let same : c.deref.result.now ≡ on.0.kept = c.deref.ensures.value ∙ sym on.1 in
+    let here : slice_get c.deref.result.now i ≡ Some (get_or c.deref.result.now i d) = slice_get-get_or c.deref.result.now i d low in
+    let below : get_or c.deref.result.now i d < length m.states = kept_below m n on.0 i (get_or c.deref.result.now i d) (ap (λ (ps : List ℕ). slice_get ps i) (sym same) ∙ here) in
+    let two = c.requires.size in
+    omega arith
+
+pub start_value-total-requires : goal.start_value-total-requires
+start_value-total-requires g c =
+    let m = valued g.W.Weight.value c.args.fst.now in
+    let n = valued g.W.Weight.value c.in_ok-machine.field-0.machine in
+    let on = c.in_ok-machine.ensures.machine in
+    let size : length n.states ≡ length c.in_ok-machine.field-0.machine.states = length-map c.in_ok-machine.field-0.machine.states (valued_state g.W.Weight.value) in
+    let same : c.deref.result.now ≡ on.0.kept = c.deref.ensures.value ∙ sym on.1 in
+    let long : length c.deref-2.result.now ≡ length c.in_ok-machine.field-0.machine.states =
+    ap length c.deref-2.ensures.value ∙ (c.in_ok-distances.ensures.size ∙ (ap length same ∙ (sym on.0.states ∙ size))) in
+    subst (λ (k : ℕ). IfSome c.start.result (λ s. s < k)) (sym long) c.start.ensures.state
+
+pub new-requires-clause-distances : goal.new-requires-clause-distances
+new-requires-clause-distances g c =
+    let w = g.W.Weight in
+    let m = valued w.value c.args.fst.now in
+    let n = valued w.value c.in_ok-machine.field-0.machine in
+    let on = c.in_ok-machine.ensures.machine in
+    let picks = subst (λ (ps : List ℕ). Picks ps c.args.all.now c.in_ok-distances.distances.items) (c.deref.ensures.value ∙ sym on.1) c.in_ok-distances.ensures in
+    let few : length c.args.all.now ≤ most_states = let a = c.requires.size in let b = c.states-states.ensures.machine.few_states in omega arith in
+    picked_distances w.KIND w.wide_value m n on.0 (machine_some m (IsMachine-valued w.value c.args.fst.now c.states-states.ensures.machine)) c.args.all.now c.in_ok-distances.distances.items few picks c.requires.distances c.requires.numbers c.requires.kinds
+
+pub returns : goal.returns
+returns g c =
+    let w = g.W.Weight in
+    let m = valued w.value c.args.fst.now in
+    let n = valued w.value c.in_ok-machine.field-0.machine in
+    let on = c.in_ok-machine.ensures.machine in
+    let picks = subst (λ (ps : List ℕ). Picks ps c.args.all.now c.in_ok-distances.distances.items) (c.deref.ensures.value ∙ sym on.1) c.in_ok-distances.ensures in
+    let few : length c.args.all.now ≤ most_states = let a = c.requires.size in let b = c.states-states.ensures.machine.few_states in omega arith in
+    let total : w.wide_value c.start_value-total.result ≡ value_at (value_in w.wide_value c.in_ok-distances.distances.items) n.start =
+    c.start_value-total.ensures ∙ (ap (λ ds. value_at (value_in w.wide_value ds) c.start.result) c.deref-2.ensures.value ∙ ap (value_at (value_in w.wide_value c.in_ok-distances.distances.items)) c.start.ensures.value) in
+    let all = picked_pushed w.KIND w.wide_value m n on.0 (machine_some m (IsMachine-valued w.value c.args.fst.now c.states-states.ensures.machine)) c.args.all.now c.in_ok-distances.distances.items few picks c.requires.distances c.requires.numbers c.requires.kinds
+    (w.wide_value c.start_value-total.result) total in
+    let starts : IfSome n.start (λ s. s < length n.states) = connected_start m n on.0 in
+    record {
+      range = subst (Within most_distance) (sym total) (value_at_within most_distance (value_in w.wide_value c.in_ok-distances.distances.items) (length n.states) n.start starts
+          (picked_range w.KIND w.wide_value m n on.0 (machine_some m (IsMachine-valued w.value c.args.fst.now c.states-states.ensures.machine)) c.args.all.now c.in_ok-distances.distances.items few picks c.requires.distances c.requires.numbers c.requires.kinds));
+      pushed = subst (λ (r : Machine Cost). IsPushed w.KIND m r (w.wide_value c.start_value-total.result)) (sym c.new.ensures) all;
+    }
