@@ -6,3 +6,4 @@ pub mod Families
 pub mod Entries
 pub mod Turns
 pub mod PathWords
+pub mod Ready
