@@ -25,10 +25,10 @@ use Rattle.fst_nbest.proofs.Ranks.{nat_cases, nat_less, nat_same, cost_itself, t
 -- ---- the same families in another order
 
 -- where an element that stands in place k of an exchanged list stood
-abbrev Moved : ℕ → ℕ → ℕ → ℕ → Type 0
+abbrev pub Moved : ℕ → ℕ → ℕ → ℕ → Type 0
 Moved a b k j = ((k ≡ a) × (j ≡ b)) ⊎ (((k ≡ b) × (j ≡ a)) ⊎ ((k ≡ a → ⊥) × (k ≡ b → ⊥) × (j ≡ k)))
 
-moved_once : (a b i j k l : ℕ) → Moved a b i k → Moved a b j l → k ≡ l → i ≡ j
+pub moved_once : (a b i j k l : ℕ) → Moved a b i k → Moved a b j l → k ≡ l → i ≡ j
 moved_once a b i j k l (inl p) (inl q) e = omega (arith, p.0, p.1, q.0, q.1)
 moved_once a b i j k l (inl p) (inr (inl q)) e = omega (arith, p.0, p.1, q.0, q.1)
 moved_once a b i j k l (inl p) (inr (inr q)) e = absurd (q.1 (omega (arith, p.0, p.1, q.2)))
@@ -39,7 +39,7 @@ moved_once a b i j k l (inr (inr p)) (inl q) e = absurd (p.1 (omega (arith, q.0,
 moved_once a b i j k l (inr (inr p)) (inr (inl q)) e = absurd (p.0 (omega (arith, q.0, q.1, p.2)))
 moved_once a b i j k l (inr (inr p)) (inr (inr q)) e = omega (arith, p.2, q.2)
 
-moved_from : {X : Type 0} (l : List X) (a b k : ℕ) (x : X) → a < length l → b < length l → slice_get (swap l a b) k ≡ Some x → (j : ℕ) × Moved a b k j × (slice_get l j ≡ Some x)
+pub moved_from : {X : Type 0} (l : List X) (a b k : ℕ) (x : X) → a < length l → b < length l → slice_get (swap l a b) k ≡ Some x → (j : ℕ) × Moved a b k j × (slice_get l j ≡ Some x)
 moved_from {X} l a b k x low_a low_b e = by (cases_eq k a) (cases_eq k b)
   where
     here : get_or (swap l a b) k x ≡ x

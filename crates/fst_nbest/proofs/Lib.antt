@@ -12,3 +12,5 @@ pub mod Sorted
 pub mod Walks
 pub mod Routes
 pub mod Searches
+pub mod SortedTurns
+pub mod PathWords

@@ -29,12 +29,17 @@ use Rattle.fst_nbest.proofs.Ranks.{first_ahead}
 use Rattle.fst_nbest.proofs.Sorted.{in_order_at}
 use Rattle.fst_nbest.proofs.Walks.{entry_moves, entry_same, map_same, some_order}
 
-Has-map : {X Y : Type 0} (f : X → Y) (xs : List X) (y : Y) → Has (map f xs) y → (x : X) × Has xs x × (f x ≡ y)
+pub Has-map : {X Y : Type 0} (f : X → Y) (xs : List X) (y : Y) → Has (map f xs) y → (x : X) × Has xs x × (f x ≡ y)
 Has-map f [] y none = absurd none
 Has-map f (x ∷ xs) y (inl e) = (x, inl refl, e)
 Has-map f (x ∷ xs) y (inr there) = let rest = Has-map f xs y there in (rest.0, inr rest.1, rest.2)
 
-All-has : {X : Type 0} (P : X → Type 0) (xs : List X) (x : X) → All P xs → Has xs x → P x
+pub map_Has : {X Y : Type 0} (f : X → Y) (xs : List X) (x : X) → Has xs x → Has (map f xs) (f x)
+map_Has f [] x none = absurd none
+map_Has f (y ∷ xs) x (inl e) = inl (ap f e)
+map_Has f (y ∷ xs) x (inr there) = inr (map_Has f xs x there)
+
+pub All-has : {X : Type 0} (P : X → Type 0) (xs : List X) (x : X) → All P xs → Has xs x → P x
 All-has P xs x all there =
     let at = Has_at xs x there in
     subst P (get_or_from_slice_get xs at.0 x x at.1) (all at.0 x at.2)

@@ -5,3 +5,5 @@ pub mod Words
 pub mod Families
 pub mod Entries
 pub mod Turns
+pub mod PathWords
+pub mod Ready

@@ -9,6 +9,7 @@ mod entry;
 mod enumerating;
 mod heap;
 mod orders;
+mod path_system;
 mod system;
 mod turns;
 mod walking;

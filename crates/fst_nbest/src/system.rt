@@ -36,12 +36,8 @@ pub(crate) trait System<D: Copy> {
     /// The number of names, and with it what holds of the words.
     fn name_count(&self) -> u32
         ensures count { result ≡ size self.now }
+        ensures cancel { cancels kind ≡ true }
         ensures good { AreWords kind (words self.now) (dist self.now) (count self.now) };
-
-    /// Whether words go on from a name.
-    fn is_live(&self, name: u32) -> bool
-        requires { name < size self.now }
-        ensures { MatchBool result (IsAhead kind (words self.now) name (dist self.now name) (count self.now name)) ((v : Cost) (word : List ℕ) → Says kind (words self.now) name word v → ⊥) };
 
     /// One.
     fn one(&self) -> D
@@ -79,7 +75,4 @@ pub(crate) trait System<D: Copy> {
         requires { name < size self.now }
         ensures total { value result.0 ≡ dist self.now name }
         ensures arcs { result.1 ≡ count self.now name };
-
-    // Factors cancel.
-    ghost cancel: { cancels kind ≡ true };
 }

@@ -21,7 +21,7 @@ words-init g c =
       search =
           subst (λ (ws : List (List ℕ)). IsSearching s.kind (s.words system) (s.dist system) (s.count system) s.value s.bounded c.args.start ws c.prepare.new.self c.push.new.self.items) (sym c.new-listed.ensures)
           (subst (λ (es : List (Entry _)). IsSearching s.kind (s.words system) (s.dist system) (s.count system) s.value s.bounded c.args.start [] c.prepare.new.self es) table
-          (search_begins s.kind (s.words system) (s.dist system) (s.count system) s.value s.bounded g.met.S.System.cancel c.name_count-names.ensures.good c.args.start c.prepare.new.self first (s.dist system c.args.start) (s.count system c.args.start)
+          (search_begins s.kind (s.words system) (s.dist system) (s.count system) s.value s.bounded c.name_count-names.ensures.cancel c.name_count-names.ensures.good c.args.start c.prepare.new.self first (s.dist system c.args.start) (s.count system c.args.start)
           c.in_ok-prepare.ensures.orders c.in_ok-prepare.ensures.there (omega (arith, size, c.requires.start)) c.requires.live refl refl refl c.whole-total.ensures.arcs c.one.ensures.value c.whole-total.ensures.total c.one.ensures.bound));
       size = size;
       clear = c.new-left.ensures.items;
@@ -33,7 +33,7 @@ pub returns-in_default-clause-first : goal.returns-in_default-clause-first
 returns-in_default-clause-first g c =
     let s = g.S.System in
     let system = c.args.system.now in
-    search_ends s.kind (s.words system) (s.dist system) (s.count system) s.value s.bounded g.met.S.System.cancel c.name_count-names.ensures.good c.args.start c.words.listed c.words.orders c.words.table.items c.args.n c.words.invariant.few (inr c.in_default.ensures) c.words.invariant.search
+    search_ends s.kind (s.words system) (s.dist system) (s.count system) s.value s.bounded c.name_count-names.ensures.cancel c.name_count-names.ensures.good c.args.start c.words.listed c.words.orders c.words.table.items c.args.n c.words.invariant.few (inr c.in_default.ensures) c.words.invariant.search
 
 pub words-preserved : goal.words-preserved
 words-preserved g c = record {
@@ -48,5 +48,5 @@ pub returns-clause-first : goal.returns-clause-first
 returns-clause-first g c =
     let s = g.S.System in
     let system = c.args.system.now in
-    search_ends s.kind (s.words system) (s.dist system) (s.count system) s.value s.bounded g.met.S.System.cancel c.name_count-names.ensures.good c.args.start c.words.listed c.words.orders c.words.table.items c.args.n c.words.invariant.few
+    search_ends s.kind (s.words system) (s.dist system) (s.count system) s.value s.bounded c.name_count-names.ensures.cancel c.name_count-names.ensures.good c.args.start c.words.listed c.words.orders c.words.table.items c.args.n c.words.invariant.few
     (inl (omega (arith, c.words.invariant.few, c.words-test.false, c.len.ensures))) c.words.invariant.search

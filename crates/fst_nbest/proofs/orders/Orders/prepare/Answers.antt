@@ -24,7 +24,7 @@ returns-clause-there g c =
     let system = c.args.system.now in
     sorted_there s.kind (s.words system) (s.dist system) (s.count system) items_of c.self.inside.lists.items c.args.name c.in_ok-moves.moves
     (subst (λ (l : List (List ℕ)). c.args.name < length l) (sym c.self.view_is) c.requires.name)
-    (some_move s.kind (s.words system) (s.dist system) (s.count system) g.met.S.System.cancel c.name_count-names.ensures.good c.args.name _ (s.dist system c.args.name) (s.count system c.args.name) c.requires.live c.in_ok-moves.ensures)
+    (some_move s.kind (s.words system) (s.dist system) (s.count system) c.name_count-names.ensures.cancel c.name_count-names.ensures.good c.args.name _ (s.dist system c.args.name) (s.count system c.args.name) c.requires.live c.in_ok-moves.ensures)
 
 pub returns-clause-grow : goal.returns-clause-grow
 returns-clause-grow g c =
