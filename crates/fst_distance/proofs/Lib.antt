@@ -19,3 +19,5 @@ pub mod Kept
 pub mod Finishing
 pub mod Accessed
 pub mod Relaxed
+pub mod Unmet
+pub mod Silent

@@ -6,3 +6,4 @@ pub mod Trying
 pub mod Cycles
 pub mod Distances
 pub mod Laws
+pub mod Closure

@@ -10,6 +10,8 @@
 #![tactic(auto)]
 
 mod beginning;
+mod closing;
+mod closures;
 mod cycle;
 mod direction;
 mod distances;
@@ -19,11 +21,14 @@ mod measuring;
 mod node;
 mod searching;
 mod table;
+mod unmeeting;
 mod useful;
 mod widens;
 
+pub use closures::{Closed, Closures};
 pub use direction::Direction;
 pub use distances::{distance, distance_boxed};
 pub use fault::DistanceFault;
+pub use unmeeting::Reached;
 pub use useful::useful_distances;
 pub use widens::Widens;
