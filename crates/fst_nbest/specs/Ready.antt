@@ -27,12 +27,14 @@ abbrev pub IsBounded : {D : Type 0} → (D → Cost) → ArcType → ℕ → D �
 IsBounded value kind k t = Within (k * 1180591620717411303424) (value t) × IsCost kind (value t)
 
 -- These are the distances and the counts of a machine.
-pub record IsReady {V D : Type 0} (kind : ArcType) (value : V → Cost) (wide : D → Cost) (known : V → Type 0) (m : Machine V) (dist : List D) (count : List ℕ) : Type 0 where
+pub record IsReady {V D : Type 0} (kind : ArcType) (value : V → Cost) (wide : D → Cost) (known : V → Type 0)
+    (m : Machine V) (dist : List D) (count : List ℕ) : Type 0 where
   pub dist_size : length dist ≡ length m.states
   pub count_size : length count ≡ length m.states
   pub exact : AreDistances kind (graph_of (valued value m)) (dist_in wide dist)
   pub firm : HasSolidArcs kind (graph_of (valued value m))
-  pub counts : (q : ℕ) → (dist_in wide dist q ≡ infinite → ⊥) → IsCount kind (path_words (graph_of (valued value m)) (dist_in wide dist)) q (dist_in wide dist q) (count_in count q)
+  pub counts : (q : ℕ) → (dist_in wide dist q ≡ infinite → ⊥)
+      → IsCount kind (path_words (graph_of (valued value m)) (dist_in wide dist)) q (dist_in wide dist q) (count_in count q)
   pub numbers : (q : ℕ) → Within most_distance (dist_in wide dist q)
   pub kinds : (q : ℕ) → IsCost kind (dist_in wide dist q)
   pub weights : All (λ s. All (λ a. known a.weight) s.arcs) m.states
