@@ -1,5 +1,5 @@
 -- A machine with its distances and counts, read.
-use Rattle.std.proofs.Common.{◌≡◌, ◌⊎◌, inl, inr, ℕ, ◌+◌, ◌<◌, ◌≤◌, zero, suc, Bool, true, false, List, [], ◌∷◌, ◌++◌, Option, None, Some, length, map, get_or, slice_get, refl, sym, ap, ap₂, subst, ◌∙◌, arith}
+use Rattle.std.proofs.Common.{◌≡◌, ℕ, ◌<◌, suc, true, false, List, [], ◌∷◌, ◌++◌, Option, Some, length, map, get_or, slice_get, refl, sym, ap, subst, ◌∙◌}
 use Rattle.std.proofs.lemmas.Option.{get_or_from_slice_get, slice_get_read}
 use Rattle.fst_semiring.specs.Cost.{Cost, best, finite, infinite, is_infinite}
 use Rattle.fst_semiring.specs.declared.arc_type.ArcType.{ArcType}
@@ -8,10 +8,10 @@ use Rattle.fst_machine.specs.Machine.{Arc}
 use Rattle.fst_machine.specs.Graph.{Graph}
 use Rattle.fst_machine.proofs.Arcs.{at_mapped}
 use Rattle.fst_nbest.specs.declared.turns.Turn.{Turn}
-use Rattle.fst_nbest.specs.Words.{Words, Ahead, ahead_of, ahead_of_stop, ahead_of_step}
+use Rattle.fst_nbest.specs.Words.{Ahead, ahead_of, ahead_of_stop, ahead_of_step}
 use Rattle.fst_nbest.specs.PathWords.{solid, toward, arc_step, path_words}
 use Rattle.fst_nbest.specs.Turns.{HasTurn}
-use Rattle.fst_nbest.specs.Ready.{dist_in, count_in}
+use Rattle.fst_nbest.specs.Ready.{dist_in}
 
 pub dist_is : {D : Type 0} (wide : D → Cost) (dist : List D) (q : ℕ) (x : D) → q < length dist → x ≡ get_or dist q x → wide x ≡ dist_in wide dist q
 dist_is wide dist q x low is = sym (get_or_from_slice_get (map wide dist) q (wide x) infinite (at_mapped wide dist q x (slice_get_read dist (length dist) q x refl low is)))

@@ -1,11 +1,10 @@
 -- What the program keeps of a machine before it lists paths: distances and counts by state.
-use Rattle.std.specs.Prelude.{◌≡◌, ◌⊎◌, ℕ, ◌+◌, ◌*◌, ◌<◌, ◌≤◌, List, length, map, get_or, All}
+use Rattle.std.specs.Prelude.{◌≡◌, ℕ, ◌*◌, List, length, map, get_or, All}
 use Rattle.fst_semiring.specs.Cost.{Cost, infinite}
 use Rattle.fst_semiring.specs.declared.arc_type.ArcType.{ArcType}
 use Rattle.fst_semiring.specs.Semiring.{IsCost, Within}
 use Rattle.fst_machine.specs.Machine.{Machine, valued}
-use Rattle.fst_machine.specs.Graph.{Graph, graph_of}
-use Rattle.fst_nbest.specs.Words.{Words}
+use Rattle.fst_machine.specs.Graph.{graph_of}
 use Rattle.fst_nbest.specs.PathWords.{AreDistances, HasSolidArcs, IsCount, path_words}
 
 -- the distance of a state, Zero past the last, and its count

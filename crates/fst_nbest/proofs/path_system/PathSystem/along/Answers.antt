@@ -1,4 +1,4 @@
-use Rattle.std.proofs.Common.{◌≡◌, ◌∙◌, sym, ap, subst, lit≤, ◌+◌}
+use Rattle.std.proofs.Common.{sym, subst, lit≤, ◌+◌}
 use Rattle.fst_semiring.specs.Cost.{Cost}
 use Rattle.fst_semiring.specs.Semiring.{Within}
 use Rattle.fst_semiring.proofs.Ranges.{Within-more, Within-times}

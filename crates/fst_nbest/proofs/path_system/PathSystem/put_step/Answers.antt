@@ -1,4 +1,4 @@
-use Rattle.std.proofs.Common.{◌≡◌, ℕ, ◌+◌, ◌<◌, List, length, get_or, true, false, sym, ap, ap₂, ◌∙◌, refl, suc, arith}
+use Rattle.std.proofs.Common.{◌≡◌, ℕ, ◌+◌, ◌<◌, List, length, get_or, sym, ap, ap₂, ◌∙◌, refl, arith}
 use Rattle.std.proofs.lemmas.Option.{get_or_from_slice_get, slice_get_read}
 use Rattle.fst_semiring.specs.Cost.{is_infinite}
 use Rattle.fst_machine.specs.Machine.{Arc, valued}

@@ -1,4 +1,4 @@
-use Rattle.std.proofs.Common.{◌≡◌, true, false, sym, ap, ◌∙◌, refl}
+use Rattle.std.proofs.Common.{sym, ap, ◌∙◌, refl}
 use Rattle.fst_semiring.specs.Cost.{is_infinite}
 use Rattle.fst_machine.specs.Machine.{valued}
 use Rattle.fst_machine.specs.Graph.{graph_of}
