@@ -1,5 +1,5 @@
 -- How families of words are taken apart.
-use Rattle.std.proofs.Common.{◌≡◌, ◌⊎◌, inl, inr, ℕ, ◌+◌, ◌<◌, ◌≤◌, zero, suc, List, [], ◌∷◌, ◌++◌, Option, None, Some, length, get_or, slice_get, refl, sym, ap, ap₂, subst, ◌∙◌, true, append_assoc, append-nil, arith}
+use Rattle.std.proofs.Common.{◌≡◌, ◌⊎◌, inl, inr, ℕ, ◌+◌, ◌<◌, ◌≤◌, zero, suc, List, [], ◌∷◌, ◌++◌, Some, length, get_or, slice_get, refl, sym, ap, ap₂, subst, ◌∙◌, true, arith}
 use Rattle.std.proofs.Common.{Ordering, Less, Equal, Greater}
 use Rattle.std.specs.Ordering.{nat_cmp, ordering_then}
 use Rattle.std.specs.Cmp.Lexicographic.{slice_cmp}
@@ -7,20 +7,18 @@ use Rattle.std.specs.List.Sorted.{IsPermutation}
 use Rattle.std.specs.List.{swap}
 use Rattle.std.proofs.lemmas.Bool.{cases_eq}
 use Rattle.std.proofs.lemmas.Option.{same_Some, slice_get_within, get_or_from_slice_get, slice_get-get_or}
-use Rattle.std.proofs.lemmas.List.{length-append, append_cancel_left}
-use Rattle.std.proofs.lemmas.List.Sorted.{IsPermutation-keeps, IsPermutation-sym, IsPermutation-swap, length_permutation}
+use Rattle.std.proofs.lemmas.List.{length-append}
+use Rattle.std.proofs.lemmas.List.Sorted.{IsPermutation-keeps, IsPermutation-swap, length_permutation}
 use Rattle.std.proofs.lemmas.List.Edits.{swapped_from_swap}
-use Rattle.fst_semiring.specs.Cost.{Cost, infinite, cost_cmp}
+use Rattle.fst_semiring.specs.Cost.{Cost, cost_cmp}
 use Rattle.fst_semiring.specs.declared.arc_type.ArcType.{ArcType}
-use Rattle.fst_semiring.specs.Semiring.{cancels, one_of, times, IsCost}
-use Rattle.fst_semiring.proofs.Order.{cost_cmp_equal}
-use Rattle.fst_semiring.proofs.Laws.{times_assoc, times_one, one_times, times_only_zero}
-use Rattle.fst_semiring.proofs.OfKind.{IsCost-times}
+use Rattle.fst_semiring.specs.Semiring.{cancels, one_of, times}
+use Rattle.fst_semiring.proofs.Laws.{times_assoc, times_one, one_times}
 use Rattle.fst_machine.specs.BreadthFirst.{Has}
-use Rattle.fst_machine.proofs.Elements.{Has-append_left, Has-append_right, Has-append_cases, Has_at, at_Has}
-use Rattle.fst_nbest.specs.Words.{Words, WeightedWord, word_cmp, WordsAscend, first_move, NoLess, Ahead, move_cmp, Says, IsAhead, ahead_of, ahead_of_stop, ahead_of_step, InOrder, IsOrder, AreWords}
-use Rattle.fst_nbest.specs.Families.{Family, route, family_cmp, Holds, AreDisjoint, AreApart, Leads, IsFamily, IsCovered, IsLeading}
-use Rattle.fst_nbest.proofs.Ranks.{nat_cases, nat_less, nat_same, cost_itself, then_cases, by_weight, by_length, by_places, less_times, cost_less_trans, move_less, word_ahead, move_word, first_ahead, some_move}
+use Rattle.fst_machine.proofs.Elements.{Has-append_cases, Has_at, at_Has}
+use Rattle.fst_nbest.specs.Words.{Words, WeightedWord, word_cmp, WordsAscend, first_move, NoLess, Ahead, move_cmp, Says, ahead_of, InOrder, AreWords}
+use Rattle.fst_nbest.specs.Families.{Family, route, Holds, AreDisjoint, AreApart, Leads, IsFamily}
+use Rattle.fst_nbest.proofs.Ranks.{nat_cases, nat_less, nat_same, cost_itself, by_weight, by_length, by_places, less_times, cost_less_trans, move_less, word_ahead}
 
 -- ---- the same families in another order
 

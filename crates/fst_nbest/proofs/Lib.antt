@@ -14,3 +14,4 @@ pub mod Routes
 pub mod Searches
 pub mod SortedTurns
 pub mod PathWords
+pub mod Preparing

@@ -1,5 +1,5 @@
 -- The paths of a graph as words.
-use Rattle.std.proofs.Common.{◌≡◌, ◌⊎◌, inl, inr, ℕ, ◌+◌, ◌<◌, ◌≤◌, zero, suc, List, [], ◌∷◌, ◌++◌, Option, None, Some, length, map, slice_get, refl, sym, ap, ap₂, subst, ◌∙◌, append-nil, arith}
+use Rattle.std.proofs.Common.{◌≡◌, ◌⊎◌, inl, inr, ℕ, List, [], ◌∷◌, ◌++◌, Option, None, Some, length, map, slice_get, refl, sym, ap, ap₂, subst, ◌∙◌, arith}
 use Rattle.std.proofs.Common.{Ordering, Less, Equal, Greater}
 use Rattle.std.specs.Ordering.{nat_cmp, ordering_then, ordering_reverse}
 use Rattle.std.specs.Cmp.Lexicographic.{slice_cmp}
@@ -13,14 +13,14 @@ use Rattle.fst_semiring.proofs.Order.{cost_cmp_equal, plus_least}
 use Rattle.fst_machine.specs.Machine.{Arc}
 use Rattle.fst_machine.specs.Graph.{Graph}
 use Rattle.fst_machine.specs.Letters.{product}
-use Rattle.fst_machine.specs.Paths.{Transition, IsPath, letters, places}
+use Rattle.fst_machine.specs.Paths.{Transition, IsPath, letters}
 use Rattle.fst_machine.specs.Relation.{IsSuccessful}
 use Rattle.fst_machine.specs.Cycles.{IsAccessible}
 use Rattle.fst_machine.specs.Distance.{Finishes, IsFinalDistance}
 use Rattle.fst_machine.specs.BreadthFirst.{Has}
 use Rattle.fst_machine.specs.PathOrder.{WeightedPath, arc_places, path_cmp, Ascends, IsFirst}
 use Rattle.fst_machine.proofs.PathParts.{IsPath-append, same_path}
-use Rattle.fst_nbest.specs.Words.{Words, WeightedWord, word_cmp, WordsAscend, Says, NoLess, AreFirstWords, AreWords, IsAhead}
+use Rattle.fst_nbest.specs.Words.{WeightedWord, word_cmp, WordsAscend, Says, NoLess, AreFirstWords, AreWords, IsAhead}
 use Rattle.fst_nbest.proofs.Searches.{Has-map, map_Has}
 use Rattle.fst_nbest.specs.PathWords.{HasSolidArcs, IsCount, solid, toward, arc_step, path_words, AreDistances}
 

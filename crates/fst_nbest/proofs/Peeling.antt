@@ -1,6 +1,6 @@
 -- How the first words are found: a family is taken, walked to the end of its best word, and leaves one family at each
 -- name on the way.
-use Rattle.std.proofs.Common.{◌≡◌, ◌⊎◌, inl, inr, ℕ, ◌+◌, ◌<◌, ◌≤◌, zero, suc, List, [], ◌∷◌, ◌++◌, Option, None, Some, length, refl, sym, ap, ap₂, subst, ◌∙◌, true, false, append_assoc, append-nil, arith}
+use Rattle.std.proofs.Common.{◌≡◌, ◌⊎◌, inl, inr, ℕ, ◌+◌, ◌<◌, ◌≤◌, suc, List, [], ◌∷◌, ◌++◌, Some, length, refl, sym, ap, subst, ◌∙◌, true, false, append_assoc, append-nil, arith}
 use Rattle.std.proofs.Common.{Ordering, Less, Equal, Greater}
 use Rattle.std.specs.Ordering.{nat_cmp, ordering_then, is_gt}
 use Rattle.std.specs.Cmp.Lexicographic.{slice_cmp}
@@ -11,16 +11,16 @@ use Rattle.std.proofs.lemmas.List.Sorted.{IsPermutation-sym}
 use Rattle.std.proofs.lemmas.Map.Lookups.{exact_bytes, exact_unsigned}
 use Rattle.fst_semiring.specs.Cost.{Cost, infinite, cost_cmp}
 use Rattle.fst_semiring.specs.declared.arc_type.ArcType.{ArcType}
-use Rattle.fst_semiring.specs.Semiring.{cancels, one_of, times, IsCost}
+use Rattle.fst_semiring.specs.Semiring.{cancels, one_of, times}
 use Rattle.fst_semiring.proofs.Order.{cost_cmp_equal, then_equal}
-use Rattle.fst_semiring.proofs.Laws.{one_not_zero, one_times, times_assoc, times_one, times_only_zero}
+use Rattle.fst_semiring.proofs.Laws.{one_not_zero, one_times, times_assoc, times_only_zero}
 use Rattle.fst_semiring.proofs.OfKind.{IsCost-one, IsCost-times}
 use Rattle.fst_machine.specs.BreadthFirst.{Has}
 use Rattle.fst_machine.proofs.Elements.{Has-append_left, Has-append_right, Has-append_cases}
-use Rattle.fst_nbest.specs.Words.{Words, WeightedWord, word_cmp, WordsAscend, first_move, NoLess, Ahead, Says, IsAhead, ahead_of, ahead_of_step, ahead_of_stop, InOrder, IsOrder, AreWords, AreFirstWords}
-use Rattle.fst_nbest.specs.Families.{Family, route, family_cmp, Holds, AreDisjoint, AreApart, Leads, IsFamily, IsCovered, IsLeading}
-use Rattle.fst_nbest.proofs.Ranks.{by_weight, by_length, by_places, cost_less_trans, first_ahead, nat_cases, move_word, some_move, then_cases, word_ahead}
-use Rattle.fst_nbest.proofs.Covering.{Behind, Has-permutation, AreApart-permutation, apart_cons, apart_head, apart_tail, ascends_push, by_behind, first_once, holds_behind, holds_says, leads_on, leads_once, leads_says, route_less, route_same, says_holds, says_rest, slice_behind, slice_move}
+use Rattle.fst_nbest.specs.Words.{Words, WeightedWord, word_cmp, first_move, Ahead, Says, ahead_of, ahead_of_step, ahead_of_stop, InOrder, IsOrder, AreWords, AreFirstWords}
+use Rattle.fst_nbest.specs.Families.{Family, route, family_cmp, Holds, AreDisjoint, IsFamily, IsCovered, IsLeading}
+use Rattle.fst_nbest.proofs.Ranks.{by_weight, by_length, by_places, cost_less_trans, first_ahead, nat_cases, move_word, then_cases, word_ahead}
+use Rattle.fst_nbest.proofs.Covering.{Behind, Has-permutation, AreApart-permutation, apart_cons, apart_head, apart_tail, ascends_push, by_behind, first_once, holds_behind, holds_says, leads_on, route_less, route_same, says_holds, says_rest, slice_behind, slice_move}
 
 -- the family behind one more step
 abbrev pub next_family : {N : Type 0} → ArcType → Family N → ℕ → Cost → N → List ℕ → Family N

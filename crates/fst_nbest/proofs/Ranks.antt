@@ -1,13 +1,12 @@
 -- What is ahead of moves is exact, and words compare by it.
-use Rattle.std.proofs.Common.{◌≡◌, ◌⊎◌, inl, inr, ℕ, ◌+◌, ◌<◌, ◌≤◌, zero, suc, List, [], ◌∷◌, ◌++◌, Option, None, Some, length, refl, sym, ap, ap₂, subst, ◌∙◌, true, arith}
+use Rattle.std.proofs.Common.{◌≡◌, ◌⊎◌, inl, inr, ℕ, ◌+◌, ◌<◌, ◌≤◌, zero, suc, List, [], ◌∷◌, Option, None, Some, length, refl, sym, ap, subst, ◌∙◌, true, arith}
 use Rattle.std.proofs.Common.{Ordering, Less, Equal, Greater}
 use Rattle.std.specs.Ordering.{nat_cmp, ordering_then, ordering_reverse}
 use Rattle.std.specs.Cmp.{nat_cmp_is, IsTotalOrder}
 use Rattle.std.specs.Cmp.Lexicographic.{slice_cmp}
 use Rattle.std.proofs.lemmas.Bool.{cases_lt, cases_eq}
-use Rattle.std.proofs.lemmas.Cmp.{then_total, on_total, nat_cmp_total, nat_list_cmp_total, tied_itself}
+use Rattle.std.proofs.lemmas.Cmp.{then_total, on_total, nat_cmp_total, nat_list_cmp_total}
 use Rattle.std.proofs.lemmas.Option.{same_Some}
-use Rattle.std.proofs.lemmas.List.{length-append}
 use Rattle.fst_semiring.specs.Cost.{Cost, infinite, cost_cmp, cost_total, plus}
 use Rattle.fst_semiring.specs.declared.arc_type.ArcType.{ArcType}
 use Rattle.fst_semiring.specs.Semiring.{cancels, times, IsCost}
@@ -15,8 +14,7 @@ use Rattle.fst_semiring.proofs.Order.{cost_cmp_equal, cost_cmp_same, plus_less, 
 use Rattle.fst_semiring.proofs.Laws.{times_keeps}
 use Rattle.fst_semiring.proofs.Cancelling.{times_cancels}
 use Rattle.fst_machine.specs.BreadthFirst.{Has}
-use Rattle.fst_nbest.specs.Words.{Words, WeightedWord, word_cmp, first_move, NoLess, Ahead, move_cmp, Says, IsAhead, ahead_of, ahead_of_stop, ahead_of_step, InOrder, IsOrder, AreWords}
-use Rattle.fst_nbest.specs.Families.{route}
+use Rattle.fst_nbest.specs.Words.{Words, WeightedWord, word_cmp, first_move, NoLess, Ahead, move_cmp, Says, IsAhead, ahead_of, ahead_of_stop, ahead_of_step, IsOrder, AreWords}
 
 -- ---- orders
 

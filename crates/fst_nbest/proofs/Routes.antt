@@ -1,12 +1,12 @@
 -- Routes, place by place.
-use Rattle.std.proofs.Common.{◌≡◌, ◌⊎◌, inl, inr, ℕ, ◌+◌, ◌<◌, ◌≤◌, zero, suc, Bool, true, false, List, [], ◌∷◌, ◌++◌, Some, length, map, drop, take, get_or, slice_get, refl, sym, ap, ap₂, subst, ◌∙◌, min, arith}
+use Rattle.std.proofs.Common.{◌≡◌, ◌⊎◌, inl, inr, ℕ, ◌+◌, ◌<◌, ◌≤◌, zero, suc, Bool, true, false, List, [], ◌∷◌, Some, length, map, drop, take, get_or, slice_get, refl, sym, ap, ap₂, ◌∙◌, min, arith}
 use Rattle.std.proofs.Common.{Ordering, Less, Equal, Greater}
 use Rattle.std.specs.Prelude.{nat_lt}
 use Rattle.std.specs.Ordering.{nat_cmp, ordering_then, is_lt}
 use Rattle.std.specs.Cmp.Lexicographic.{slice_cmp}
 use Rattle.std.proofs.lemmas.Bool.{cases_lt, lt-ltb, ltb-true}
 use Rattle.std.proofs.lemmas.List.{drop_more, get_or-take, length-drop, length-take-le}
-use Rattle.std.proofs.lemmas.Option.{get_or_from_slice_get, slice_get_within}
+use Rattle.std.proofs.lemmas.Option.{get_or_from_slice_get}
 use Rattle.fst_nbest.specs.declared.entry.Entry.{Entry}
 use Rattle.fst_nbest.specs.Families.{route}
 use Rattle.fst_nbest.specs.Entries.{CanCompare, list_at, move_of, prefix_of, route_of}

@@ -1,6 +1,6 @@
 -- A search on its way: one more word is listed.
-use Rattle.std.proofs.Common.{◌≡◌, ◌≢◌, ◌⊎◌, inl, inr, ℕ, ◌+◌, ◌<◌, ◌≤◌, zero, suc, false, List, [], ◌∷◌, ◌++◌, Option, None, Some, length, map, drop, take, get_or, slice_get, refl, sym, ap, ap₂, subst, ◌∙◌, true, append_assoc, append-nil, arith}
-use Rattle.std.proofs.Common.{Ordering, Less, Equal, Greater}
+use Rattle.std.proofs.Common.{◌≡◌, ◌≢◌, ◌⊎◌, inl, inr, ℕ, ◌+◌, ◌<◌, ◌≤◌, false, List, [], ◌∷◌, ◌++◌, Some, length, map, drop, take, get_or, refl, sym, ap, ap₂, subst, ◌∙◌, true, append_assoc, arith}
+use Rattle.std.proofs.Common.{Ordering}
 use Rattle.std.specs.Prelude.{Result, OnOk}
 use Rattle.std.proofs.Common.{Ok, Err}
 use Rattle.std.specs.Ordering.{is_gt, nat_cmp, ordering_then}
@@ -8,10 +8,10 @@ use Rattle.std.specs.Cmp.Lexicographic.{slice_cmp}
 use Rattle.std.specs.List.{All}
 use Rattle.std.specs.List.Sorted.{IsPermutation}
 use Rattle.std.proofs.lemmas.Bool.{cases_lt}
-use Rattle.std.proofs.lemmas.List.{length-append, map-append, get_or_append_left, get_or_push, get_or_past, length-map, length-take-le}
+use Rattle.std.proofs.lemmas.List.{map-append, get_or_append_left, get_or_push, get_or_past, length-map, length-take-le}
 use Rattle.std.proofs.lemmas.List.Elements.{All-append, All-cons, All-nil, All-head, All-tail, All-weaker}
-use Rattle.std.proofs.lemmas.List.Sorted.{All-permutation, IsPermutation-append_left, IsPermutation-append_right, IsPermutation-cons, IsPermutation-map, IsPermutation-refl, IsPermutation-sym, IsPermutation-trans, IsPermutation-middle}
-use Rattle.std.proofs.lemmas.Option.{slice_get_within, get_or_from_slice_get}
+use Rattle.std.proofs.lemmas.List.Sorted.{All-permutation, IsPermutation-append_right, IsPermutation-map, IsPermutation-trans}
+use Rattle.std.proofs.lemmas.Option.{get_or_from_slice_get}
 use Rattle.fst_semiring.specs.Cost.{Cost, cost_cmp}
 use Rattle.fst_semiring.specs.declared.arc_type.ArcType.{ArcType}
 use Rattle.fst_semiring.specs.Semiring.{cancels, one_of, times}
@@ -22,9 +22,9 @@ use Rattle.fst_nbest.specs.declared.entry.Entry.{Entry}
 use Rattle.fst_nbest.specs.Heap.{NotAfter, IsHeap, FirstLeaves}
 use Rattle.fst_nbest.specs.Words.{Words, WeightedWord, Ahead, ahead_of, AreWords, AreFirstWords, IsAhead, IsOrder}
 use Rattle.fst_nbest.specs.Families.{Family, family_cmp, route, IsCovered, IsLeading}
-use Rattle.fst_nbest.specs.Entries.{list_at, move_of, prefix_of, family_at, family_of, families_on, entry_cmp, route_of, AreOrders, CanCompare, IsEntry, IsKept, IsLeftOn, IsSearching, OrdersGrow, Walked, most_long}
+use Rattle.fst_nbest.specs.Entries.{list_at, move_of, prefix_of, family_at, family_of, families_on, entry_cmp, route_of, AreOrders, CanCompare, IsKept, IsLeftOn, IsSearching, OrdersGrow, Walked}
 use Rattle.fst_nbest.proofs.Covering.{Has-permutation}
-use Rattle.fst_nbest.proofs.Peeling.{IsWaiting, covered_first, covered_permutation, covered_start, leading_permutation, taken_leading}
+use Rattle.fst_nbest.proofs.Peeling.{IsWaiting, covered_first, covered_permutation, covered_start, taken_leading}
 use Rattle.fst_nbest.proofs.Ranks.{first_ahead}
 use Rattle.fst_nbest.proofs.Sorted.{in_order_at}
 use Rattle.fst_nbest.proofs.Walks.{entry_moves, entry_same, map_same, some_order}

@@ -1,15 +1,13 @@
 -- The moves of names, sorted one after the other, and entries.
-use Rattle.std.proofs.Common.{◌≡◌, ◌≢◌, ◌⊎◌, inl, inr, ℕ, ◌+◌, ◌<◌, ◌≤◌, zero, suc, List, [], ◌∷◌, ◌++◌, Option, None, Some, length, map, drop, take, get_or, set, refl, sym, ap, ap₂, subst, ◌∙◌, arith}
-use Rattle.std.proofs.lemmas.Bool.{cases_eq, cases_lt}
-use Rattle.std.proofs.lemmas.List.{get_or-set_same, get_or-set_other, length-append, length-map, length-set, drop_more, get_or_past}
-use Rattle.std.proofs.lemmas.Option.{same_Some}
+use Rattle.std.proofs.Common.{◌≡◌, ◌≢◌, ◌⊎◌, inl, inr, ℕ, ◌+◌, ◌<◌, ◌≤◌, zero, suc, List, [], ◌∷◌, ◌++◌, Option, None, Some, length, map, get_or, set, refl, sym, ap, subst, ◌∙◌, arith}
+use Rattle.std.proofs.lemmas.Bool.{cases_eq}
+use Rattle.std.proofs.lemmas.List.{get_or-set_same, get_or-set_other, length-append, length-set}
 use Rattle.fst_semiring.specs.Cost.{Cost}
 use Rattle.fst_semiring.specs.declared.arc_type.ArcType.{ArcType}
 use Rattle.fst_semiring.specs.Semiring.{times}
-use Rattle.fst_machine.specs.BreadthFirst.{Has}
 use Rattle.fst_nbest.specs.declared.entry.Entry.{Entry}
 use Rattle.fst_nbest.specs.Words.{Words, Ahead, ahead_of, InOrder, IsOrder}
-use Rattle.fst_nbest.specs.Entries.{list_at, move_of, AreOrders, IsEntry, IsLeft, OrdersGrow}
+use Rattle.fst_nbest.specs.Entries.{list_at, AreOrders, IsEntry, IsLeft, OrdersGrow}
 
 map_set : {X Y : Type 0} (f : X → Y) (xs : List X) (i : ℕ) (x : X) → map f (set xs i x) ≡ set (map f xs) i (f x)
 map_set f [] i x = refl

@@ -4,7 +4,7 @@ use Rattle.std.specs.List.{All}
 use Rattle.std.specs.List.Sorted.{IsPermutation}
 use Rattle.std.proofs.lemmas.List.{drop_more, drop_all, length-append, length-take, map-append, take-append-le, take_all, take_more}
 use Rattle.std.proofs.lemmas.List.Elements.{All-append, All-cons, All-nil, All-head, All-tail, All-weaker}
-use Rattle.std.proofs.lemmas.List.Sorted.{IsPermutation-cons, IsPermutation-middle, IsPermutation-sym, IsPermutation-trans, IsPermutation-refl}
+use Rattle.std.proofs.lemmas.List.Sorted.{IsPermutation-cons, IsPermutation-middle, IsPermutation-sym}
 use Rattle.std.proofs.lemmas.Option.{same_Some, get_or_from_slice_get, slice_get_within}
 use Rattle.fst_semiring.specs.Cost.{Cost}
 use Rattle.fst_semiring.specs.declared.arc_type.ArcType.{ArcType}
@@ -12,7 +12,7 @@ use Rattle.fst_semiring.specs.Semiring.{cancels, times}
 use Rattle.fst_semiring.proofs.Laws.{times_assoc}
 use Rattle.fst_machine.specs.BreadthFirst.{Has}
 use Rattle.fst_nbest.specs.declared.entry.Entry.{Entry}
-use Rattle.fst_nbest.specs.Words.{Words, WeightedWord, Ahead, ahead_of, ahead_of_step, ahead_of_stop, AreWords, InOrder, IsAhead, IsOrder}
+use Rattle.fst_nbest.specs.Words.{Words, WeightedWord, Ahead, ahead_of, ahead_of_step, ahead_of_stop, AreWords, IsOrder}
 use Rattle.fst_nbest.specs.Families.{Family, IsCovered, IsLeading}
 use Rattle.fst_nbest.specs.Entries.{list_at, most_long, move_of, prefix_of, family_at, family_of, families_on, AreOrders, IsEntry, IsLeft, IsLeftOn, OrdersGrow, Stepped, Walked}
 use Rattle.fst_nbest.proofs.Sorted.{in_order_at}

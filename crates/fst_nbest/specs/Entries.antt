@@ -1,6 +1,6 @@
 -- Families of words as the program keeps them: a listed path, how much of it they begin with, a name, and a rank among
 -- the moves of the name.
-use Rattle.std.specs.Prelude.{◌≡◌, ◌≢◌, ◌⊎◌, ℕ, ◌+◌, ◌*◌, ◌<◌, ◌≤◌, List, [], ◌∷◌, ◌++◌, Some, length, map, take, drop, get_or, All}
+use Rattle.std.specs.Prelude.{◌≡◌, ◌≢◌, ◌⊎◌, ℕ, ◌+◌, ◌<◌, ◌≤◌, List, [], ◌∷◌, ◌++◌, Some, length, map, take, drop, get_or, All}
 use Rattle.std.specs.declared.cmp.Ordering.{Ordering}
 use Rattle.std.specs.Ordering.{nat_cmp, ordering_then}
 use Rattle.std.specs.Cmp.Lexicographic.{slice_cmp}
@@ -73,8 +73,8 @@ module _ {D : Type 0} (kind : ArcType) (g : Words ℕ) (dist : ℕ → Cost) (co
   -- what is left of a family behind its first move is put, as an entry on this path, where it has more moves
   abbrev pub IsLeft : List (List ℕ) → ℕ → Entry D → List (Entry D) → List (Entry D) → Type 0
   IsLeft orders path core old new = ((new ≡ old) × (length (list_at orders core.name) ≤ core.rank + 1))
-      ⊎ ((e : Entry D) × (new ≡ old ++ e ∷ []) × (e.path ≡ path) × (e.depth ≡ core.depth) × (e.name ≡ core.name) × (e.front ≡ core.front) × (e.rank ≡ core.rank + 1)
-      × IsEntry kind g dist count value bounded orders e)
+      ⊎ ((e : Entry D) × (new ≡ old ++ e ∷ []) × (e.path ≡ path) × (e.depth ≡ core.depth) × (e.name ≡ core.name) × (e.front ≡ core.front)
+      × (e.rank ≡ core.rank + 1) × IsEntry kind g dist count value bounded orders e)
 
   -- One step of a walk: the entry's first move is a step, by which the word and the entry go on; orders may be added.
   pub record Stepped (old new : List (List ℕ)) (before after : List ℕ) (core next : Entry D) : Type 0 where
@@ -109,14 +109,15 @@ module _ {D : Type 0} (kind : ArcType) (g : Words ℕ) (dist : ℕ → Cost) (co
     pub grow : OrdersGrow old new
     pub left : All (IsLeftOn new path (length word)) entries
     pub long : length word ≡ entry.arcs
-    pub covers : (start : ℕ) (listed : List WeightedWord) (families : List (Family ℕ)) → IsCovered kind g dist count start listed (family_of value words old entry ∷ families)
+    pub covers : (start : ℕ) (listed : List WeightedWord) (families : List (Family ℕ))
+        → IsCovered kind g dist count start listed (family_of value words old entry ∷ families)
         → IsLeading kind g dist count start (family_of value words old entry) families (value entry.total) entry.arcs
         → IsCovered kind g dist count start (listed ++ record { word = word; weight = value entry.total } ∷ []) (families_on new word entries ++ families)
 
 -- the order of entries is total
 pub entry_total : {D : Type 0} (value : D → Cost) (words orders : List (List ℕ)) → IsTotalOrder {K = Entry D} (entry_cmp value words orders)
-entry_total {D} value words orders = then_total (on_total (λ (e : Entry D). value e.total) cost_total) (then_total (on_total (λ (e : Entry D). e.arcs) nat_cmp_total)
-    (on_total (λ (e : Entry D). route (prefix_of words e) (move_of orders e)) nat_list_cmp_total))
+entry_total {D} value words orders = then_total (on_total (λ (e : Entry D). value e.total) cost_total)
+    (then_total (on_total (λ (e : Entry D). e.arcs) nat_cmp_total) (on_total (λ (e : Entry D). route (prefix_of words e) (move_of orders e)) nat_list_cmp_total))
 
 -- the moves of an entry's prefix, and its own
 abbrev pub route_of : {D : Type 0} → List (List ℕ) → List (List ℕ) → Entry D → List ℕ

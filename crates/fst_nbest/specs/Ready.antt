@@ -1,11 +1,10 @@
 -- What the program keeps of a machine before it lists paths: distances and counts by state.
-use Rattle.std.specs.Prelude.{◌≡◌, ◌⊎◌, ℕ, ◌+◌, ◌*◌, ◌<◌, ◌≤◌, List, length, map, get_or, All}
+use Rattle.std.specs.Prelude.{◌≡◌, ℕ, ◌*◌, List, length, map, get_or, All}
 use Rattle.fst_semiring.specs.Cost.{Cost, infinite}
 use Rattle.fst_semiring.specs.declared.arc_type.ArcType.{ArcType}
 use Rattle.fst_semiring.specs.Semiring.{IsCost, Within}
 use Rattle.fst_machine.specs.Machine.{Machine, valued}
-use Rattle.fst_machine.specs.Graph.{Graph, graph_of}
-use Rattle.fst_nbest.specs.Words.{Words}
+use Rattle.fst_machine.specs.Graph.{graph_of}
 use Rattle.fst_nbest.specs.PathWords.{AreDistances, HasSolidArcs, IsCount, path_words}
 
 -- the distance of a state, Zero past the last, and its count
@@ -27,12 +26,14 @@ abbrev pub IsBounded : {D : Type 0} → (D → Cost) → ArcType → ℕ → D �
 IsBounded value kind k t = Within (k * 1180591620717411303424) (value t) × IsCost kind (value t)
 
 -- These are the distances and the counts of a machine.
-pub record IsReady {V D : Type 0} (kind : ArcType) (value : V → Cost) (wide : D → Cost) (known : V → Type 0) (m : Machine V) (dist : List D) (count : List ℕ) : Type 0 where
+pub record IsReady {V D : Type 0} (kind : ArcType) (value : V → Cost) (wide : D → Cost) (known : V → Type 0)
+    (m : Machine V) (dist : List D) (count : List ℕ) : Type 0 where
   pub dist_size : length dist ≡ length m.states
   pub count_size : length count ≡ length m.states
   pub exact : AreDistances kind (graph_of (valued value m)) (dist_in wide dist)
   pub firm : HasSolidArcs kind (graph_of (valued value m))
-  pub counts : (q : ℕ) → (dist_in wide dist q ≡ infinite → ⊥) → IsCount kind (path_words (graph_of (valued value m)) (dist_in wide dist)) q (dist_in wide dist q) (count_in count q)
+  pub counts : (q : ℕ) → (dist_in wide dist q ≡ infinite → ⊥)
+      → IsCount kind (path_words (graph_of (valued value m)) (dist_in wide dist)) q (dist_in wide dist q) (count_in count q)
   pub numbers : (q : ℕ) → Within most_distance (dist_in wide dist q)
   pub kinds : (q : ℕ) → IsCost kind (dist_in wide dist q)
   pub weights : All (λ s. All (λ a. known a.weight) s.arcs) m.states

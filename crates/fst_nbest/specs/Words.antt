@@ -1,6 +1,6 @@
 -- Words of places, each of which says a weight: the paths of a graph from a name, as the places of their arcs; and
 -- the first of them. (Mohri 2009, section 3.3, n shortest paths.)
-use Rattle.std.specs.Prelude.{◌≡◌, ◌⊎◌, ℕ, ◌+◌, ◌≤◌, zero, suc, List, [], ◌∷◌, length, Option, None, Some}
+use Rattle.std.specs.Prelude.{◌≡◌, ◌⊎◌, ℕ, ◌≤◌, zero, suc, List, [], ◌∷◌, length, Option, None, Some}
 use Rattle.std.specs.declared.cmp.Ordering.{Ordering}
 use Rattle.std.specs.declared.cmp.Ordering.TheVariants.{Less}
 use Rattle.std.specs.Ordering.{nat_cmp, ordering_then}
@@ -87,7 +87,8 @@ module _ {N : Type 0} (kind : ArcType) (g : Words N) where
     -- these moves stand by what is ahead of them
     abbrev pub InOrder : N → List ℕ → Type 0
     InOrder x [] = Unit {0}
-    InOrder x (m ∷ moves) = (e : Ahead) × (ahead_of x m ≡ Some e) × ((j : ℕ) (f : Ahead) → Has moves j → ahead_of x j ≡ Some f → move_cmp m e j f ≡ Less) × InOrder x moves
+    InOrder x (m ∷ moves) = (e : Ahead) × (ahead_of x m ≡ Some e)
+        × ((j : ℕ) (f : Ahead) → Has moves j → ahead_of x j ≡ Some f → move_cmp m e j f ≡ Less) × InOrder x moves
 
     -- these are all moves of the name, in this order
     pub record IsOrder (x : N) (moves : List ℕ) : Type 0 where

@@ -1,14 +1,19 @@
 //! The paths of a machine as a system of words.
 
-ghost use Rattle.std.specs.Prelude.{◌≡◌, ◌≢◌, ◌<◌, ◌≤◌, ◌+◌, ℕ, true, IfOk, OnOk, length, map, get_or};
-ghost use Rattle.fst_machine.specs.Machine.{valued};
+ghost use Rattle.std.specs.Prelude.{◌≡◌, ◌≢◌, ◌<◌, ◌≤◌, ◌+◌, ℕ, true, Some, IfOk, OnOk, length, map, get_or, slice_get};
+ghost use Rattle.fst_semiring.specs.Cost.{is_infinite};
+ghost use Rattle.fst_semiring.specs.Semiring.{Within, times};
+ghost use Rattle.fst_machine.specs.Machine.{valued, valued_arc};
 ghost use Rattle.fst_machine.specs.Graph.{graph_of};
 ghost use Rattle.fst_nbest.specs.PathWords.{path_words};
-ghost use Rattle.fst_nbest.specs.Ready.{IsBounded, count_in, dist_in};
+ghost use Rattle.fst_nbest.specs.Turns.{HasTurn};
+ghost use Rattle.fst_nbest.specs.Words.{ahead_of};
+ghost use Rattle.fst_nbest.specs.Ready.{IsBounded, count_in, dist_in, most_distance, most_weight};
 
 use crate::system::System;
 use crate::turns::{Turn, in_order};
 use fst_distance::Widens;
+use fst_machine::FstArc;
 use fst_semiring::Weight;
 use std::alloc::{AllocError, Global};
 use std::cmp::Ordering;
@@ -39,7 +44,8 @@ impl<'a, W: Weight, V: Copy, M: Widens<W, V>> PathSystem<'a, W, V, M> {
     /// The distance of a state to the final states.
     fn distance(&self, state: u32) -> W::Wide
         requires { state < length self.now.machine.states }
-        ensures { W.wide_value result ≡ dist_in W.wide_value self.now.dist state }
+        ensures same { W.wide_value result ≡ dist_in W.wide_value self.now.dist state }
+        ensures range { Within most_distance (W.wide_value result) }
     {
         self.dist[state as usize]
     }
@@ -49,5 +55,83 @@ impl<'a, W: Weight, V: Copy, M: Widens<W, V>> PathSystem<'a, W, V, M> {
         ensures { result ≡ length self.now.machine.states }
     {
         self.fst.state_count()
+    }
+
+    /// Whether a weight is Zero.
+    fn is_zero(wide: W::Wide) -> bool
+        ensures { result ≡ is_infinite (W.wide_value wide) }
+    {
+        W::key(wide).class == 2
+    }
+
+    /// The arc in a place of a state.
+    fn arc(&self, state: u32, place: u32) -> FstArc<V>
+        requires { place < length ((graph_of (valued M.value self.now.machine)).arcs state) }
+        ensures arc { slice_get ((graph_of (valued M.value self.now.machine)).arcs state) place ≡ Some (valued_arc M.value result) }
+        ensures next { result.next < length self.now.machine.states }
+        ensures known { M.known result.weight }
+    {
+        let _states = self.fst.state_count();
+        self.fst.arcs_at(state)[place as usize]
+    }
+
+    /// The final weight of a state.
+    fn last(&self, state: u32) -> W::Wide
+        requires { state < length self.now.machine.states }
+        ensures same { W.wide_value result ≡ (graph_of (valued M.value self.now.machine)).final state }
+        ensures range { Within most_weight (W.wide_value result) }
+    {
+        let _states = self.fst.state_count();
+        M::widened(self.fst.final_at(state))
+    }
+
+    /// The weight of an arc with the distance of its end.
+    fn along(&self, arc: &FstArc<V>) -> W::Wide
+        requires next { arc.now.next < length self.now.machine.states }
+        requires known { M.known arc.now.weight }
+        ensures same { W.wide_value result ≡ times W.KIND (M.value arc.now.weight) (dist_in W.wide_value self.now.dist arc.now.next) }
+        ensures range { Within (most_weight + most_distance) (W.wide_value result) }
+    {
+        W::wide_times(M::widened(arc.weight), self.distance(arc.next))
+    }
+
+    /// Puts what is ahead of stopping at a state, where it is final.
+    fn put_stop(&self, turns: &mut Vec<Turn<W::Wide>>, state: u32) -> Result<(), AllocError>
+        requires { state < length self.now.machine.states }
+        ensures { OnOk result (HasTurn W.wide_value 0 (ahead_of W.KIND (path_words (graph_of (valued M.value self.now.machine)) (dist_in W.wide_value self.now.dist)) (dist_in W.wide_value self.now.dist) (count_in self.now.count) state 0) turns.old.items turns.new.items) }
+    {
+        let total = self.last(state);
+        if Self::is_zero(total) {
+            return Ok(());
+        }
+        turns.push(Turn {
+            total,
+            arcs: 0,
+            turn: 0,
+        })?;
+        Ok(())
+    }
+
+    /// Puts what is ahead of an arc of a state, where paths go on behind it.
+    fn put_step(
+        &self,
+        turns: &mut Vec<Turn<W::Wide>>,
+        state: u32,
+        place: u32,
+    ) -> Result<(), AllocError>
+        requires place { place < length ((graph_of (valued M.value self.now.machine)).arcs state) }
+        requires few { place < 4294967295 }
+        ensures { OnOk result (HasTurn W.wide_value (place + 1) (ahead_of W.KIND (path_words (graph_of (valued M.value self.now.machine)) (dist_in W.wide_value self.now.dist)) (dist_in W.wide_value self.now.dist) (count_in self.now.count) state (place + 1)) turns.old.items turns.new.items) }
+    {
+        let arc = self.arc(state, place);
+        if Self::is_zero(self.distance(arc.next)) {
+            return Ok(());
+        }
+        turns.push(Turn {
+            total: self.along(&arc),
+            arcs: self.count[arc.next as usize] as usize + 1,
+            turn: place + 1,
+        })?;
+        Ok(())
     }
 }

@@ -1,4 +1,4 @@
-use Rattle.std.proofs.Common.{◌≡◌, ◌⊎◌, ◌≤◌, ℕ, inl, inr, drop, subst, sym, ap, refl, ◌∙◌, min, arith}
+use Rattle.std.proofs.Common.{◌≡◌, ℕ, inl, inr, drop, sym, ap, ◌∙◌, arith}
 use Rattle.std.specs.Ordering.{nat_cmp, is_lt}
 use Rattle.std.specs.Cmp.Lexicographic.{slice_cmp}
 use Rattle.fst_nbest.specs.Entries.{route_of}

@@ -1,4 +1,4 @@
-use Rattle.std.proofs.Common.{◌≡◌, ◌<◌, ◌∷◌, ◌++◌, ◌⊎◌, [], inl, inr, List, ℕ, refl, length, sym, subst, ap, ◌∙◌, arith}
+use Rattle.std.proofs.Common.{◌≡◌, ◌∷◌, ◌++◌, [], inl, inr, List, ℕ, refl, length, sym, subst, ap, ◌∙◌, arith}
 use Rattle.fst_nbest.specs.declared.entry.Entry.{Entry}
 use Rattle.fst_nbest.specs.Entries.{IsSearching}
 use Rattle.fst_nbest.proofs.Searches.{kept_compare, search_begins, search_ends}

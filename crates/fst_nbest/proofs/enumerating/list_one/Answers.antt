@@ -1,9 +1,7 @@
-use Rattle.std.proofs.Common.{◌≡◌, ◌++◌, ◌∷◌, [], List, ℕ, length, sym, subst}
+use Rattle.std.proofs.Common.{◌++◌, ◌∷◌, [], List, ℕ, sym, subst}
 use Rattle.std.specs.Prelude.{All}
-use Rattle.std.specs.List.Sorted.{IsPermutation}
-use Rattle.fst_nbest.specs.declared.entry.Entry.{Entry}
-use Rattle.fst_nbest.specs.Heap.{IsHeap, FirstLeaves}
-use Rattle.fst_nbest.specs.Entries.{CanCompare, IsSearching, Walked, entry_cmp}
+use Rattle.fst_nbest.specs.Heap.{IsHeap}
+use Rattle.fst_nbest.specs.Entries.{CanCompare, IsSearching, entry_cmp}
 use Rattle.fst_nbest.proofs.Searches.{kept_compare, lefts_kept, listed_on, on_ok_two, rest_heap, rests_kept, taken_kept}
 use Rattle.fst_nbest.proofs.enumerating.list_one.Goals as goal
 

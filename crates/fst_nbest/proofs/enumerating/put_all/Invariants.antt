@@ -1,4 +1,4 @@
-use Rattle.std.proofs.Common.{◌≡◌, ◌++◌, vec_len}
+use Rattle.std.proofs.Common.{◌++◌, vec_len}
 use Rattle.std.specs.Prelude.{All}
 use Rattle.std.specs.List.Sorted.{IsPermutation}
 use Rattle.fst_nbest.specs.Heap.{IsHeap}

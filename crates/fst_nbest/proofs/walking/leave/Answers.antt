@@ -1,4 +1,4 @@
-use Rattle.std.proofs.Common.{◌≡◌, ◌<◌, ◌+◌, List, ℕ, length, get_or, subst, refl, sym, ap, ◌∙◌, arith}
+use Rattle.std.proofs.Common.{◌<◌, ◌+◌, List, ℕ, length, get_or, subst, refl, ap, ◌∙◌}
 use Rattle.fst_nbest.specs.Words.{ahead_of}
 use Rattle.fst_nbest.specs.Entries.{list_at}
 use Rattle.fst_nbest.proofs.Sorted.{left_entry, move_at, not_none}

@@ -1,6 +1,4 @@
-use Rattle.std.proofs.Common.{◌≡◌, ◌<◌, ◌-◌, ℕ, List, length, get_or, subst, sym, ap, ◌∙◌, arith}
-use Rattle.std.proofs.lemmas.List.{map-append}
-use Rattle.fst_nbest.specs.Entries.{list_at, move_of}
+use Rattle.std.proofs.Common.{◌-◌, ℕ, List, get_or, ap, arith}
 use Rattle.fst_nbest.proofs.Walks.{stepped}
 use Rattle.fst_nbest.proofs.walking.step.Goals as goal
 

@@ -1,5 +1,4 @@
-use Rattle.std.proofs.Common.{◌≡◌, ◌≤◌, ℕ, List, length, take, sym, ap, subst, ◌∙◌, refl, arith}
-use Rattle.fst_nbest.specs.declared.entry.Entry.{Entry}
+use Rattle.std.proofs.Common.{ℕ, length, subst, ◌∙◌, refl, arith}
 use Rattle.fst_nbest.specs.Entries.{list_at, IsLeft}
 use Rattle.fst_nbest.proofs.Walks.{begun_long, walk_begins, walk_ends, walk_on}
 use Rattle.fst_nbest.proofs.walking.walk.Goals as goal

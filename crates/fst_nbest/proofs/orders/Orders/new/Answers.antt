@@ -1,5 +1,5 @@
-use Rattle.std.proofs.Common.{◌≡◌, ◌≤◌, ◌∙◌, [], List, ℕ, Vec, Global, length, refl, arith}
-use Rattle.std.proofs.lemmas.List.{length-map, length_push}
+use Rattle.std.proofs.Common.{◌∙◌, List, ℕ, Vec, Global, arith}
+use Rattle.std.proofs.lemmas.List.{length-map}
 use Rattle.fst_nbest.proofs.Sorted.{none_more, pushed_size}
 use Rattle.fst_nbest.proofs.orders.Orders.new.Goals as goal
 

@@ -1,7 +1,7 @@
-use Rattle.std.proofs.Common.{◌≡◌, ◌<◌, ◌≤◌, [], List, ℕ, Vec, Global, length, map, set, refl, sym, subst, ap, ◌∙◌, arith}
+use Rattle.std.proofs.Common.{◌≡◌, ◌<◌, [], List, ℕ, Vec, Global, length, map, set, sym, subst, ap, ◌∙◌}
 use Rattle.fst_nbest.specs.Entries.{AreOrders, OrdersGrow, list_at}
 use Rattle.fst_nbest.proofs.Ranks.{some_move}
-use Rattle.fst_nbest.proofs.Sorted.{grow_same, none_yet, some_there, sorted_grow, sorted_orders, sorted_there}
+use Rattle.fst_nbest.proofs.Sorted.{none_yet, some_there, sorted_grow, sorted_orders, sorted_there}
 use Rattle.fst_nbest.proofs.orders.Orders.prepare.Goals as goal
 
 abbrev items_of : Vec ℕ Global → List ℕ
