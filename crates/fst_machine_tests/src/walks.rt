@@ -33,6 +33,7 @@ impl Names<Tropical> for Lone {
     ghost use Rattle.fst_semiring.specs.Cost.{infinite};
 
     type Key = Mark;
+
     type Fault = AllocError;
 
     ghost graph = { λ s. record { start = Some 7; arcs = λ n. []; final = λ n. infinite } };
