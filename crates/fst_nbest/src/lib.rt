@@ -1,6 +1,7 @@
 //! The n best paths of a weighted machine.
 //!
-//! `chains` makes a machine of listed paths, in which each path is a chain of states of its own.
+//! `chains` makes a machine of listed paths, in which each path is a chain of states of its own. What is private finds the
+//! first words of a graph of names, on which the n best paths are to stand.
 #![tactic(auto)]
 
 mod chaining;
