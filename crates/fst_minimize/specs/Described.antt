@@ -13,7 +13,8 @@ use Rattle.fst_minimize.specs.Numbered.{IsNumbering, TellsApart}
 use Rattle.fst_minimize.specs.Numberers.{HasSeen}
 
 -- The first states are described: their arcs by labels, what is said of them, and the ends of their arcs.
-pub record DescribedBy (g : Graph ℕ) (done : ℕ) (keys : List WeightKey) (sorted : List (List (Arc Cost ℕ))) (seen : List (ℕ × List ℕ)) (rows : List (List ℕ)) : Type 0 where
+pub record DescribedBy (g : Graph ℕ) (done : ℕ) (keys : List WeightKey) (sorted : List (List (Arc Cost ℕ)))
+    (seen : List (ℕ × List ℕ)) (rows : List (List ℕ)) : Type 0 where
   pub size : length sorted ≡ done
   pub sizes : length seen ≡ done
   pub apart : Apart keys
@@ -24,7 +25,8 @@ pub record DescribedBy (g : Graph ℕ) (done : ℕ) (keys : List WeightKey) (sor
 
 -- the first states are described and numbered
 abbrev pub IsDescribed : Graph ℕ → ℕ → Describer → Type 0
-IsDescribed g done d = (sorted : List (List (Arc Cost ℕ))) × (seen : List (ℕ × List ℕ)) × DescribedBy g done d.keys.keys sorted seen d.rows × HasSeen seen d.numberer
+IsDescribed g done d = (sorted : List (List (Arc Cost ℕ))) × (seen : List (ℕ × List ℕ))
+    × DescribedBy g done d.keys.keys sorted seen d.rows × HasSeen seen d.numberer
 
 -- the weights of a state are values of the arc type
 abbrev pub OfKind : ArcType → Graph ℕ → ℕ → Type 0

@@ -53,4 +53,5 @@ totalled kind total m = record { start = m.start; states = map (totalled_state k
 -- The machine of the classes of a normal one has, under any total, the fewest states of all deterministic acceptors
 -- that give each word the same weight.
 abbrev pub MinimalLaw : ArcType → Cost → Machine Cost → Machine Cost → Type 0
-MinimalLaw kind total m c = cancels kind ≡ true → IsCost kind total → total ≢ infinite → IsNormal kind m → HasClasses m c → IsMinimal kind (totalled kind total c)
+MinimalLaw kind total m c = cancels kind ≡ true → IsCost kind total → total ≢ infinite → IsNormal kind m
+    → HasClasses m c → IsMinimal kind (totalled kind total c)

@@ -35,7 +35,8 @@ value_at d (Some p) = d p
 -- the states with their weights pushed, the first of them with this number
 abbrev pub pushed_from : ArcType → (ℕ → Cost) → ℕ → List (State Cost) → List (State Cost)
 pushed_from kind d p [] = []
-pushed_from kind d p (s ∷ states) = record { final = push_quotient kind s.final (d p); arcs = map (pushed_arc kind d p) s.arcs } ∷ pushed_from kind d (p + 1) states
+pushed_from kind d p (s ∷ states) = record { final = push_quotient kind s.final (d p); arcs = map (pushed_arc kind d p) s.arcs }
+    ∷ pushed_from kind d (p + 1) states
 
 -- the machine with its weights pushed
 abbrev pub pushed_machine : ArcType → (ℕ → Cost) → Machine Cost → Machine Cost
