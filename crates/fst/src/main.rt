@@ -5,7 +5,7 @@
 use fst_command::{Queues, run};
 use fst_desk::RealDesk;
 use fst_queue::{BestFirst, Fifo, Lifo};
-use std::alloc::{AllocError, Global};
+use std::alloc::Global;
 use std::io::ErrorKind;
 use std::process::ExitCode;
 use std::{env, io};
@@ -19,21 +19,18 @@ fn words(rt: &HostRuntime, alloc: Global) -> io::Result<Vec<String>> {
     Ok(words)
 }
 
-/// The queues that a search of distances may take its states from.
-fn queues(alloc: Global) -> Result<Queues, AllocError> {
-    Ok(Queues {
-        fifo: Box::new(alloc, Fifo::new(alloc))?,
-        lifo: Box::new(alloc, Lifo::new(alloc))?,
-        best: Box::new(alloc, BestFirst::new(alloc))?,
-    })
-}
-
 fn main(rt: HostRuntime) -> ExitCode {
     let alloc = rt.alloc();
     let mut desk = RealDesk::new(alloc, &rt);
-    let Ok(queues) = queues(alloc) else {
+    // The queues that a search of distances may take its states from.
+    let (Ok(fifo), Ok(lifo), Ok(best)) = (
+        Box::new(alloc, Fifo::new(alloc)),
+        Box::new(alloc, Lifo::new(alloc)),
+        Box::new(alloc, BestFirst::new(alloc)),
+    ) else {
         return ExitCode::from(3);
     };
+    let queues = Queues { fifo, lifo, best };
     let status = match words(&rt, alloc) {
         Ok(words) => run(&rt, alloc, words.as_slice(), &mut desk, queues),
         Err(fault) if fault.kind() == ErrorKind::OutOfMemory => 3,
