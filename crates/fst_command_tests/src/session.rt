@@ -44,6 +44,15 @@ fn split(alloc: Global, line: &str) -> Result<Vec<String>, AllocError> {
     Ok(words)
 }
 
+/// The queues of the program.
+fn queues(alloc: Global) -> Result<Queues, AllocError> {
+    Ok(Queues {
+        fifo: Box::new(alloc, Fifo::new(alloc))?,
+        lifo: Box::new(alloc, Lifo::new(alloc))?,
+        best: Box::new(alloc, BestFirst::new(alloc))?,
+    })
+}
+
 /// Asks that the words end with a status, and that these bytes are then shown after those that were.
 pub(crate) fn ends<R: Threads + Sync + Abort>(
     rt: &R,
@@ -55,11 +64,7 @@ pub(crate) fn ends<R: Threads + Sync + Abort>(
 ) -> Result<(), AllocError> {
     let before = desk.shown_bytes().len();
     let words = split(alloc, line)?;
-    let queues = Queues {
-        fifo: Box::new(alloc, Fifo::new(alloc))?,
-        lifo: Box::new(alloc, Lifo::new(alloc))?,
-        best: Box::new(alloc, BestFirst::new(alloc))?,
-    };
+    let queues = queues(alloc)?;
     let ended = run(rt, alloc, words.as_slice(), desk, queues);
     assert_eq!(rt; ended, status, "{line}");
     let found = desk.shown_bytes().get(before..).unwrap_or(&[]);
