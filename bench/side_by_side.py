@@ -52,6 +52,7 @@ OPERATIONS = [
     ("arcsort", "--sort_type=ilabel {0}"),
     ("connect", "{0}"),
     ("info", "{0}"),
+    ("shortestdistance", "{0}"),
 ]
 # `encode` both ways, in whose words {0} is a machine beside which stand its codex and what is encoded.
 CODING = [
