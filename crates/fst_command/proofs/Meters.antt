@@ -4,7 +4,7 @@ use Rattle.fst_desk.specs.Seen.{Files, Seen}
 use Rattle.fst_semiring.specs.declared.arc_type.ArcType.{ArcType}
 use Rattle.fst_words.specs.declared.plan.Plan.{Plan}
 use Rattle.fst_words.specs.Inputs.{expands, plan_inputs}
-use Rattle.fst_command.specs.Causes.{Answer, done, no_memory, refused, status_of, unread, unwritten, usage}
+use Rattle.fst_command.specs.Causes.{Answer, done, no_memory, refused, unread, unwritten, usage}
 use Rattle.fst_command.specs.Commands.{meaning_for}
 use Rattle.fst_command.specs.Given.{Given, Held, given_at, kind_of}
 use Rattle.fst_command.specs.Meaning.{Made, Settles, bytes_of}
