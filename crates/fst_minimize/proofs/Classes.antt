@@ -1,14 +1,14 @@
 -- A state has the behaviour of its class, and the machine of the classes relates what the machine relates.
-use Rattle.std.proofs.Common.{◌≡◌, ◌↔◌, ℕ, ◌<◌, List, Some, length, map, get_or, slice_get, sym, refl, ap, ◌∙◌, subst, arith}
+use Rattle.std.proofs.Common.{◌≡◌, ◌↔◌, ℕ, ◌<◌, List, Some, length, get_or, slice_get, sym, refl, ap, ◌∙◌, subst, arith}
 use Rattle.std.specs.Option.{option_map}
-use Rattle.std.proofs.lemmas.Option.{slice_get-get_or, slice_get_within, same_Some}
+use Rattle.std.proofs.lemmas.Option.{slice_get-get_or}
 use Rattle.std.specs.Prelude.{IfSome}
 use Rattle.fst_semiring.specs.Cost.{Cost}
 use Rattle.fst_semiring.specs.declared.arc_type.ArcType.{ArcType}
 use Rattle.fst_machine.specs.Machine.{Arc, Machine}
 use Rattle.fst_machine.specs.Graph.{Graph, graph_of, renamed}
 use Rattle.fst_machine.specs.Letters.{letter_of}
-use Rattle.fst_machine.specs.Relation.{RelFrom, Rel}
+use Rattle.fst_machine.specs.Relation.{Rel}
 use Rattle.fst_machine.proofs.Arcs.{mapped_at, mapped_some, at_mapped}
 use Rattle.fst_minimize.specs.Behaviour.{Alike, IsSingle, GoesOn, Follows, IsStable}
 use Rattle.fst_minimize.specs.Classes.{HasClasses}

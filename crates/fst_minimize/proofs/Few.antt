@@ -1,5 +1,5 @@
 -- Numbers that are tied to fewer, no two to the same one, are no more than these.
-use Rattle.std.proofs.Common.{◌≡◌, ◌⊎◌, inl, inr, ℕ, ◌<◌, ◌≤◌, zero, suc, List, [], ◌∷◌, length, refl, ap, subst, arith}
+use Rattle.std.proofs.Common.{◌≡◌, inl, inr, ℕ, ◌<◌, ◌≤◌, zero, suc, List, [], ◌∷◌, length, refl, ap, subst, arith}
 use Rattle.fst_machine.specs.BreadthFirst.{Has, Apart}
 use Rattle.fst_machine.proofs.Elements.{Apart_below}
 

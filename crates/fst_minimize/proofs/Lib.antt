@@ -17,3 +17,5 @@ pub mod Linking
 pub mod Made
 pub mod Whole
 pub mod SameWords
+pub mod OneAnswer
+pub mod OnePass

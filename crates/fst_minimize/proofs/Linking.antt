@@ -1,25 +1,23 @@
 -- From described states to their behaviour: the graph of the arcs by labels, in which rounds refine, behaves as the graph
 -- of the machine.
-use Rattle.std.proofs.Common.{◌≡◌, ◌≢◌, ◌⊎◌, inl, inr, ℕ, ◌<◌, ◌≤◌, zero, suc, List, [], ◌∷◌, None, Some, length, get_or, map, slice_get, sym, refl, ap, ap₂, ◌∙◌, subst, arith}
-use Rattle.std.specs.List.{All}
+use Rattle.std.proofs.Common.{◌≡◌, ◌⊎◌, inl, inr, ℕ, ◌<◌, ◌≤◌, suc, List, [], ◌∷◌, None, Some, length, get_or, slice_get, sym, refl, ap, ap₂, ◌∙◌, subst, arith}
 use Rattle.std.specs.List.Sorted.{IsPermutation}
 use Rattle.std.proofs.lemmas.Bool.{cases_lt}
 use Rattle.std.proofs.lemmas.List.{get_or_past, length-map}
 use Rattle.std.proofs.lemmas.List.Sorted.{IsPermutation-sym, Contains-permutation}
 use Rattle.std.proofs.lemmas.Option.{slice_get-get_or, slice_get_within, get_or_from_slice_get, same_Some}
-use Rattle.fst_semiring.specs.Cost.{Cost, infinite}
-use Rattle.fst_machine.specs.Machine.{Arc, State, Machine}
-use Rattle.fst_machine.specs.Graph.{Graph, graph_of, nexts, no_state}
-use Rattle.fst_machine.specs.Cycles.{IsCoaccessible}
+use Rattle.fst_semiring.specs.Cost.{Cost}
+use Rattle.fst_machine.specs.Machine.{Arc, Machine}
+use Rattle.fst_machine.specs.Graph.{Graph, graph_of, nexts}
 use Rattle.fst_machine.proofs.Arcs.{at_mapped, mapped_at}
 use Rattle.fst_machine.proofs.Cycles.{state_below}
 use Rattle.fst_machine.proofs.Elements.{Apart_at}
-use Rattle.fst_minimize.specs.Behaviour.{Alike, IsSingle, GoesOn, Follows, IsStable}
-use Rattle.fst_minimize.specs.Refining.{LabelsAscend, spelling, IsRefined}
+use Rattle.fst_minimize.specs.Behaviour.{Alike, IsSingle, GoesOn, Follows}
+use Rattle.fst_minimize.specs.Refining.{spelling, IsRefined}
 use Rattle.fst_minimize.specs.Saying.{IsByLabel, SaysArcs, weight_key}
-use Rattle.fst_minimize.specs.Numbered.{TellsApart, number_in, RowsBelow, AreRows, TellsBehaviour}
-use Rattle.fst_minimize.specs.Described.{DescribedBy, IsDescription, OncePlacedAll}
-use Rattle.fst_minimize.proofs.Stable.{followed, stable_alike, alike_sym}
+use Rattle.fst_minimize.specs.Numbered.{number_in, RowsBelow, AreRows, TellsBehaviour}
+use Rattle.fst_minimize.specs.Described.{IsDescription, OncePlacedAll}
+use Rattle.fst_minimize.proofs.Stable.{followed, stable_alike}
 use Rattle.fst_minimize.proofs.Refining.{first_refined, EndsBelow}
 use Rattle.fst_minimize.proofs.Said.{LabelsSame, says_spelling, spelling_says}
 use Rattle.fst_minimize.proofs.WeightKeys.{key_once}

@@ -1,22 +1,22 @@
 -- Two words that lead to one name of another deterministic graph with the same word weights lead to names of equal
 -- behaviour, where the distance from each name to the final names is One.
-use Rattle.std.proofs.Common.{◌≡◌, ◌≢◌, ◌⊎◌, inl, inr, ◌↔◌, true, Option, ℕ, List, [], ◌∷◌, ◌++◌, Some, slice_get, sym, refl, ap, ap₂, ◌∙◌, subst}
+use Rattle.std.proofs.Common.{◌≡◌, ◌≢◌, ◌⊎◌, inl, inr, ◌↔◌, true, Option, ℕ, List, [], ◌∷◌, ◌++◌, Some, slice_get, sym, ap, ◌∙◌, subst}
 use Rattle.fst_semiring.specs.Cost.{Cost, infinite, plus}
 use Rattle.fst_semiring.specs.declared.arc_type.ArcType.{ArcType}
 use Rattle.fst_semiring.specs.Semiring.{cancels, one_of, times, IsCost}
-use Rattle.fst_semiring.proofs.Laws.{times_assoc, times_comm, times_one, times_keeps}
+use Rattle.fst_semiring.proofs.Laws.{times_assoc, times_one, times_keeps}
 use Rattle.fst_semiring.proofs.OfKind.{IsCost-times}
 use Rattle.fst_semiring.proofs.Cancelling.{times_cancels}
 use Rattle.fst_semiring.proofs.Order.{plus_antisym}
 use Rattle.fst_machine.specs.Machine.{Arc}
 use Rattle.fst_machine.specs.Graph.{Graph}
-use Rattle.fst_machine.specs.Letters.{Letter, letter_of}
+use Rattle.fst_machine.specs.Letters.{letter_of}
 use Rattle.fst_machine.specs.Distance.{IsFinalDistance}
 use Rattle.fst_pushing.proofs.Potential.{times_not_zero, zero_or_not}
-use Rattle.fst_minimize.specs.Behaviour.{Alike, IsSingle, Follows, IsStable}
+use Rattle.fst_minimize.specs.Behaviour.{Alike, IsSingle, Follows}
 use Rattle.fst_minimize.specs.Words.{Weighs, WordWeighs, HasKind}
 use Rattle.fst_minimize.proofs.Stable.{stable_alike}
-use Rattle.fst_minimize.proofs.Spelling.{Goes, StartsWith, starts_with, arc_before, word_ends, ends_word, joins, goes_on, Goes_kind, Weighs_kind, one_word, no_better, swapped}
+use Rattle.fst_minimize.proofs.Spelling.{Goes, starts_with, arc_before, word_ends, ends_word, joins, goes_on, Goes_kind, one_word, no_better, swapped}
 
 -- Each word of g has the total Times its weight in o, and o has no other words.
 pub record TotalTimes {N M : Type 0} (kind : ArcType) (total : Cost) (g : Graph N) (o : Graph M) : Type 0 where

@@ -7,14 +7,13 @@ use Rattle.std.proofs.lemmas.Bool.{cases_eq}
 use Rattle.std.proofs.lemmas.List.{length-map, take_more}
 use Rattle.std.proofs.lemmas.List.Elements.{All-map, All-push}
 use Rattle.std.proofs.lemmas.List.Sums.{sum_by-cons, sum_by_more_le}
-use Rattle.std.proofs.lemmas.Option.{slice_get-get_or, slice_get_within, get_or_from_slice_get, same_Some}
-use Rattle.fst_semiring.specs.Cost.{Cost, infinite}
+use Rattle.std.proofs.lemmas.Option.{slice_get-get_or, slice_get_within, get_or_from_slice_get}
+use Rattle.fst_semiring.specs.Cost.{Cost}
 use Rattle.fst_semiring.specs.declared.arc_type.ArcType.{ArcType}
-use Rattle.fst_semiring.specs.Semiring.{times}
-use Rattle.fst_machine.specs.Machine.{Arc, State, Machine, IsArc, IsMachine, arc_total, most_arcs, most_states, valued_arc}
-use Rattle.fst_machine.specs.Graph.{Graph, graph_of, no_state, renamed}
-use Rattle.fst_machine.specs.Narrowing.{IsInRange, IsFirstPast}
-use Rattle.fst_machine.proofs.Arcs.{at_mapped, mapped_at}
+use Rattle.fst_machine.specs.Machine.{Arc, State, Machine, IsArc, IsMachine, arc_total, most_arcs, valued_arc}
+use Rattle.fst_machine.specs.Graph.{graph_of, no_state, renamed}
+use Rattle.fst_machine.specs.Narrowing.{IsInRange}
+use Rattle.fst_machine.proofs.Arcs.{at_mapped}
 use Rattle.fst_machine.proofs.Narrowing.{all_at}
 use Rattle.fst_minimize.specs.Behaviour.{Alike}
 use Rattle.fst_minimize.specs.Classes.{HasClasses, class_state, class_machine}

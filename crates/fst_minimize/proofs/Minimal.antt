@@ -1,25 +1,24 @@
 -- The machine of the classes of a normal machine has, under any total, the fewest states.
-use Rattle.std.proofs.Common.{◌≡◌, ◌≢◌, ◌⊎◌, inl, inr, ◌↔◌, true, ℕ, ◌<◌, ◌≤◌, List, [], ◌∷◌, ◌++◌, None, Some, length, map, get_or, slice_get, sym, refl, ap, ap₂, ◌∙◌, subst, arith}
+use Rattle.std.proofs.Common.{◌≡◌, ◌≢◌, ◌⊎◌, inl, inr, true, ℕ, ◌<◌, ◌≤◌, List, [], ◌∷◌, ◌++◌, None, Some, length, map, get_or, slice_get, sym, refl, ap, ap₂, ◌∙◌, subst, arith}
 use Rattle.std.proofs.Math.ListN.{get_or-map}
 use Rattle.std.proofs.lemmas.List.{length-map, get_or_past}
 use Rattle.std.proofs.lemmas.Option.{slice_get-get_or, slice_get_within, slice_get_cases}
 use Rattle.fst_semiring.specs.Cost.{Cost, infinite}
 use Rattle.fst_semiring.specs.declared.arc_type.ArcType.{ArcType}
 use Rattle.fst_semiring.specs.Semiring.{cancels, one_of, times, IsCost}
-use Rattle.fst_semiring.proofs.Laws.{times_assoc, times_comm, times_zero}
+use Rattle.fst_semiring.proofs.Laws.{times_zero}
 use Rattle.fst_machine.specs.Machine.{Arc, State, Machine}
 use Rattle.fst_machine.specs.Graph.{Graph, graph_of, no_state}
 use Rattle.fst_machine.specs.Letters.{label_word, product}
 use Rattle.fst_machine.specs.Paths.{Transition, IsPath, letters}
-use Rattle.fst_machine.specs.Cycles.{IsAccessible, IsCoaccessible}
 use Rattle.fst_machine.proofs.Cycles.{state_below}
-use Rattle.fst_pushing.proofs.Potential.{times_not_zero, zero_or_not}
+use Rattle.fst_pushing.proofs.Potential.{times_not_zero}
 use Rattle.fst_minimize.specs.Behaviour.{Alike, IsSingle, GoesOn}
 use Rattle.fst_minimize.specs.Classes.{HasClasses}
-use Rattle.fst_minimize.specs.Words.{Weighs, WordWeighs, IsWordWeight, HasKind, SameWords, IsMinimal}
-use Rattle.fst_minimize.specs.Laws.{IsClosed, IsNormal, totalled, totalled_state, MinimalLaw}
+use Rattle.fst_minimize.specs.Words.{Weighs, WordWeighs, IsWordWeight, HasKind, SameWords}
+use Rattle.fst_minimize.specs.Laws.{IsNormal, totalled, totalled_state, MinimalLaw}
 use Rattle.fst_minimize.proofs.Classes.{class_alike, start_there, start_back}
-use Rattle.fst_minimize.proofs.Spelling.{Goes, StartsWith, starts_with, Weighs_kind, joins, swapped}
+use Rattle.fst_minimize.proofs.Spelling.{Goes, starts_with, Weighs_kind, joins, swapped}
 use Rattle.fst_minimize.proofs.Lower.{TotalTimes, IsPushedGraph, one_name, same_start}
 use Rattle.fst_minimize.proofs.Few.{few}
 

@@ -1,9 +1,9 @@
 -- Rows numbered in the order in which they first came: one more, and what the numbers tell.
-use Rattle.std.proofs.Common.{◌≡◌, ◌⊎◌, inl, inr, ℕ, ◌+◌, ◌<◌, ◌≤◌, zero, suc, Bool, true, false, true≢false, Fits, w32, List, [], ◌∷◌, ◌++◌, Option, Some, None, length, get_or, slice_get, sym, refl, ap, ap₂, ◌∙◌, subst, arith}
+use Rattle.std.proofs.Common.{◌≡◌, ◌⊎◌, inl, inr, ℕ, ◌+◌, ◌<◌, ◌≤◌, suc, Bool, true, false, true≢false, Fits, w32, List, [], ◌∷◌, ◌++◌, Option, Some, length, get_or, slice_get, sym, refl, ap, ap₂, ◌∙◌, subst, arith}
 use Rattle.std.proofs.lemmas.List.{length-append}
 use Rattle.std.proofs.lemmas.Option.{slice_get-get_or, slice_get_within, same_Some}
 use Rattle.std.specs.Bool.{Decides}
-use Rattle.fst_machine.proofs.Arcs.{append_at, at_append_left, at_append_right}
+use Rattle.fst_machine.proofs.Arcs.{at_append_left}
 use Rattle.fst_pushing.proofs.Lists.{push_at, push_last}
 use Rattle.fst_minimize.specs.Pairs.{IsNext, IsNumberTable, KnowsMore, Spells, packed}
 use Rattle.fst_minimize.specs.Numbered.{AreSmall, IsNumbering, Notes, Reads, Numbers, TellsApart}

@@ -1,10 +1,9 @@
 -- Numberings refined by rounds: what a round keeps, and what holds where it changes nothing.
-use Rattle.std.proofs.Common.{◌≡◌, ◌⊎◌, inl, inr, ◌↔◌, ℕ, ◌<◌, zero, suc, List, [], ◌∷◌, Some, length, map, slice_get, sym, refl, ap, ap₂, ◌∙◌, subst, arith}
+use Rattle.std.proofs.Common.{◌≡◌, ◌⊎◌, inl, inr, ℕ, ◌<◌, zero, suc, List, [], ◌∷◌, Some, slice_get, sym, refl, ap, ap₂, ◌∙◌, subst, arith}
 use Rattle.fst_semiring.specs.Cost.{Cost}
 use Rattle.fst_machine.specs.Machine.{Arc}
-use Rattle.fst_machine.specs.Graph.{Graph, nexts}
+use Rattle.fst_machine.specs.Graph.{Graph}
 use Rattle.fst_machine.specs.Letters.{Letter, letter_of}
-use Rattle.fst_machine.specs.BreadthFirst.{Has}
 use Rattle.fst_machine.proofs.Elements.{at_Has}
 use Rattle.fst_minimize.specs.Behaviour.{Alike, IsSingle, GoesOn, Follows, IsStable}
 use Rattle.fst_minimize.specs.Refining.{LabelsAscend, spelling, row, IsRefined, IsRound}
@@ -100,13 +99,13 @@ paired_spelling R (x ∷ xs) (y ∷ ys) p = ap₂ (◌∷◌) p.0 (paired_spelli
 abbrev pub EndsBelow : ℕ → List (Arc Cost ℕ) → Type 0
 EndsBelow n arcs = (k : ℕ) (a : Arc Cost ℕ) → slice_get arcs k ≡ Some a → a.next < n
 
-paired_row : (R : ℕ → ℕ → Type 0) (C : ℕ → ℕ) (n : ℕ) → ((p q : ℕ) → p < n → q < n → R p q → C p ≡ C q) → (xs ys : List (Arc Cost ℕ)) → EndsBelow n xs → EndsBelow n ys → Paired R xs ys → row C xs ≡ row C ys
-paired_row R C n same [] [] low less p = refl
-paired_row R C n same [] (y ∷ ys) low less p = absurd p
-paired_row R C n same (x ∷ xs) [] low less p = absurd p
-paired_row R C n same (x ∷ xs) (y ∷ ys) low less p =
-    ap₂ (◌∷◌) (same x.next y.next (low 0 x refl) (less 0 y refl) p.1)
-    (paired_row R C n same xs ys (λ k a e. low (suc k) a e) (λ k a e. less (suc k) a e) p.2)
+-- lists paired arc for arc have one row, where ends that are tied have one number
+pub paired_row : (R : ℕ → ℕ → Type 0) (C : ℕ → ℕ) (xs ys : List (Arc Cost ℕ)) → ((k : ℕ) (a b : Arc Cost ℕ) → slice_get xs k ≡ Some a → slice_get ys k ≡ Some b → R a.next b.next → C a.next ≡ C b.next)
+    → Paired R xs ys → row C xs ≡ row C ys
+paired_row R C [] [] same p = refl
+paired_row R C [] (y ∷ ys) same p = absurd p
+paired_row R C (x ∷ xs) [] same p = absurd p
+paired_row R C (x ∷ xs) (y ∷ ys) same p = ap₂ (◌∷◌) (same 0 x y refl refl p.1) (paired_row R C xs ys (λ k a b e f. same (suc k) a b e f) p.2)
 
 -- two states have one number
 abbrev pub OneNumber : ℕ → (ℕ → ℕ) → ℕ → ℕ → Type 0
@@ -130,7 +129,7 @@ beside C n (x ∷ xs) (y ∷ ys) low less one two (suc k) a e =
 
 -- A graph over the numbers of n states, whose arcs stand by their labels.
 module _ (g : Graph ℕ) (n : ℕ) (single : IsSingle g) (goes : GoesOn g) (ascend : (p : ℕ) → p < n → LabelsAscend (g.arcs p)) (within : (p : ℕ) → p < n → EndsBelow n (g.arcs p)) where
-  alike_paired : (p q : ℕ) → p < n → q < n → Alike g g p q → Paired (Alike g g) (g.arcs p) (g.arcs q)
+  pub alike_paired : (p q : ℕ) → p < n → q < n → Alike g g p q → Paired (Alike g g) (g.arcs p) (g.arcs q)
   alike_paired p q low less alike =
       let s = alike_stable g g single single goes goes in
       paired (Alike g g) (g.arcs p) (g.arcs q) (ascend p low) (ascend q less) (λ k a e. s.there p q k a alike e) (λ k b e. s.back p q k b alike e)
@@ -147,7 +146,7 @@ module _ (g : Graph ℕ) (n : ℕ) (single : IsSingle g) (goes : GoesOn g) (asce
   -- a round keeps it
   pub round_refined : (C C2 : ℕ → ℕ) → IsRefined g n C → IsRound g n C C2 → IsRefined g n C2
   round_refined C C2 r s = record {
-    coarse = λ p q low less alike. s.other p q low less (r.coarse p q low less alike) (paired_row (Alike g g) C n r.coarse (g.arcs p) (g.arcs q) (within p low) (within q less) (alike_paired p q low less alike));
+    coarse = λ p q low less alike. s.other p q low less (r.coarse p q low less alike) (paired_row (Alike g g) C (g.arcs p) (g.arcs q) (λ k a b e f t. r.coarse a.next b.next (within p low k a e) (within q less k b f) t) (alike_paired p q low less alike));
     finals = λ p q low less e. r.finals p q low less (s.same p q low less e).0;
     letters = λ p q low less e. r.letters p q low less (s.same p q low less e).0;
   }

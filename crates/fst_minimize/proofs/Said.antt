@@ -1,16 +1,16 @@
 -- What is said of arcs: as more weights have numbers, arc by arc, and what it tells.
-use Rattle.std.proofs.Common.{◌≡◌, ◌⊎◌, inl, inr, ℕ, ◌+◌, ◌<◌, List, [], ◌∷◌, ◌++◌, Some, length, get_or, map, take, slice_get, sym, refl, ap, ap₂, ◌∙◌, subst}
+use Rattle.std.proofs.Common.{◌≡◌, inl, inr, ℕ, ◌+◌, ◌<◌, List, [], ◌∷◌, ◌++◌, Some, length, get_or, map, take, slice_get, sym, refl, ap, ap₂, ◌∙◌, subst}
 use Rattle.std.proofs.lemmas.List.{map-append, take_more}
 use Rattle.std.proofs.lemmas.Option.{same_Some}
 use Rattle.fst_semiring.specs.Cost.{Cost}
 use Rattle.fst_machine.specs.Machine.{Arc, valued_arc}
 use Rattle.fst_machine.specs.Letters.{Letter, letter_of}
-use Rattle.fst_machine.specs.BreadthFirst.{Has, Apart, Grows}
+use Rattle.fst_machine.specs.BreadthFirst.{Apart, Grows}
 use Rattle.fst_machine.proofs.Arcs.{at_append_left}
 use Rattle.fst_machine.proofs.Elements.{Apart_at, Apart-push}
 use Rattle.fst_minimize.specs.declared.weights.WeightKey.{WeightKey}
 use Rattle.fst_minimize.specs.Refining.{spelling}
-use Rattle.fst_minimize.specs.Saying.{weight_key, Extends, SaysArcs, SaysState}
+use Rattle.fst_minimize.specs.Saying.{weight_key, Extends, SaysArcs}
 use Rattle.fst_minimize.proofs.WeightKeys.{key_once}
 
 -- a list that grows by an element that it may have

@@ -1,9 +1,9 @@
 -- The minimized machine gives each word the weight that the machine gives it.
-use Rattle.std.proofs.Common.{◌≡◌, ◌≢◌, ◌⊎◌, inl, inr, ◌↔◌, ℕ, ◌<◌, List, [], ◌∷◌, Option, None, Some, length, get_or, slice_get, sym, refl, ap, ap₂, ◌∙◌, subst}
+use Rattle.std.proofs.Common.{◌≡◌, ◌≢◌, inl, inr, ℕ, List, [], ◌∷◌, Some, slice_get, sym, refl, ap, ap₂, ◌∙◌, subst}
 use Rattle.fst_semiring.specs.Cost.{Cost, infinite}
 use Rattle.fst_semiring.specs.declared.arc_type.ArcType.{ArcType}
 use Rattle.fst_semiring.specs.Semiring.{times}
-use Rattle.fst_machine.specs.Machine.{Arc, Machine}
+use Rattle.fst_machine.specs.Machine.{Machine}
 use Rattle.fst_machine.specs.Graph.{Graph, graph_of}
 use Rattle.fst_machine.specs.Letters.{label_word, product}
 use Rattle.fst_machine.specs.Paths.{Transition, letters}
@@ -18,7 +18,7 @@ use Rattle.fst_minimize.specs.Classes.{HasClasses}
 use Rattle.fst_minimize.specs.Laws.{IsNormal, totalled}
 use Rattle.fst_minimize.specs.Words.{WordWeighs, IsWordWeight, SameWords}
 use Rattle.fst_minimize.proofs.Classes.{start_back}
-use Rattle.fst_minimize.proofs.Minimal.{totalled_words, normal_goes}
+use Rattle.fst_minimize.proofs.Minimal.{totalled_words}
 
 -- where arcs serve for arcs, words have the same weights
 served_word : {N M : Type 0} (kind : ArcType) (R : N → M → Type 0) (g : Graph N) (h : Graph M) → Serves R g h → (x : List ℕ) (w : Cost) → WordWeighs kind g x w → WordWeighs kind h x w

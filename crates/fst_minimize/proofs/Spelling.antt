@@ -1,15 +1,15 @@
 -- Words along paths: where a word leads, what goes on from there, and what weights are.
-use Rattle.std.proofs.Common.{◌≡◌, ◌≢◌, ◌⊎◌, inl, inr, ℕ, List, [], ◌∷◌, ◌++◌, Some, slice_get, sym, refl, ap, ap₂, ◌∙◌, subst}
+use Rattle.std.proofs.Common.{◌≡◌, ◌≢◌, inl, inr, ℕ, List, [], ◌∷◌, ◌++◌, Some, slice_get, sym, refl, ap, ap₂, ◌∙◌, subst}
 use Rattle.fst_semiring.specs.Cost.{Cost, infinite, plus}
 use Rattle.fst_semiring.specs.declared.arc_type.ArcType.{ArcType}
 use Rattle.fst_semiring.specs.Semiring.{one_of, times, IsCost}
-use Rattle.fst_semiring.proofs.Laws.{times_assoc, times_comm, one_times, times_only_zero, one_not_zero}
+use Rattle.fst_semiring.proofs.Laws.{times_assoc, times_comm, one_times, one_not_zero}
 use Rattle.fst_semiring.proofs.OfKind.{IsCost-one, IsCost-times}
 use Rattle.fst_machine.specs.Machine.{Arc}
 use Rattle.fst_machine.specs.Graph.{Graph}
-use Rattle.fst_machine.specs.Letters.{Letter, letter_of, label_word, product}
+use Rattle.fst_machine.specs.Letters.{label_word, product}
 use Rattle.fst_machine.specs.Paths.{Transition, IsPath, letters}
-use Rattle.fst_machine.specs.Distance.{Finishes, IsFinalDistance}
+use Rattle.fst_machine.specs.Distance.{IsFinalDistance}
 use Rattle.fst_machine.proofs.Letters.{label_word-append, product-append, letters-append}
 use Rattle.fst_machine.proofs.PathParts.{IsPath-append}
 use Rattle.fst_pushing.proofs.Potential.{times_not_zero}

@@ -1,6 +1,5 @@
 -- Rounds over the rows of all states: what one tells, and what holds where it splits nothing.
-use Rattle.std.proofs.Common.{◌≡◌, ◌≢◌, ◌⊎◌, inl, inr, ℕ, ◌+◌, ◌<◌, ◌≤◌, List, [], ◌∷◌, ◌++◌, Some, length, map, get_or, slice_get, sym, refl, ap, ap₂, ◌∙◌, subst, arith}
-use Rattle.std.specs.List.{All}
+use Rattle.std.proofs.Common.{◌≡◌, ◌≢◌, ◌⊎◌, inl, inr, ℕ, ◌+◌, ◌<◌, ◌≤◌, List, [], ◌∷◌, ◌++◌, Some, length, map, get_or, slice_get, sym, refl, ap, ap₂, ◌∙◌, arith}
 use Rattle.std.proofs.lemmas.List.{length-append}
 use Rattle.std.proofs.lemmas.Bool.{cases_eq, cases_lt}
 use Rattle.std.proofs.lemmas.Option.{slice_get-get_or, slice_get_within, get_or_from_slice_get, same_Some}
@@ -9,9 +8,8 @@ use Rattle.fst_machine.specs.Machine.{Arc}
 use Rattle.fst_machine.specs.Graph.{Graph, nexts}
 use Rattle.fst_machine.proofs.Arcs.{at_append_left, at_mapped}
 use Rattle.fst_machine.proofs.Narrowing.{all_at}
-use Rattle.fst_minimize.specs.Behaviour.{Alike}
 use Rattle.fst_minimize.specs.Numbered.{IsNumbering, TellsApart, number_in, SeenRows, SplitsRows, RowsBelow, AreRows, TellsBehaviour}
-use Rattle.fst_minimize.specs.Refining.{row, IsRefined, IsRound}
+use Rattle.fst_minimize.specs.Refining.{IsRefined, IsRound}
 use Rattle.fst_minimize.proofs.Few.{few}
 use Rattle.fst_pushing.proofs.Lists.{push_last}
 use Rattle.fst_minimize.proofs.Refining.{EndsBelow, round_refined, round_last}
@@ -146,7 +144,7 @@ splits_finer numbers numbers2 rows s p q low less e = (s.same p q (get_or rows p
 
 -- A split as a round over a graph with these rows.
 module _ (g : Graph ℕ) (n : ℕ) (rows : List (List ℕ)) (are : AreRows g n rows) (below : RowsBelow n rows) where
-  rows_within : (p : ℕ) → p < n → EndsBelow n (g.arcs p)
+  pub rows_within : (p : ℕ) → p < n → EndsBelow n (g.arcs p)
   rows_within p low k a e = all_at (λ q. q < n) (nexts (g.arcs p)) k a.next (at_mapped (λ (b : Arc Cost ℕ). b.next) (g.arcs p) k a e) (below p (nexts (g.arcs p)) (are.row p low))
 
   splits_round : (numbers numbers2 : List ℕ) → SplitsRows numbers numbers2 rows → IsRound g n (number_in numbers) (number_in numbers2)

@@ -1,5 +1,5 @@
 -- Keys of weights: equal keys are those of one value.
-use Rattle.std.proofs.Common.{◌≡◌, ℕ, ℤ, ◌&&◌, eqb, int_eq, Bool, true, false, true≢false, Ordering, Equal, refl, sym, ap, ◌∙◌}
+use Rattle.std.proofs.Common.{◌≡◌, ◌&&◌, eqb, int_eq, Bool, true, false, true≢false, Ordering, Equal, refl, sym, ap, ◌∙◌}
 use Rattle.std.specs.Bool.{Decides}
 use Rattle.std.specs.Ordering.{nat_cmp, int_cmp, ordering_then}
 use Rattle.std.proofs.lemmas.Bool.{eq-eqb, eqb-true}

@@ -1,32 +1,28 @@
 -- From the parts of minimization to what it promises.
 use Rattle.std.proofs.Common.{◌≡◌, ◌≢◌, ◌⊎◌, inl, inr, true, ℕ, ◌<◌, ◌≤◌, List, [], ◌∷◌, Option, None, Some, length, map, get_or, slice_get, sym, refl, ap, ◌∙◌, subst, arith}
-use Rattle.std.specs.List.{All}
 use Rattle.std.specs.Option.{option_map}
 use Rattle.std.proofs.lemmas.Bool.{cases_eq, cases_lt}
 use Rattle.std.proofs.lemmas.List.{get_or_past, length-map}
-use Rattle.std.proofs.lemmas.Option.{slice_get_cases, slice_get_within, get_or_from_slice_get, same_Some}
-use Rattle.fst_semiring.specs.Cost.{Cost, infinite}
+use Rattle.std.proofs.lemmas.Option.{slice_get_cases, slice_get_within, same_Some}
+use Rattle.fst_semiring.specs.Cost.{Cost}
 use Rattle.fst_semiring.specs.declared.arc_type.ArcType.{ArcType}
 use Rattle.fst_semiring.specs.Semiring.{cancels, IsCost}
-use Rattle.fst_machine.specs.Machine.{Arc, State, Machine, IsMachine, valued, valued_arc, valued_state}
+use Rattle.fst_machine.specs.Machine.{Arc, State, Machine, valued, valued_arc, valued_state}
 use Rattle.fst_machine.specs.Graph.{graph_of, no_state}
 use Rattle.fst_machine.proofs.Arcs.{mapped_at}
 use Rattle.fst_machine.proofs.Cycles.{state_below}
 use Rattle.fst_machine.proofs.Narrowing.{all_at}
-use Rattle.fst_trim.specs.FirstArcs.{IsAcceptor, IsDeterministic, Meets, HasTwoLabels, Repeats}
+use Rattle.fst_trim.specs.FirstArcs.{IsAcceptor, IsDeterministic}
 use Rattle.fst_pushing.specs.Pushing.{IsPushed, value_at}
 use Rattle.fst_pushing.specs.PushLaws.{NoArcIsZero}
 use Rattle.fst_pushing.proofs.Pushed.{potential, pushed_one, pushed_next, pushed_start, pushed_trim, pushed_some, pushed_acceptor, pushed_once}
 use Rattle.fst_pushing.proofs.View.{valued_at}
 use Rattle.fst_minimize.specs.Behaviour.{IsSingle}
-use Rattle.fst_minimize.specs.Classes.{HasClasses, class_machine}
+use Rattle.fst_minimize.specs.Classes.{HasClasses}
 use Rattle.fst_minimize.specs.Described.{OfKind, OncePlacedAll}
 use Rattle.fst_minimize.specs.Laws.{IsClosed, IsNormal, totalled, totalled_state}
-use Rattle.fst_minimize.specs.Minimized.{IsMinimized}
-use Rattle.fst_minimize.specs.Numbered.{IsNumbering, TellsBehaviour}
 use Rattle.fst_minimize.specs.Ready.{IsReady}
 use Rattle.fst_minimize.specs.Words.{HasKind, IsMinimal}
-use Rattle.fst_minimize.proofs.Made.{has_classes}
 use Rattle.fst_minimize.proofs.Minimal.{minimal_law}
 
 -- the arc of a machine behind an arc of its values

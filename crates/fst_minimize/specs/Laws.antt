@@ -10,7 +10,7 @@ use Rattle.fst_machine.specs.Connected.{IsTrim}
 use Rattle.fst_machine.specs.Distance.{IsFinalDistance}
 use Rattle.fst_minimize.specs.Behaviour.{Alike, IsSingle, GoesOn, IsStable}
 use Rattle.fst_minimize.specs.Classes.{HasClasses}
-use Rattle.fst_minimize.specs.Words.{HasKind, IsMinimal, SameWords}
+use Rattle.fst_minimize.specs.Words.{HasKind, IsMinimal}
 
 -- Names tied by a stable tie have the same behaviour.
 abbrev pub StableLaw : {N M : Type 0} → Graph N → Graph M → (N → M → Type 0) → Type 0

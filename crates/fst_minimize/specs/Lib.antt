@@ -6,8 +6,10 @@ pub mod Pairs
 pub mod Numbered
 pub mod Numberers
 pub mod Rows
+pub mod Along
 pub mod Refining
 pub mod Saying
 pub mod Described
 pub mod Ready
 pub mod Minimized
+pub mod Faults

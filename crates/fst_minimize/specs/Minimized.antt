@@ -1,14 +1,13 @@
 -- What minimization makes, and why it may not make it.
-use Rattle.std.specs.Prelude.{◌≡◌, ℕ, List, None, Some, slice_get}
+use Rattle.std.specs.Prelude.{◌≡◌, ℕ, Some}
 use Rattle.fst_semiring.specs.Cost.{Cost}
 use Rattle.fst_semiring.specs.declared.arc_type.ArcType.{ArcType}
 use Rattle.fst_machine.specs.Machine.{Machine}
 use Rattle.fst_machine.specs.Graph.{graph_of}
 use Rattle.fst_machine.specs.Cycles.{IsUseful}
 use Rattle.fst_machine.specs.Narrowing.{IsFirstPast}
-use Rattle.fst_machine.specs.declared.path.Step.{Step}
 use Rattle.fst_trim.specs.FirstArcs.{HasTwoLabels, Repeats, IsFirstArc, IsAcceptor, IsDeterministic}
-use Rattle.fst_distance.specs.Distances.{IsListed}
+use Rattle.fst_distance.specs.Distances.{IsListed, NoneImproves}
 use Rattle.fst_pushing.specs.Pushing.{IsPushed}
 use Rattle.fst_minimize.specs.Classes.{HasClasses}
 use Rattle.fst_minimize.specs.Laws.{totalled}
@@ -35,5 +34,6 @@ abbrev pub IsMinimizeFault : {V : Type 0} → ArcType → Machine V → Machine 
 IsMinimizeFault kind m values (NotAcceptor state place) = IsFirstArc HasTwoLabels m (Some (record { state = state; place = place }))
 IsMinimizeFault kind m values (NotDeterministic state place) = IsAcceptor m × IsFirstArc Repeats m (Some (record { state = state; place = place }))
 IsMinimizeFault kind m values (ImprovingCycle cycle) = IsAcceptor m × IsDeterministic m × IsListed kind (graph_of values) (IsUseful (graph_of values)) cycle
-IsMinimizeFault kind m values (Overflow state) = IsAcceptor m × IsDeterministic m × IsPast kind values state
+IsMinimizeFault kind m values (Overflow state) = IsAcceptor m × IsDeterministic m
+    × NoneImproves kind (graph_of values) (IsUseful (graph_of values)) × IsPast kind values state
 IsMinimizeFault kind m values Memory = Unit {0}

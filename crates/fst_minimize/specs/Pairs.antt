@@ -1,6 +1,6 @@
 -- Rows of numbers read into a table of pairs. (Numbering rows by the pairs of what was read so far and the next number
 -- tells equal rows without comparing them.)
-use Rattle.std.specs.Prelude.{◌≡◌, ◌⊎◌, ℕ, ◌+◌, ◌*◌, ◌<◌, List, [], ◌∷◌, Some, Option, length, slice_get}
+use Rattle.std.specs.Prelude.{◌≡◌, ◌⊎◌, ℕ, ◌+◌, ◌*◌, ◌<◌, List, [], ◌∷◌, Some, Option}
 
 -- the number that stands for a pair
 abbrev pub packed : ℕ → ℕ → ℕ

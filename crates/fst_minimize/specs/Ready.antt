@@ -1,5 +1,5 @@
 -- Pushed machines that are ready to be minimized.
-use Rattle.std.specs.Prelude.{◌≡◌, ℕ, ◌<◌, IfSome, length, slice_get, Some}
+use Rattle.std.specs.Prelude.{◌≡◌, ℕ, slice_get, Some}
 use Rattle.fst_semiring.specs.Cost.{Cost}
 use Rattle.fst_machine.specs.Machine.{Arc, Machine}
 use Rattle.fst_machine.specs.Graph.{graph_of}

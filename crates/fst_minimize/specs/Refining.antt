@@ -1,6 +1,6 @@
 -- Numberings of states that are refined until states with one number have the same behaviour. (Mohri 2009, section
 -- 3.4: partition refinement, as of unweighted automata whose labels are pairs of a label and a weight.)
-use Rattle.std.specs.Prelude.{◌≡◌, ℕ, ◌<◌, ◌≤◌, List, [], ◌∷◌, Some, length, map, get_or, slice_get}
+use Rattle.std.specs.Prelude.{◌≡◌, ℕ, ◌<◌, List, [], ◌∷◌, map}
 use Rattle.fst_semiring.specs.Cost.{Cost}
 use Rattle.fst_machine.specs.Machine.{Arc}
 use Rattle.fst_machine.specs.Graph.{Graph, nexts}

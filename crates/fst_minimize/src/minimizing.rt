@@ -32,8 +32,8 @@ use std::alloc::Global;
 /// `NotAcceptor`, `NotDeterministic`, `ImprovingCycle` and `Overflow` exactly where they hold, in this order; `Memory`
 /// may come in place of any answer. After an `Ok` the queue is empty.
 ///
-/// Time: that of the distances, and for each round of the refinement linear in the states and the arcs; there may be as
-/// many rounds as states, as on a chain of states. Space: linear.
+/// Time: that of the distances, and linear in the states and the arcs where no path comes back to a state; else linear for
+/// each round of the refinement, and there may be as many rounds as states, as on a long cycle. Space: linear.
 pub fn minimize<W: Weight, Q: StateQueue>(
     alloc: Global,
     fst: &Fst<W>,
@@ -76,4 +76,24 @@ pub fn minimize<W: Weight, Q: StateQueue>(
         Err(NarrowFault::Overflow { state }) => Err(MinimizeFault::Overflow { state }),
         Err(NarrowFault::Memory) => Err(MinimizeFault::Memory),
     }
+}
+
+/// The same with a queue in a box.
+pub fn minimize_boxed<W: Weight>(
+    alloc: Global,
+    fst: &Fst<W>,
+    queue: &mut Box<dyn StateQueue>,
+) -> Result<Fst<W>, MinimizeFault>
+    requires { members queue.old ≡ [] }
+    ensures machine { IfOk result (λ r. IsMinimized W.KIND (valued W.value fst.now) (valued W.value r)) }
+    ensures words { IfOk result (λ r. SameWords W.KIND (graph_of (valued W.value fst.now)) (graph_of (valued W.value r))) }
+    ensures minimal { IfOk result (λ r. W.CANCELS ≡ true → IsMinimal W.KIND (valued W.value r)) }
+    ensures acceptor { OnOk result (IsAcceptor fst.now) }
+    ensures deterministic { OnOk result (IsDeterministic fst.now) }
+    ensures none { OnOk result (NoneImproves W.KIND (graph_of (valued W.value fst.now)) (IsUseful (graph_of (valued W.value fst.now)))) }
+    ensures range { IfOk result (λ r. All IsInRange (valued W.value r).states) }
+    ensures fault { IfErr result (IsMinimizeFault W.KIND fst.now (valued W.value fst.now)) }
+    ensures empty { OnOk result (members queue.new ≡ []) }
+{
+    minimize(alloc, fst, queue)
 }

@@ -49,8 +49,9 @@ impl Numberer {
     }
 
     /// Numbers a row with its head. Where this is an `Err`, the numberer is of no more use.
-    pub(crate) fn add(&mut self, head: u32, row: &[u32]) -> Result<(), AllocError>
-        ensures { OnOk result ((seen : List (ℕ × List ℕ)) → HasSeen seen self.old → HasSeen (seen ++ (head, row.now) ∷ []) self.new) }
+    pub(crate) fn add(&mut self, head: u32, row: &[u32]) -> Result<u32, AllocError>
+        ensures seen { OnOk result ((seen : List (ℕ × List ℕ)) → HasSeen seen self.old → HasSeen (seen ++ (head, row.now) ∷ []) self.new) }
+        ensures put { IfOk result (λ n. self.new.numbers.items ≡ self.old.numbers.items ++ n ∷ []) }
     {
         let place = self.numbers.len();
         if row.len() > 4294967295 || place > 4294967295 {
@@ -61,12 +62,13 @@ impl Numberer {
         let number = self.ends.number(end, row.len() as u32)?;
         note_first(&mut self.least, number == known, place as u32)?;
         self.numbers.push(number)?;
-        Ok(())
+        Ok(number)
     }
 
     /// The numbers of the rows.
     pub(crate) fn finish(self) -> Numbering
         ensures tells { (seen : List (ℕ × List ℕ)) → HasSeen seen self → TellsApart seen result.numbers.items }
+        ensures same { result.numbers.items ≡ self.numbers.items }
         ensures numbering { (seen : List (ℕ × List ℕ)) → HasSeen seen self → IsNumbering result.numbers.items result.least.items }
     {
         Numbering {

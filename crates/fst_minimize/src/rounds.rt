@@ -6,12 +6,17 @@ ghost use Rattle.fst_machine.specs.Graph.{Graph};
 ghost use Rattle.fst_minimize.specs.Numbered.{AreRows, IsNumbering, RowsBelow, SplitsRows, TellsBehaviour, number_in};
 ghost use Rattle.fst_minimize.specs.Refining.{IsRefined};
 
+use crate::along::refine_along;
 use crate::numberer::{Numberer, Numbering};
 use crate::rows::Rows;
 use std::alloc::{AllocError, Global};
 
 /// Fills a list with the numbers of these states.
-fn put_numbers(out: &mut Vec<u32>, numbers: &[u32], states: &[u32]) -> Result<(), AllocError>
+pub(crate) fn put_numbers(
+    out: &mut Vec<u32>,
+    numbers: &[u32],
+    states: &[u32],
+) -> Result<(), AllocError>
     requires { All (λ q. q < length numbers.now) states.now }
     ensures { OnOk result (out.new.items ≡ map (number_in numbers.now) states.now) }
 {
@@ -42,7 +47,7 @@ fn split_all(alloc: Global, current: &Numbering, rows: &Rows) -> Result<Numberin
 /// Refines a numbering by rounds until a round splits nothing.
 ///
 /// Time: linear in the states and arcs for each round; there may be as many rounds as states.
-pub(crate) fn refine(alloc: Global, first: Numbering, rows: &Rows) -> Result<Numbering, AllocError>
+fn refine_by_rounds(alloc: Global, first: Numbering, rows: &Rows) -> Result<Numbering, AllocError>
     requires size { length first.numbers.items ≡ length rows.now }
     requires below { RowsBelow (length rows.now) rows.now }
     requires numbering { IsNumbering first.numbers.items first.least.items }
@@ -57,5 +62,21 @@ pub(crate) fn refine(alloc: Global, first: Numbering, rows: &Rows) -> Result<Num
             return Ok(current);
         }
         current = next;
+    }
+}
+
+/// Refines a numbering until states with one number behave the same: in one pass where no path comes back to a state, by
+/// rounds where one does.
+pub(crate) fn refine(alloc: Global, first: Numbering, rows: &Rows) -> Result<Numbering, AllocError>
+    requires size { length first.numbers.items ≡ length rows.now }
+    requires below { RowsBelow (length rows.now) rows.now }
+    requires numbering { IsNumbering first.numbers.items first.least.items }
+    ensures behaviour { IfOk result (λ n. (g : Graph ℕ) → AreRows g (length rows.now) rows.now → IsRefined g (length rows.now) (number_in first.numbers.items) → TellsBehaviour g (length rows.now) n.numbers.items) }
+    ensures numbering { IfOk result (λ n. IsNumbering n.numbers.items n.least.items) }
+    ensures size { IfOk result (λ n. length n.numbers.items ≡ length rows.now) }
+{
+    match refine_along(alloc, &first, rows)? {
+        Some(classes) => Ok(classes),
+        None => refine_by_rounds(alloc, first, rows),
     }
 }

@@ -1,5 +1,4 @@
 use Rattle.std.proofs.Common.{◌≡◌, ◌+◌, ◌++◌, ◌∷◌, [], ℕ, List, Some, map, slice_get, sym, ap, ◌∙◌, subst}
-use Rattle.fst_semiring.specs.Cost.{Cost}
 use Rattle.fst_machine.specs.Machine.{valued_arc}
 use Rattle.fst_machine.specs.Graph.{nexts}
 use Rattle.fst_minimize.specs.Described.{DescribedBy}
@@ -26,7 +25,7 @@ returns-clause-described g c = λ graph done by final old.
     let here : ends ≡ nexts arcs = c.in_ok-put_ends.ensures ∙ nexts_valued w.wide_value c.args.arcs.now in
     let all = described_push graph done keys more old.0 old.1 c.args.describer.now.rows arcs head said ends old.2 extends c.in_ok-put_said.ensures.apart by (there, c.in_ok-put_said.ensures.says) here in
     let rows : c.push.new.self ≡ c.args.describer.now.rows ++ ends ∷ [] = c.in_ok-push.ensures ∙ ap (λ (e : List ℕ). c.args.describer.now.rows ++ e ∷ []) c.deref-2.ensures.value in
-    let seen = c.in_ok-add.ensures old.1 old.3 in (
+    let seen = c.in_ok-add.ensures.seen old.1 old.3 in (
       old.0 ++ arcs ∷ [],
       old.1 ++ (head, said) ∷ [],
       subst (DescribedBy graph (done + 1) more (old.0 ++ arcs ∷ []) (old.1 ++ (head, said) ∷ [])) (sym rows) all,

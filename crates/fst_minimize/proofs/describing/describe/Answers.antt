@@ -1,4 +1,4 @@
-use Rattle.std.proofs.Common.{◌≡◌, ◌<◌, ℕ, length, below_more, subst, arith}
+use Rattle.std.proofs.Common.{◌≡◌, ℕ, length, below_more, subst, arith}
 use Rattle.fst_machine.specs.Graph.{graph_of}
 use Rattle.fst_minimize.specs.Described.{IsDescribed, OfKind}
 use Rattle.fst_minimize.proofs.describing.describe.Goals as goal

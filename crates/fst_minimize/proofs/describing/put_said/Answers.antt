@@ -1,4 +1,4 @@
-use Rattle.std.proofs.Common.{◌≡◌, ◌<◌, ◌++◌, ◌∷◌, [], ℕ, List, Some, length, get_or, refl, sym, ap, ◌∙◌, arith}
+use Rattle.std.proofs.Common.{◌≡◌, ◌<◌, ◌++◌, ◌∷◌, [], ℕ, List, Some, length, get_or, ap, ◌∙◌}
 use Rattle.fst_machine.specs.Machine.{Arc}
 use Rattle.fst_machine.proofs.Changes.{read_as}
 use Rattle.fst_minimize.proofs.Said.{grows_extends, grows_apart, said_step}

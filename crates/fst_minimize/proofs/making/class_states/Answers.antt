@@ -1,4 +1,4 @@
-use Rattle.std.proofs.Common.{◌≡◌, ◌<◌, ◌≤◌, ◌+◌, ◌++◌, ◌∷◌, [], ℕ, List, Some, length, map, take, get_or, slice_get, sym, ap, ◌∙◌, subst, arith}
+use Rattle.std.proofs.Common.{◌≡◌, ◌<◌, ◌≤◌, ◌+◌, ◌++◌, ◌∷◌, [], ℕ, List, Some, length, map, take, slice_get, sym, ap, ◌∙◌, subst, arith}
 use Rattle.std.specs.List.{All}
 use Rattle.std.proofs.lemmas.List.{take_all}
 use Rattle.std.proofs.lemmas.Option.{slice_get-get_or}
@@ -11,7 +11,6 @@ use Rattle.fst_minimize.specs.Classes.{class_state}
 use Rattle.fst_minimize.specs.Laws.{totalled_state}
 use Rattle.fst_minimize.proofs.Splitting.{count_below}
 use Rattle.fst_minimize.proofs.Made.{made, made_at, made_size, made_total, least_low, put_step, range_step, room_step}
-use Rattle.fst_minimize.proofs.making.class_states.Given as given
 use Rattle.fst_minimize.proofs.making.class_states.Goals as goal
 
 pub put_class-requires-clause-state : goal.put_class-requires-clause-state

@@ -1,4 +1,4 @@
-use Rattle.std.proofs.Common.{◌≡◌, ℕ, List, length, sym, subst}
+use Rattle.std.proofs.Common.{ℕ, sym, subst}
 use Rattle.fst_minimize.specs.Numbered.{AreRows, RowsBelow, TellsBehaviour, number_in}
 use Rattle.fst_minimize.specs.Refining.{IsRefined}
 use Rattle.fst_minimize.proofs.Linking.{sorted_graph, sorted_rows, rows_below, first_is_refined, tells_back}

@@ -1,4 +1,4 @@
-use Rattle.std.proofs.Common.{◌≡◌, true, refl, sym, ap, ◌∙◌, subst}
+use Rattle.std.proofs.Common.{refl, sym, ◌∙◌, subst}
 use Rattle.fst_machine.specs.Machine.{Machine, valued}
 use Rattle.fst_machine.specs.Graph.{graph_of}
 use Rattle.fst_semiring.specs.Cost.{Cost}
@@ -7,12 +7,10 @@ use Rattle.fst_pushing.proofs.Picked.{machine_some}
 use Rattle.fst_minimize.specs.Classes.{class_machine}
 use Rattle.fst_machine.specs.Narrowing.{IsCause}
 use Rattle.fst_minimize.specs.Laws.{totalled}
-use Rattle.fst_minimize.specs.Minimized.{IsMinimized}
 use Rattle.fst_minimize.specs.Words.{IsMinimal, SameWords}
 use Rattle.fst_minimize.proofs.Made.{has_classes}
 use Rattle.fst_minimize.proofs.Whole.{raw_acceptor, raw_once, normal, pushed_ready, pushed_minimal}
 use Rattle.fst_minimize.proofs.SameWords.{same_words}
-use Rattle.fst_minimize.proofs.minimizing.minimize.Given as given
 use Rattle.fst_minimize.proofs.minimizing.minimize.Goals as goal
 
 pub number_classes-requires : goal.number_classes-requires
@@ -55,6 +53,7 @@ returns-in-Err-Overflow-clause-fault g c =
     let least = c.in-Ok-number_classes.classes.least.items in (
       c.in-None.ensures,
       c.in-None-not_deterministic_at.ensures,
+      c.in-Ok.ensures.none,
       record {
         machine = totalled g.W.Weight.KIND (g.W.Weight.wide_value c.in-Ok.totalled.total) (class_machine r numbers least);
         minimized = record {

@@ -1,4 +1,4 @@
-use Rattle.std.proofs.Common.{◌≡◌, ℕ, ◌+◌, ◌<◌, List, [], ◌∷◌, ◌++◌, length, map, get_or, sym, refl, ap, ap₂, ◌∙◌, subst, arith}
+use Rattle.std.proofs.Common.{◌≡◌, ℕ, ◌<◌, List, [], ◌∷◌, ◌++◌, length, map, ap, ap₂, ◌∙◌, subst, arith}
 use Rattle.std.proofs.lemmas.Grind.{get_or_default_zero}
 use Rattle.fst_minimize.specs.Numbered.{SeenRows, number_in}
 use Rattle.fst_minimize.specs.Numberers.{HasSeen}
@@ -14,7 +14,7 @@ loop-state-preserved c =
     let numbers = c.args.current.now.numbers.items in
     let r = c.row.result.now in
     let seen = seen_push numbers c.args.rows.now c.loop-state.state inv.0 r c.row.ensures inv.1 in
-    let added = c.in_ok-add.ensures inv.0 inv.2 in
+    let added = c.in_ok-add.ensures.seen inv.0 inv.2 in
     let low : c.loop-state.state < length numbers = let n = c.len-states.ensures in let m = c.requires.size in omega arith in
     let head : c.index.result.now ≡ number_in numbers c.loop-state.state = c.index.ensures ∙ get_or_default_zero numbers c.loop-state.state c.index.result.now low in
     let ends : c.deref-in-loop-state.result.now ≡ map (number_in numbers) r = c.deref-in-loop-state.ensures.value ∙ (c.in_ok-put_numbers.ensures ∙ ap (λ (ns : List ℕ). map (number_in ns) r) c.deref.ensures.value) in

@@ -1,4 +1,4 @@
-use Rattle.std.proofs.Common.{[], ℕ, List, arith}
+use Rattle.std.proofs.Common.{[]}
 use Rattle.fst_minimize.proofs.Describe.{described_none}
 use Rattle.fst_minimize.proofs.describing.Describer.with_capacity.Goals as goal
 

@@ -4,8 +4,8 @@ use Rattle.fst_minimize.specs.Numbered.{Notes, Numbers}
 use Rattle.fst_minimize.proofs.Numbered.{numbers_push, small_row}
 use Rattle.fst_minimize.proofs.numberer.Numberer.add.Goals as goal
 
-pub returns : goal.returns
-returns c = λ seen h.
+pub returns-clause-seen : goal.returns-clause-seen
+returns-clause-seen c = λ seen h.
     let self = c.args.self.now in
     let nodes2 = placed_in c.spell.new.self.table.slots.items in
     let ends2 = placed_in c.number.new.self.table.slots.items in

@@ -1,4 +1,4 @@
-use Rattle.std.proofs.Common.{◌++◌, ◌∷◌, [], List, ℕ, take, get_or, sym, subst, arith}
+use Rattle.std.proofs.Common.{List, ℕ, take, get_or, sym, subst, arith}
 use Rattle.std.proofs.lemmas.List.{take_more}
 use Rattle.fst_table.specs.Slots.{placed_in}
 use Rattle.fst_minimize.specs.Pairs.{Spells}

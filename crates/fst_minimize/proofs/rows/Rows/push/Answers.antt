@@ -1,7 +1,7 @@
-use Rattle.std.proofs.Common.{◌≡◌, ◌++◌, ◌∷◌, [], List, length, refl, sym, ap, ap₂, ◌∙◌, arith}
+use Rattle.std.proofs.Common.{◌≡◌, ◌++◌, ◌∷◌, [], length, refl, ap, ap₂, ◌∙◌, arith}
 use Rattle.fst_minimize.specs.Rows.{rows_of}
 use Rattle.fst_minimize.specs.declared.rows.Span.{Span}
-use Rattle.fst_minimize.proofs.RowLists.{rows_push, fits_push}
+use Rattle.fst_minimize.proofs.RowLists.{rows_push}
 use Rattle.fst_minimize.proofs.rows.Rows.push.Goals as goal
 
 pub returns : goal.returns

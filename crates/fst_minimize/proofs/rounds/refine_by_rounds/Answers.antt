@@ -1,7 +1,6 @@
-use Rattle.std.proofs.Common.{◌≡◌, ◌≤◌, ◌<◌, ℕ, List, length, refl, arith}
-use Rattle.fst_minimize.specs.Numbered.{SplitsRows}
+use Rattle.std.proofs.Common.{◌≡◌, length, arith}
 use Rattle.fst_minimize.proofs.Splitting.{count_below, count_grows, splits_finer, splits_refined, splits_last}
-use Rattle.fst_minimize.proofs.rounds.refine.Goals as goal
+use Rattle.fst_minimize.proofs.rounds.refine_by_rounds.Goals as goal
 
 pub loop-current-init : goal.loop-current-init
 loop-current-init c = record {

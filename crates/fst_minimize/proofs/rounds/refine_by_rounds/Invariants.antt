@@ -2,7 +2,7 @@ use Rattle.std.proofs.Common.{◌≡◌, ◌≤◌, ◌-◌, ℕ, length}
 use Rattle.fst_machine.specs.Graph.{Graph}
 use Rattle.fst_minimize.specs.Numbered.{AreRows, IsNumbering, number_in}
 use Rattle.fst_minimize.specs.Refining.{IsRefined}
-use Rattle.fst_minimize.proofs.rounds.refine.Given as goal
+use Rattle.fst_minimize.proofs.rounds.refine_by_rounds.Given as goal
 
 abbrev pub invariant-loop-current : goal.invariant-loop-current
 invariant-loop-current l = record {
