@@ -2,13 +2,13 @@
 use Rattle.std.proofs.Common.{◌≡◌, ℕ, refl, ap}
 use Rattle.fst_semiring.specs.Cost.{Cost}
 use Rattle.fst_semiring.specs.declared.arc_type.ArcType.{ArcType}
-use Rattle.fst_machine.specs.Graph.{Graph, graph_of}
+use Rattle.fst_machine.specs.Graph.{graph_of}
 use Rattle.fst_machine.specs.Machine.{Machine}
 use Rattle.fst_walk.specs.Answers.{Stops}
 use Rattle.fst_walk.specs.declared.fault.WalkFault.{WalkFault}
 use Rattle.fst_walk.specs.declared.fault.WalkFault.TheVariants as walk
 use Rattle.fst_walk.proofs.OneAnswer.{one_stop}
-use Rattle.fst_compose.specs.Answers.{IsSorted, Refuses, cause_of}
+use Rattle.fst_compose.specs.Answers.{Refuses, cause_of}
 use Rattle.fst_compose.specs.Composition.{composed}
 use Rattle.fst_compose.specs.declared.fault.ComposeFault.{ComposeFault}
 use Rattle.fst_compose.specs.declared.fault.ComposeFault.TheVariants.{Memory, NotSorted, Overflow, StateLimit, TooManyArcs}

@@ -7,7 +7,7 @@ use Rattle.fst_semiring.specs.Semiring.{times}
 use Rattle.fst_machine.specs.Machine.{Machine}
 use Rattle.fst_machine.specs.Graph.{Graph, graph_of}
 use Rattle.fst_machine.specs.Letters.{input, output}
-use Rattle.fst_machine.specs.Paths.{Transition, letters}
+use Rattle.fst_machine.specs.Paths.{letters}
 use Rattle.fst_machine.specs.Relation.{IsSuccessful, Rel}
 use Rattle.fst_machine.specs.Matching.{IsMatchingPair}
 use Rattle.fst_trim.specs.KeptPaths.{IsRenumbered}

@@ -1,10 +1,16 @@
 //! The names of the states of a composition, and their arcs.
 
 ghost use Rattle.std.specs.Prelude.{◌≡◌};
-ghost use Rattle.fst_compose.specs.Names.{name_at};
+ghost use Rattle.fst_compose.specs.Names.{name_at, name_number};
 
-use fst_walk::{NameArc, NameTable};
+use fst_walk::{Code, Coded, NameArc, NameTable};
 use std::marker::Model;
+
+/// For how many states of a machine there is room in the number of a name.
+const ROOM: u32 = 2_147_483_648;
+
+/// For how many states of both machines.
+const FILTERS: u64 = 4_611_686_018_427_387_904;
 
 /// The name of a state of a composition: a state of the first machine, one of the second, and the state of the
 /// filter, which is 1 where an arc of the second machine alone led here, and else 0. (Mohri 2009, section 4.1.)
@@ -27,6 +33,28 @@ impl Model for ComposeKey {
     ghost view = { λ k. record { first = k.first; second = k.second; filter = k.filter } };
 
     ghost inverse = { λ k. record { first = k.first; second = k.second; filter = k.filter } };
+}
+
+/// A name is found by its parts side by side in one number, where they have room. They have in each composition, since a
+/// machine has at most 4,194,304 states.
+impl Coded for ComposeKey {
+    ghost code = { name_number };
+
+    fn code(&self) -> Code {
+        if self.first < ROOM && self.second < ROOM && self.filter < 2 {
+            let first = u64::from(self.first);
+            let second = u64::from(self.second) * u64::from(ROOM);
+            let filter = u64::from(self.filter) * FILTERS;
+            return Code {
+                number: 1 + first + second + filter,
+                is_alone: true,
+            };
+        }
+        Code {
+            number: 0,
+            is_alone: false,
+        }
+    }
 }
 
 /// The name with these parts.

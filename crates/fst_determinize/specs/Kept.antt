@@ -1,5 +1,5 @@
 -- How members and ways are kept, and what stands for them as plain values.
-use Rattle.std.specs.Prelude.{◌≡◌, ◌≢◌, ◌<◌, ◌≤◌, ℕ, Bool, List, [], ◌∷◌, ◌+◌, ◌*◌, ◌++◌, ◌&&◌, map, nat_eq}
+use Rattle.std.specs.Prelude.{◌≡◌, ◌≢◌, ◌<◌, ◌≤◌, ℕ, Bool, List, [], ◌∷◌, ◌+◌, ◌*◌, ◌%◌, ◌^◌, ◌++◌, ◌&&◌, fold, map, nat_eq, unsigned_abs}
 use Rattle.std.specs.Cmp.Lexicographic.{pointwise}
 use Rattle.std.specs.Hash as fed
 use Rattle.std.specs.Ordering.{is_eq}
@@ -84,3 +84,13 @@ pub record AreDivided {V : Type 0} (value : V → Cost) (by : Cost) (ys : List (
   pub ranked : RisesBy (λ y. y.state) ys
   pub wide : (y : WayAs V) → Has ys y → IsWide (value y.weight)
   pub no_better : (y : WayAs V) → Has ys y → plus by (value y.weight) ≡ by
+
+-- a number with a member more; nothing hangs on which one it is
+unfoldable pub number_more : ℕ → Member → ℕ
+number_more n m =
+    let once = (n * 11400714819323198485 % 2 ^ 64 + m.state) % 2 ^ 64 in
+    (once * 15485907386658061715 % 2 ^ 64 + unsigned_abs (first_of m.residual) % 2 ^ 64) % 2 ^ 64
+
+-- the number by which a subset is found
+abbrev pub subset_number : List Member → ℕ
+subset_number members = fold number_more 0 members

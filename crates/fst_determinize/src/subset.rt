@@ -1,12 +1,13 @@
 //! Weighted subsets as keys of a table.
 
-ghost use Rattle.std.specs.Prelude.{◌≡◌, ◌<◌, [], ◌∷◌, ◌++◌, IfOk, Some, length, slice_get};
+ghost use Rattle.std.specs.Prelude.{◌≡◌, ◌<◌, [], ◌∷◌, ◌++◌, IfOk, Some, fold, length, slice_get};
 ghost use Rattle.std.specs.Cmp.{on_equiv, on_per, partial_equiv_from_equiv};
 ghost use Rattle.std.proofs.Common.{ap};
-ghost use Rattle.fst_determinize.specs.Kept.{member_as, member_input, members_as, same_member, same_members, subset_input};
+ghost use Rattle.fst_determinize.specs.Kept.{member_as, member_input, members_as, number_more, same_member, same_members, subset_input, subset_number};
 ghost use Rattle.fst_determinize.specs.KeyLaws.{member_decides, member_laws, same_decides, subset_laws};
 
 use crate::residual::Kept;
+use fst_walk::{Code, Coded};
 use std::alloc::{AllocError, Global};
 use std::hash::{Hash, Hasher};
 use std::marker::Model;
@@ -95,6 +96,50 @@ impl<R: Kept> Hash for SubsetOf<R> {
     fn hash<H: Hasher>(&self, state: &mut H) {
         self.first.hash(state);
         self.rest.as_slice().hash(state);
+    }
+}
+
+/// Odd numbers whose bits look random.
+const FIRST_FACTOR: u64 = 0x9E3779B97F4A7C15;
+
+const SECOND_FACTOR: u64 = 0xD6E8FEB86659FD93;
+
+/// One more than the greatest number of 64 bits.
+const HALF: u128 = 18_446_744_073_709_551_616;
+
+/// A number with a member more.
+#[tactic(auto, unfolding(crate::specs::Kept::number_more))]
+fn number_more<R: Kept>(number: u64, member: Held<R>) -> u64
+    ensures { result ≡ number_more number (member_as R.value member) }
+{
+    let once = number
+        .wrapping_mul(FIRST_FACTOR)
+        .wrapping_add(u64::from(member.state));
+    let residual = (member.residual.key().first.unsigned_abs() % HALF) as u64;
+    once.wrapping_mul(SECOND_FACTOR).wrapping_add(residual)
+}
+
+/// A number with these members more.
+fn numbered<R: Kept>(number: u64, members: &[Held<R>]) -> u64
+    ensures { result ≡ fold number_more number (members_as R.value members.now) }
+{
+    let mut so_far = number;
+    for member in members {
+        so_far = number_more(so_far, *member);
+    }
+    so_far
+}
+
+/// A subset is found by a number of its members, which others may have.
+impl<R: Kept> Coded for SubsetOf<R> {
+    ghost code = { subset_number };
+
+    fn code(&self) -> Code {
+        let first = number_more(0, self.first);
+        Code {
+            number: numbered(first, self.rest.as_slice()),
+            is_alone: false,
+        }
     }
 }
 

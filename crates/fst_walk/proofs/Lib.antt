@@ -1,4 +1,5 @@
 pub mod Keys
+pub mod Tables
 pub mod Putting
 pub mod Following
 pub mod Ending

@@ -1,4 +1,5 @@
 pub mod Names
+pub mod Tables
 pub mod Making
 pub mod Answers
 pub mod WalkLaws

@@ -7,9 +7,9 @@ ghost use Rattle.fst_machine.specs.Graph.{Graph};
 ghost use Rattle.fst_machine.specs.Machine.{Arc};
 ghost use Rattle.fst_walk.specs.Names.{IsGoodArc, IsNear, key_arc};
 
+use crate::coded::Coded;
 use fst_semiring::Weight;
 use std::alloc::{AllocError, Global};
-use std::hash::Hash;
 use std::marker::Model;
 
 /// An arc to a name. Its weight is in the wide form.
@@ -38,7 +38,7 @@ impl<K: Drop, W: Weight> Model for NameArc<K, W> {
 /// A graph of names, whose arcs are made when they are asked for.
 pub trait Names<W: Weight> {
     /// A name.
-    type Key: Eq + Hash + Drop;
+    type Key: Coded;
 
     /// Why the arcs of a name are not made: at least that memory has run out. A walk that meets such a fault gives it.
     type Fault: From<AllocError>;

@@ -8,12 +8,12 @@ ghost use Rattle.fst_machine.specs.Machine.{valued_arc};
 ghost use Rattle.fst_walk.specs.Making.{Passes, PutsArcs};
 ghost use Rattle.fst_walk.specs.Names.{key_arc};
 
+use crate::coded::Coded;
 use crate::names::NameArc;
 use crate::table::NameTable;
 use fst_machine::{FstArc, WideArc};
 use fst_semiring::Weight;
 use std::alloc::AllocError;
-use std::hash::Hash;
 
 /// Puts an arc after the others, if those before it were in range and its weight is; and gives whether this is so.
 fn put_arc<W: Weight>(
@@ -41,7 +41,7 @@ fn put_arc<W: Weight>(
 
 /// Finds the names to which these arcs lead, and fills a list with the arcs, numbered, as far as their weights are in
 /// range. Gives whether all are; `None` where there are more names than the limit. The names move into the table.
-pub(crate) fn number_arcs<K: Eq + Hash + Drop, W: Weight>(
+pub(crate) fn number_arcs<K: Coded, W: Weight>(
     out: &mut Vec<FstArc<W>>,
     names: &mut NameTable<K>,
     made: &mut Vec<NameArc<K, W>>,

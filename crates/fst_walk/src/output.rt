@@ -4,12 +4,12 @@ ghost use Rattle.std.specs.Prelude.{◌≡◌, ◌≤◌, ◌+◌, ℕ, true, No
 ghost use Rattle.fst_machine.specs.Machine.{arc_total, most_arcs, valued_arc, valued_state};
 ghost use Rattle.fst_walk.specs.Making.{IsCounted, PutsState};
 
+use crate::coded::Coded;
 use crate::names::NameArc;
 use crate::table::NameTable;
 use fst_machine::{FstArc, MOST_ARCS, StateList};
 use fst_semiring::Weight;
 use std::alloc::AllocError;
-use std::hash::Hash;
 
 /// The count with so many more; one above the greatest number of arcs stands for all above it.
 pub(crate) fn counted(total: u32, more: usize) -> u32
@@ -27,7 +27,7 @@ pub(crate) fn counted(total: u32, more: usize) -> u32
 
 /// What a walk has made so far.
 #[derive(Drop)]
-pub(crate) struct Output<K: Eq + Hash + Drop, W: Weight> {
+pub(crate) struct Output<K: Coded, W: Weight> {
     /// The names that were found.
     pub(crate) names: NameTable<K>,
     /// The states of those whose arcs were followed, up to the first that does not fit.
@@ -43,7 +43,7 @@ pub(crate) struct Output<K: Eq + Hash + Drop, W: Weight> {
 }
 
 /// Puts the state of a name after the others, if all states so far fit.
-pub(crate) fn put_state<K: Eq + Hash + Drop, W: Weight>(
+pub(crate) fn put_state<K: Coded, W: Weight>(
     output: &mut Output<K, W>,
     place: u32,
     fits: bool,

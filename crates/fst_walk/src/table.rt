@@ -1,47 +1,94 @@
 //! The names that were found.
 
-ghost use Rattle.std.specs.Prelude.{◌≡◌, ◌⊎◌, ◌<◌, ◌≤◌, ◌+◌, ◌∷◌, [], IfOk, MatchOption, Some, length, slice_get};
+ghost use Rattle.std.specs.Prelude.{◌≡◌, ◌<◌, ◌≤◌, ◌∷◌, [], ℕ, IfOk, IfErr, IfSome, MatchOption, None, OnErr, Some, length, slice_get};
 ghost use Rattle.std.specs.Bool.{Decides};
-ghost use Rattle.fst_machine.specs.BreadthFirst.{Grows};
+ghost use Rattle.fst_table.specs.Slots.{placed_in};
 ghost use Rattle.fst_walk.specs.Making.{IsFound, Passes};
+ghost use Rattle.fst_walk.specs.Tables.{IsAsBefore, IsLater, IsPut, Leads};
 
-use indexmap::IndexSet;
+use crate::coded::Coded;
+use fst_table::FlatTable;
 use std::alloc::{AllocError, Global};
-use std::hash::Hash;
 use std::marker::Model;
 
-/// Puts a name after the others, where it is new, and gives its place.
-fn put_key<K: Eq + Hash + Drop>(keys: &mut IndexSet<K>, key: K) -> Result<usize, AllocError>
-    requires { (a b : K) → Decides (K.PartialEq.eq a b) (a ≡ b) }
-    ensures grown { IfOk result (λ place. Grows keys.old.keys (key ∷ []) keys.new.keys) }
-    ensures there { IfOk result (λ place. slice_get keys.new.keys place ≡ Some key) }
-    ensures last { IfOk result (λ place. (keys.new.keys ≡ keys.old.keys) ⊎ (length keys.new.keys ≡ place + 1)) }
+/// The place of a name among those with its number, of which the first stands in this place; or the place of the last
+/// of these, where it is not one of them.
+fn search<K: Coded>(names: &[K], laters: &FlatTable, key: &K, first: u32) -> Result<u32, u32>
+    requires same { (a b : K) → Decides (K.PartialEq.eq a b) (a ≡ b) }
+    requires first { first < length names.now }
+    requires later { (p q : ℕ) → placed_in laters.now.slots.items p ≡ Some q → IsLater (length names.now) p q }
+    ensures there { IfOk result (λ place. slice_get names.now place ≡ Some key.now) }
+    ensures apart { IfErr result (λ last. (i : ℕ) → slice_get names.now i ≡ Some key.now → Leads (placed_in laters.now.slots.items) first i → ⊥) }
+    ensures leads { IfErr result (λ last. Leads (placed_in laters.now.slots.items) first last) }
+    ensures last { IfErr result (λ last. placed_in laters.now.slots.items last ≡ None) }
 {
-    let (place, _) = keys.insert_full(key)?;
-    Ok(place)
+    let mut at = first;
+    while names[at as usize] != *key {
+        let Some(next) = laters.find(u64::from(at)) else {
+            return Err(at);
+        };
+        at = next;
+    }
+    Ok(at)
 }
 
-/// Names, each once, in the order in which they were found. A name is looked up by its hash.
+/// Puts a name after the others, and its place into a table for this number; `None` where there are as many names as
+/// the limit.
+fn put<K: Coded>(
+    names: &mut Vec<K>,
+    places: &mut FlatTable,
+    key: K,
+    number: u64,
+    limit: u32,
+) -> Result<Option<u32>, AllocError>
+    requires absent { placed_in places.old.slots.items number ≡ None }
+    ensures put { IfOk result (λ found. IfSome found (λ place. IsPut names.old.items names.new.items key number place (placed_in places.old.slots.items) (placed_in places.new.slots.items))) }
+    ensures full { IfOk result (λ found. found ≡ None → limit ≤ length names.old.items) }
+    ensures few { IfOk result (λ found. IfSome found (λ place. place < limit)) }
+    ensures none { IfOk result (λ found. found ≡ None → IsAsBefore names.old.items names.new.items (placed_in places.old.slots.items) (placed_in places.new.slots.items)) }
+    ensures err { OnErr result (IsAsBefore names.old.items names.new.items (placed_in places.old.slots.items) (placed_in places.new.slots.items)) }
+{
+    let place = names.len();
+    if place >= limit as usize {
+        return Ok(None);
+    }
+    names.reserve(1)?;
+    places.add(number, place as u32)?;
+    names.push_reserved(key);
+    Ok(Some(place as u32))
+}
+
+/// Names, each once, in the order in which they were found. A name is looked up by its number.
 #[derive(Drop)]
-pub struct NameTable<K: Eq + Hash + Drop> {
-    keys: IndexSet<K>,
+pub struct NameTable<K: Coded> {
+    names: Vec<K>,
+    /// For each number the place of the first name that has it.
+    firsts: FlatTable,
+    /// For the place of a name the place of the next one with its number.
+    laters: FlatTable,
 }
 
-impl<K: Eq + Hash + Drop> Model for NameTable<K> {
+impl<K: Coded> Model for NameTable<K> {
     ghost use Rattle.std.specs.Prelude.{List};
+    ghost use Rattle.fst_table.specs.Slots.{placed_in};
+    ghost use Rattle.fst_walk.specs.Tables.{AreLinked};
 
     ghost Value = { List K };
 
-    ghost view = { λ t. t.keys.keys };
+    ghost view = { λ t. t.names.items };
+
+    ghost invariant = { λ t. AreLinked K.code t.names.items (placed_in t.firsts.slots.items) (placed_in t.laters.slots.items) };
 }
 
-impl<K: Eq + Hash + Drop> NameTable<K> {
+impl<K: Coded> NameTable<K> {
     /// No names. Takes no memory.
     pub fn new(alloc: Global) -> NameTable<K>
         ensures { result ≡ [] }
     {
         NameTable {
-            keys: IndexSet::new(alloc),
+            names: Vec::new(alloc),
+            firsts: FlatTable::new(alloc),
+            laters: FlatTable::new(alloc),
         }
     }
 
@@ -52,18 +99,29 @@ impl<K: Eq + Hash + Drop> NameTable<K> {
         requires few { length self.old ≤ limit }
         ensures { IfOk result (λ found. MatchOption found (Passes limit self.old (key ∷ [])) (IsFound limit self.old key self.new)) }
     {
-        let place = put_key(&mut self.keys, key)?;
-        if place >= limit as usize {
-            return Ok(None);
+        let code = key.code();
+        let Some(first) = self.firsts.find(code.number) else {
+            let place = put(&mut self.names, &mut self.firsts, key, code.number, limit)?;
+            return Ok(place);
+        };
+        if code.is_alone {
+            return Ok(Some(first));
         }
-        Ok(Some(place as u32))
+        match search(self.names.as_slice(), &self.laters, &key, first) {
+            Ok(place) => Ok(Some(place)),
+            Err(last) => {
+                let number = u64::from(last);
+                let place = put(&mut self.names, &mut self.laters, key, number, limit)?;
+                Ok(place)
+            }
+        }
     }
 
     /// The number of names. Takes no memory.
     pub fn len(&self) -> usize
         ensures { result ≡ length self.now }
     {
-        self.keys.len()
+        self.names.len()
     }
 
     /// The name in a place, from 0. Takes no memory.
@@ -71,6 +129,6 @@ impl<K: Eq + Hash + Drop> NameTable<K> {
         requires { index < length self.now }
         ensures { slice_get self.now index ≡ Some result.now }
     {
-        &self.keys[index]
+        &self.names[index]
     }
 }

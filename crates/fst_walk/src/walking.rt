@@ -7,6 +7,7 @@ ghost use Rattle.fst_machine.specs.Machine.{most_arcs, most_states, valued, valu
 ghost use Rattle.fst_walk.specs.Answers.{IsExactly, IsFine, IsNamed, ReachesMore, Stops};
 ghost use Rattle.fst_walk.specs.Making.{IsDone, IsMaking};
 
+use crate::coded::Coded;
 use crate::fault::WalkFault;
 use crate::names::Names;
 use crate::numbering::number_arcs;
@@ -15,11 +16,10 @@ use crate::table::NameTable;
 use fst_machine::{Fst, MOST_ARCS, StateList};
 use fst_semiring::Weight;
 use std::alloc::{AllocError, Global};
-use std::hash::Hash;
 
 /// What a walk makes: a machine, and the names of its states in the order of their numbers.
 #[derive(Drop)]
-pub struct Walked<K: Eq + Hash + Drop, W: Weight> {
+pub struct Walked<K: Coded, W: Weight> {
     /// The machine.
     pub fst: Fst<W>,
     /// The names of its states.
@@ -91,7 +91,7 @@ fn follow_all<W: Weight, N: Names<W>>(
 }
 
 /// What there is at the start: its name, and nothing of its arcs.
-fn begin<K: Eq + Hash + Drop, W: Weight>(
+fn begin<K: Coded, W: Weight>(
     alloc: Global,
     start: K,
     room: Room,
