@@ -27,3 +27,4 @@ mod OneOutcome
 mod Exactly
 mod Determinized
 mod Measured
+mod Meters
