@@ -1,5 +1,5 @@
 -- How far the numbers of pushed weights go.
-use Rattle.std.proofs.Common.{◌≡◌, ℕ, ◌+◌, ◌≤◌, sym, ap, ◌∙◌, subst, arith}
+use Rattle.std.proofs.Common.{◌≡◌, ◌+◌, sym, subst, arith}
 use Rattle.fst_semiring.specs.Cost.{Cost}
 use Rattle.fst_semiring.specs.declared.arc_type.ArcType.{ArcType}
 use Rattle.fst_semiring.specs.Semiring.{times, InRange, IsWide, Within}
@@ -31,3 +31,7 @@ final_within kind w own v same one two =
 
 pub weight_wide : (w v : Cost) → v ≡ w → InRange w → IsWide v
 weight_wide w v same h = subst IsWide (sym same) (Within-more 1000000000000000000 1329227995784915872903807060280344575 w (omega arith) h)
+
+-- a pushed weight can be computed with
+pub pushed_wide : (v : Cost) → Within most_pushed v → IsWide v
+pushed_wide v h = Within-more most_pushed 1329227995784915872903807060280344575 v (omega arith) h

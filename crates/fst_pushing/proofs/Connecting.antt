@@ -1,17 +1,17 @@
 -- What the connected machine has from the machine: all its states are useful, distances to the final states are the
 -- same, and arcs are of the arc type.
-use Rattle.std.proofs.Common.{◌≡◌, ◌≢◌, ◌⊎◌, inl, inr, ℕ, ◌<◌, ◌≤◌, List, [], ◌∷◌, ◌++◌, Option, None, Some, length, get_or, slice_get, sym, refl, ap, ap₂, ◌∙◌, subst, arith}
+use Rattle.std.proofs.Common.{◌≡◌, ◌⊎◌, inl, inr, ℕ, ◌<◌, ◌≤◌, List, [], ◌∷◌, ◌++◌, Option, None, Some, length, get_or, slice_get, sym, refl, ap, ap₂, ◌∙◌, subst, arith}
 use Rattle.std.specs.Prelude.{IfSome}
-use Rattle.std.proofs.lemmas.Bool.{cases_eq, cases_lt}
+use Rattle.std.proofs.lemmas.Bool.{cases_lt}
 use Rattle.std.proofs.lemmas.List.{get_or_past}
-use Rattle.std.proofs.lemmas.Option.{slice_get-get_or, slice_get_within, same_Some}
+use Rattle.std.proofs.lemmas.Option.{slice_get-get_or, slice_get_within}
 use Rattle.fst_semiring.specs.Cost.{Cost, infinite}
 use Rattle.fst_semiring.specs.declared.arc_type.ArcType.{ArcType}
-use Rattle.fst_semiring.specs.Semiring.{times, IsCost}
+use Rattle.fst_semiring.specs.Semiring.{times}
 use Rattle.fst_machine.specs.Machine.{Arc, State, Machine}
 use Rattle.fst_machine.specs.Graph.{Graph, graph_of, no_state}
 use Rattle.fst_machine.specs.Letters.{Letter, letter_of, product}
-use Rattle.fst_machine.specs.Paths.{Transition, IsPath, letters}
+use Rattle.fst_machine.specs.Paths.{Transition, IsPath}
 use Rattle.fst_machine.specs.Cycles.{IsAccessible, IsCoaccessible, IsUseful}
 use Rattle.fst_machine.specs.Distance.{Finishes, IsFinalDistance}
 use Rattle.fst_machine.specs.Serving.{Serves}

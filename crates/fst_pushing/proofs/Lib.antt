@@ -3,8 +3,16 @@ pub mod PushedPaths
 pub mod Normal
 pub mod Rank
 pub mod Connecting
-pub mod Pushed
+pub mod PushedMachine
 pub mod Bounds
 pub mod Lists
 pub mod View
 pub mod Picked
+pub mod States
+pub mod TotalPut
+pub mod PutsOn
+pub mod OneAnswer
+pub mod PushingPaths
+pub mod Filling
+pub mod Entering
+pub mod WithTotal

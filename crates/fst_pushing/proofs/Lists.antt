@@ -2,6 +2,7 @@
 use Rattle.std.proofs.Common.{◌≡◌, ◌⊎◌, inl, inr, ℕ, ◌+◌, ◌<◌, zero, suc, List, [], ◌∷◌, ◌++◌, Some, length, map, get_or, slice_get, take, sym, refl, ap, ap₂, ◌∙◌, subst, arith}
 use Rattle.std.proofs.lemmas.List.{map-append, take_more}
 use Rattle.std.proofs.lemmas.Option.{slice_get-get_or, same_Some}
+use Rattle.fst_machine.specs.Machine.{changed}
 use Rattle.fst_machine.proofs.Arcs.{append_at, at_append_right}
 use Rattle.fst_semiring.specs.Cost.{Cost}
 use Rattle.fst_pushing.specs.Values.{value_in, value_or_zero}
@@ -31,3 +32,50 @@ push_at {X} xs x y k e = by (append_at xs (x ∷ []) k y e)
 -- the last place
 pub push_last : {X : Type 0} (xs : List X) (x : X) → slice_get (xs ++ x ∷ []) (length xs) ≡ Some x
 push_last xs x = let none : length xs + 0 ≡ length xs = omega arith in subst (λ (k : ℕ). slice_get (xs ++ x ∷ []) k ≡ Some x) none (at_append_right xs (x ∷ []) 0 x refl)
+
+-- ---- one element changed
+
+pub length_changed : {X : Type 0} (f : X → X) (xs : List X) (i : ℕ) → length (changed f xs i) ≡ length xs
+length_changed f [] i = refl
+length_changed f (x ∷ xs) zero = refl
+length_changed f (x ∷ xs) (suc i) = ap suc (length_changed f xs i)
+
+pub changed_here : {X : Type 0} (f : X → X) (xs : List X) (i : ℕ) (d : X) → i < length xs → get_or (changed f xs i) i d ≡ f (get_or xs i d)
+changed_here f [] i d low = absurd (omega (arith, low))
+changed_here f (x ∷ xs) zero d low = refl
+changed_here f (x ∷ xs) (suc i) d low = changed_here f xs i d (omega (arith, low))
+
+pub changed_other : {X : Type 0} (f : X → X) (xs : List X) (i j : ℕ) (d : X) → (i ≡ j → ⊥) → get_or (changed f xs i) j d ≡ get_or xs j d
+changed_other f [] i j d apart = refl
+changed_other f (x ∷ xs) zero zero d apart = absurd (apart refl)
+changed_other f (x ∷ xs) zero (suc j) d apart = refl
+changed_other f (x ∷ xs) (suc i) zero d apart = refl
+changed_other f (x ∷ xs) (suc i) (suc j) d apart = changed_other f xs i j d (λ e. apart (ap suc e))
+
+-- a change seen by values
+pub changed_map : {X Y : Type 0} (v : X → Y) (f : X → X) (g : Y → Y) (xs : List X) (i : ℕ) → ((x : X) → v (f x) ≡ g (v x)) → map v (changed f xs i) ≡ changed g (map v xs) i
+changed_map v f g [] i same = refl
+changed_map v f g (x ∷ xs) zero same = ap (λ y. y ∷ map v xs) (same x)
+changed_map v f g (x ∷ xs) (suc i) same = ap (λ ys. v x ∷ ys) (changed_map v f g xs i same)
+
+-- two changes in one place
+pub changed_twice : {X : Type 0} (f g h : X → X) (xs : List X) (i : ℕ) → ((x : X) → f (g x) ≡ h x) → changed f (changed g xs i) i ≡ changed h xs i
+changed_twice f g h [] i same = refl
+changed_twice f g h (x ∷ xs) zero same = ap (λ y. y ∷ xs) (same x)
+changed_twice f g h (x ∷ xs) (suc i) same = ap (λ ys. x ∷ ys) (changed_twice f g h xs i same)
+
+-- no change
+pub changed_same : {X : Type 0} (f : X → X) (xs : List X) (i : ℕ) → ((x : X) → f x ≡ x) → changed f xs i ≡ xs
+changed_same f [] i same = refl
+changed_same f (x ∷ xs) zero same = ap (λ y. y ∷ xs) (same x)
+changed_same f (x ∷ xs) (suc i) same = ap (λ ys. x ∷ ys) (changed_same f xs i same)
+
+-- a change behind a front
+pub changed_behind : {X : Type 0} (f : X → X) (xs : List X) (y : X) (ys : List X) → changed f (xs ++ y ∷ ys) (length xs) ≡ xs ++ f y ∷ ys
+changed_behind f [] y ys = refl
+changed_behind f (x ∷ xs) y ys = ap (λ zs. x ∷ zs) (changed_behind f xs y ys)
+
+-- two maps, one after the other
+pub map_fuse : {X Y Z : Type 0} (f : X → Y) (g : Y → Z) (xs : List X) → map (λ x. g (f x)) xs ≡ map g (map f xs)
+map_fuse f g [] = refl
+map_fuse f g (x ∷ xs) = ap (λ ys. g (f x) ∷ ys) (map_fuse f g xs)

@@ -1,5 +1,5 @@
 -- Under pushed weights the distance from each name to the final names is One.
-use Rattle.std.proofs.Common.{◌≡◌, ◌≢◌, ◌⊎◌, inl, inr, ℕ, ◌<◌, ◌≤◌, zero, suc, Bool, true, false, List, [], ◌∷◌, Some, slice_get, Ordering, Less, Equal, Greater, sym, refl, ap, ap₂, ◌∙◌, subst, arith}
+use Rattle.std.proofs.Common.{◌≡◌, ◌≢◌, ◌⊎◌, inl, inr, ℕ, ◌<◌, zero, suc, Bool, true, false, List, [], ◌∷◌, Some, slice_get, Ordering, Less, Equal, Greater, sym, refl, ap, ◌∙◌, subst, arith}
 use Rattle.fst_semiring.specs.Cost.{Cost, infinite, cost_cmp, plus, ranked}
 use Rattle.fst_semiring.specs.declared.arc_type.ArcType.{ArcType}
 use Rattle.fst_semiring.specs.Semiring.{cancels, one_of, times, IsCost}
@@ -15,7 +15,7 @@ use Rattle.fst_machine.specs.Paths.{Transition, IsPath, letters}
 use Rattle.fst_machine.specs.Distance.{Finishes, IsFinalDistance}
 use Rattle.fst_pushing.specs.Pushing.{pushed_arc, Pushes}
 use Rattle.fst_pushing.specs.PushLaws.{IsPotential, IsRank}
-use Rattle.fst_pushing.proofs.PushedPaths.{pushed_path, arc_there, arc_back, path_there, finish_undone, final_there, final_back}
+use Rattle.fst_pushing.proofs.PushedPaths.{pushed_path, arc_there, arc_back, path_there, finish_undone, final_there}
 
 -- a value that is no worse than another is better or the same
 pub same_or_better : (a b : Cost) → plus a b ≡ a → (b ≡ a) ⊎ (cost_cmp a b ≡ Less)

@@ -1,29 +1,26 @@
 -- The distances of the useful states of a machine are those of the states of the connected one.
-use Rattle.std.proofs.Common.{◌≡◌, ◌≢◌, ◌⊎◌, inl, inr, ℕ, ◌+◌, ◌*◌, ◌<◌, ◌≤◌, List, [], ◌∷◌, ◌++◌, Option, None, Some, length, map, get_or, slice_get, sym, refl, ap, ◌∙◌, subst, arith}
+use Rattle.std.proofs.Common.{◌≡◌, ◌≢◌, ◌⊎◌, inl, inr, ℕ, ◌*◌, ◌<◌, ◌≤◌, List, [], ◌∷◌, ◌++◌, Option, None, Some, length, get_or, slice_get, sym, ap, ◌∙◌, subst, arith}
 use Rattle.std.specs.Prelude.{IfSome}
-use Rattle.std.specs.List.{All}
-use Rattle.std.proofs.lemmas.List.{length-append, length-map}
+use Rattle.std.proofs.lemmas.List.{length-append}
 use Rattle.fst_machine.proofs.Arcs.{at_append_left}
 use Rattle.fst_pushing.proofs.Lists.{push_at, push_last}
-use Rattle.std.proofs.lemmas.Option.{slice_get-get_or, slice_get_within}
 use Rattle.fst_semiring.specs.Cost.{Cost, infinite}
 use Rattle.fst_semiring.specs.declared.arc_type.ArcType.{ArcType}
 use Rattle.fst_semiring.specs.Semiring.{IsCost, Within}
 use Rattle.fst_semiring.proofs.Ranges.{Within-more}
-use Rattle.fst_machine.specs.Machine.{Arc, State, Machine, IsArc, IsMachine, most_states, valued, valued_state}
+use Rattle.fst_machine.specs.Machine.{Machine, IsArc, IsMachine, most_states}
 use Rattle.fst_machine.specs.Graph.{graph_of, no_state}
 use Rattle.fst_machine.specs.Connected.{IsConnected}
 use Rattle.fst_machine.specs.Distance.{IsFinalDistance}
 use Rattle.fst_machine.proofs.Cycles.{state_below}
 use Rattle.fst_machine.proofs.Narrowing.{all_at}
-use Rattle.fst_machine.proofs.Valued.{IsMachine-valued}
 use Rattle.fst_distance.specs.Distances.{IsUsefulDistance}
-use Rattle.fst_pushing.specs.Pushing.{Pushes, value_at, pushed_machine, IsPushed}
-use Rattle.fst_pushing.specs.PushLaws.{IsPotential, NoArcIsZero}
+use Rattle.fst_pushing.specs.Pushing.{value_at, pushed_machine, IsPushed}
+use Rattle.fst_pushing.specs.PushLaws.{NoArcIsZero}
 use Rattle.fst_pushing.specs.Values.{HasDistances, most_distance, value_in, value_or_zero, Picks}
 use Rattle.fst_pushing.proofs.Potential.{distances_potential}
 use Rattle.fst_pushing.proofs.Connecting.{connected_next, connected_start, connected_trim, connected_distance, connected_letters, kept_at, kept_useful}
-use Rattle.fst_pushing.proofs.Pushed.{pushed_length, pushes_machine}
+use Rattle.fst_pushing.proofs.PushedMachine.{pushed_length, pushes_machine}
 
 -- no arc of a machine weighs Zero
 pub machine_some : (m : Machine Cost) → IsMachine (λ v. v) m → NoArcIsZero m

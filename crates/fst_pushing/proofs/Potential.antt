@@ -1,14 +1,13 @@
 -- The distances to the final names are a potential.
-use Rattle.std.proofs.Common.{◌≡◌, ◌≢◌, ◌⊎◌, inl, inr, ℕ, List, [], ◌∷◌, Some, slice_get, sym, refl, ap, ap₂, ◌∙◌, subst}
+use Rattle.std.proofs.Common.{◌≡◌, ◌≢◌, ◌⊎◌, inl, inr, ℕ, List, [], ◌∷◌, Some, slice_get, sym, refl, ap, ◌∙◌}
 use Rattle.fst_semiring.specs.Cost.{Cost, infinite, plus}
 use Rattle.fst_semiring.specs.declared.arc_type.ArcType.{ArcType}
-use Rattle.fst_semiring.specs.Semiring.{one_of, times, IsCost}
+use Rattle.fst_semiring.specs.Semiring.{times, IsCost}
 use Rattle.fst_semiring.proofs.Laws.{times_assoc, one_times, times_only_zero, one_not_zero}
-use Rattle.fst_semiring.proofs.OfKind.{IsCost-one, IsCost-times}
 use Rattle.fst_semiring.proofs.Order.{plus_infinite}
 use Rattle.fst_machine.specs.Machine.{Arc}
 use Rattle.fst_machine.specs.Graph.{Graph}
-use Rattle.fst_machine.specs.Letters.{letter_of, product}
+use Rattle.fst_machine.specs.Letters.{product}
 use Rattle.fst_machine.specs.Paths.{Transition, IsPath, letters}
 use Rattle.fst_machine.specs.Cycles.{IsCoaccessible}
 use Rattle.fst_machine.specs.Distance.{Finishes, IsFinalDistance}

@@ -1,18 +1,15 @@
 -- Paths under pushed weights.
-use Rattle.std.proofs.Common.{◌≡◌, ◌≢◌, ◌⊎◌, inl, inr, ◌↔◌, ℕ, List, [], ◌∷◌, Some, map, slice_get, sym, refl, ap, ap₂, ◌∙◌, subst}
-use Rattle.fst_semiring.specs.Cost.{Cost, infinite, plus}
+use Rattle.std.proofs.Common.{◌≡◌, ◌⊎◌, inl, inr, ◌↔◌, ℕ, List, [], ◌∷◌, Some, map, slice_get, sym, refl, ap, ap₂, ◌∙◌, subst}
+use Rattle.fst_semiring.specs.Cost.{Cost, infinite}
 use Rattle.fst_semiring.specs.declared.arc_type.ArcType.{ArcType}
-use Rattle.fst_semiring.specs.Semiring.{one_of, times, IsCost}
-use Rattle.fst_semiring.specs.Division.{push_quotient}
+use Rattle.fst_semiring.specs.Semiring.{times}
 use Rattle.fst_semiring.proofs.Laws.{times_assoc, one_times, times_one, times_zero, times_only_zero}
-use Rattle.fst_semiring.proofs.OfKind.{IsCost-times, IsCost-push}
 use Rattle.fst_semiring.proofs.Dividing.{push_undone}
 use Rattle.fst_machine.specs.Machine.{Arc}
 use Rattle.fst_machine.specs.Graph.{Graph}
 use Rattle.fst_machine.specs.Letters.{before, input, output, product}
 use Rattle.fst_machine.specs.Paths.{Transition, IsPath, letters}
-use Rattle.fst_machine.specs.Relation.{RelFrom, Rel}
-use Rattle.fst_machine.specs.Cycles.{IsAccessible, IsCoaccessible}
+use Rattle.fst_machine.specs.Relation.{RelFrom}
 use Rattle.fst_machine.proofs.Arcs.{mapped_at, at_mapped}
 use Rattle.fst_pushing.specs.Pushing.{pushed_arc, Pushes}
 use Rattle.fst_pushing.specs.PushLaws.{IsPotential}

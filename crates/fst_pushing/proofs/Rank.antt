@@ -1,5 +1,5 @@
 -- The rank of a value among finitely many: how many of them are better.
-use Rattle.std.proofs.Common.{◌≡◌, ◌⊎◌, inl, inr, ℕ, ◌+◌, ◌<◌, ◌≤◌, zero, suc, Ordering, Less, Equal, Greater, sym, refl, ap, ◌∙◌, subst, arith}
+use Rattle.std.proofs.Common.{◌≡◌, ◌⊎◌, inl, inr, ℕ, ◌+◌, ◌<◌, ◌≤◌, zero, suc, Ordering, Less, Equal, Greater, sym, refl, ap, ◌∙◌, arith}
 use Rattle.std.proofs.lemmas.Bool.{cases_lt}
 use Rattle.fst_semiring.specs.Cost.{Cost, cost_cmp, plus}
 use Rattle.fst_semiring.proofs.Order.{cost_cmp_same, plus_less}

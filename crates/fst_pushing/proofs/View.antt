@@ -1,9 +1,8 @@
 -- The pushed machine as the program reads it.
-use Rattle.std.proofs.Common.{◌≡◌, ◌≢◌, ℕ, ◌+◌, ◌<◌, ◌≤◌, zero, suc, List, [], ◌∷◌, Option, None, Some, length, map, get_or, slice_get, sym, refl, ap, ap₂, ◌∙◌, subst, arith}
+use Rattle.std.proofs.Common.{◌≡◌, ◌≢◌, ℕ, ◌+◌, ◌<◌, List, [], ◌∷◌, Some, length, map, get_or, slice_get, sym, refl, ap, ap₂, ◌∙◌, subst, arith}
 use Rattle.std.specs.Prelude.{IfSome}
 use Rattle.std.specs.List.{All}
 use Rattle.std.specs.Option.{option_map}
-use Rattle.std.proofs.Math.ListN.{get_or-map}
 use Rattle.std.proofs.lemmas.List.{get_or_default, length-map}
 use Rattle.std.proofs.lemmas.List.Sums.{sum_by-cons}
 use Rattle.std.proofs.lemmas.Option.{slice_get-get_or, get_or_from_slice_get}
@@ -24,7 +23,7 @@ use Rattle.fst_pushing.specs.Pushing.{Pushes, pushed_by, pushed_arc, pushed_from
 use Rattle.fst_pushing.specs.Values.{HasDistances, most_distance, value_in, value_or_zero}
 use Rattle.fst_machine.proofs.Narrowing.{all_at}
 use Rattle.fst_pushing.proofs.Lists.{value_read}
-use Rattle.fst_pushing.proofs.Pushed.{pushed_length, pushed_at, pushes_machine}
+use Rattle.fst_pushing.proofs.PushedMachine.{pushed_length, pushed_at, pushes_machine}
 
 -- the state in a place of a machine, by its values
 pub valued_at : {V : Type 0} (value : V → Cost) (states : List (State V)) (p : ℕ) (s : State V) → slice_get states p ≡ Some s → get_or (map (valued_state value) states) p no_state ≡ valued_state value s

@@ -1,14 +1,17 @@
 -- The laws of pushed weights.
-use Rattle.std.specs.Prelude.{◌≡◌, ◌≢◌, ◌↔◌, ℕ, ◌<◌, ◌≤◌, List, Some, length, slice_get}
+use Rattle.std.specs.Prelude.{◌≡◌, ◌≢◌, ◌↔◌, ℕ, ◌<◌, ◌≤◌, List, Some, length, map, slice_get}
 use Rattle.std.specs.declared.cmp.Ordering.TheVariants.{Less}
 use Rattle.fst_semiring.specs.Cost.{Cost, infinite, cost_cmp, plus}
 use Rattle.fst_semiring.specs.declared.arc_type.ArcType.{ArcType}
 use Rattle.fst_semiring.specs.Semiring.{one_of, times, IsCost}
 use Rattle.fst_machine.specs.Machine.{Arc, Machine}
 use Rattle.fst_machine.specs.Graph.{Graph, graph_of}
-use Rattle.fst_machine.specs.Relation.{Rel}
+use Rattle.fst_machine.specs.Letters.{Letter}
+use Rattle.fst_machine.specs.Paths.{Transition, letters}
+use Rattle.fst_machine.specs.Relation.{IsSuccessful, Rel}
 use Rattle.fst_machine.specs.Connected.{IsTrim}
 use Rattle.fst_machine.specs.Distance.{IsFinalDistance}
+use Rattle.fst_trim.specs.KeptPaths.{IsRenumbered}
 
 -- No way on from a name betters its value, which is not Zero: by its final weight, or by an arc and the value of its end.
 pub record IsPotential {N : Type 0} (kind : ArcType) (d : N → Cost) (g : Graph N) (D : N → Type 0) : Type 0 where
@@ -33,3 +36,27 @@ pub record PushedLaws (kind : ArcType) (m r : Machine Cost) (total : Cost) : Typ
   pub trim : NoArcIsZero m → IsTrim r
   pub some : NoArcIsZero m → NoArcIsZero r
   pub relation : NoArcIsZero m → (x y : List ℕ) (w : Cost) → Rel kind (graph_of m) x y w ↔ ((v : Cost) × Rel kind (graph_of r) x y v × (w ≡ times kind total v))
+
+-- the two labels of each arc of a path
+abbrev pub labels : List (Transition ℕ) → List (ℕ × ℕ)
+labels path = map (λ (l : Letter). (l.ilabel, l.olabel)) (letters path)
+
+-- The second path goes through the states of the first by their new numbers and by their arcs in their new places, has
+-- their labels, and the factor Times its weight is that of the first.
+pub record IsPushedPath (kind : ArcType) (factor : Cost) (m : Machine Cost) (kept : List ℕ) (path other : List (Transition ℕ)) (w v : Cost) : Type 0 where
+  pub renumbered : IsRenumbered m kept path other
+  pub same_labels : labels other ≡ labels path
+  pub weight : w ≡ times kind factor v
+
+-- The factor Times the weight that a successful path has in r is its weight in m, of which r has the states that are
+-- kept: each successful path of the one is tied to one of the other, and to one only.
+pub record PushesPaths (kind : ArcType) (factor : Cost) (m r : Machine Cost) : Type 0 where
+  pub kept : List ℕ
+  pub there : (path : List (Transition ℕ)) (w : Cost) → IsSuccessful kind (graph_of m) path w
+      → (other : List (Transition ℕ)) × (v : Cost) × IsSuccessful kind (graph_of r) other v × IsPushedPath kind factor m kept path other w v
+  pub back : (other : List (Transition ℕ)) (v : Cost) → IsSuccessful kind (graph_of r) other v
+      → (path : List (Transition ℕ)) × (w : Cost) × IsSuccessful kind (graph_of m) path w × IsPushedPath kind factor m kept path other w v
+  pub once : (path one other : List (Transition ℕ)) (v w : Cost) → IsSuccessful kind (graph_of r) one v → IsSuccessful kind (graph_of r) other w
+      → IsRenumbered m kept path one → IsRenumbered m kept path other → one ≡ other
+  pub only : (one other path : List (Transition ℕ)) (u v w : Cost) → IsSuccessful kind (graph_of m) one u → IsSuccessful kind (graph_of m) other v
+      → IsSuccessful kind (graph_of r) path w → IsRenumbered m kept one path → IsRenumbered m kept other path → one ≡ other

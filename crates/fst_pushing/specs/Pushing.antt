@@ -1,8 +1,8 @@
 -- Weights pushed toward the start. (Mohri 2009, section 3.4, weight pushing: with d the distance to the final states,
 -- the weight w of an arc from p to q becomes w Times d(q) divided by d(p), and a final weight is divided by d(p). That
 -- equal values give One, also where factors do not cancel, is this project's own rule.)
-use Rattle.std.specs.Prelude.{◌≡◌, ◌≢◌, ℕ, ◌+◌, ◌<◌, List, [], ◌∷◌, Option, None, Some, length, map, slice_get}
-use Rattle.fst_semiring.specs.Cost.{Cost, infinite, plus}
+use Rattle.std.specs.Prelude.{◌≡◌, ℕ, ◌+◌, ◌<◌, List, [], ◌∷◌, Option, None, Some, length, map, slice_get}
+use Rattle.fst_semiring.specs.Cost.{Cost, infinite}
 use Rattle.fst_semiring.specs.declared.arc_type.ArcType.{ArcType}
 use Rattle.fst_semiring.specs.Semiring.{times, IsCost}
 use Rattle.fst_semiring.specs.Division.{push_quotient}

@@ -1,11 +1,10 @@
 -- Values of states as the program keeps them: a list by the numbers of the states.
-use Rattle.std.specs.Prelude.{◌≡◌, ◌≢◌, ℕ, ◌<◌, List, Option, None, Some, length, slice_get}
+use Rattle.std.specs.Prelude.{◌≡◌, ℕ, ◌<◌, Bool, true, false, List, Option, None, Some, length, slice_get}
 use Rattle.fst_semiring.specs.Cost.{Cost, infinite}
 use Rattle.fst_semiring.specs.declared.arc_type.ArcType.{ArcType}
-use Rattle.fst_semiring.specs.Semiring.{IsCost, Within}
-use Rattle.fst_machine.specs.Machine.{Machine}
+use Rattle.fst_semiring.specs.Semiring.{Within}
+use Rattle.fst_machine.specs.Machine.{Arc, Machine}
 use Rattle.fst_machine.specs.Graph.{graph_of}
-use Rattle.fst_machine.specs.Connected.{IsTrim}
 use Rattle.fst_machine.specs.Distance.{IsFinalDistance}
 use Rattle.fst_pushing.specs.PushLaws.{IsPotential}
 
@@ -37,3 +36,8 @@ pub record HasDistances (kind : ArcType) (c : Machine Cost) (d : ℕ → Cost) :
 pub record Picks {X : Type 0} (places : List ℕ) (all picked : List X) : Type 0 where
   pub size : length picked ≡ length places
   pub at : (i p : ℕ) → slice_get places i ≡ Some p → (x : X) × (slice_get picked i ≡ Some x) × (slice_get all p ≡ Some x)
+
+-- whether one of the arcs leads to the state
+abbrev pub LeadsTo : {V : Type 0} → List (Arc V ℕ) → ℕ → Bool → Type 0
+LeadsTo {V} arcs state true = (place : ℕ) × (arc : Arc V ℕ) × (slice_get arcs place ≡ Some arc) × (arc.next ≡ state)
+LeadsTo {V} arcs state false = (place : ℕ) (arc : Arc V ℕ) → slice_get arcs place ≡ Some arc → arc.next ≡ state → ⊥

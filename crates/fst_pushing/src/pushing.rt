@@ -1,6 +1,7 @@
 //! A machine with its weights pushed toward the start.
 
 ghost use Rattle.std.specs.Prelude.{◌≡◌, ◌≢◌, ◌<◌, ◌≤◌, ◌+◌, All, OnOk, Some, IfSome, length, map, slice_get};
+ghost use Rattle.std.specs.Bool.{Decides};
 ghost use Rattle.std.specs.Option.{option_map};
 ghost use Rattle.fst_semiring.specs.Cost.{infinite, plus};
 ghost use Rattle.fst_semiring.specs.Semiring.{IsCost, IsWide, Within, times};
@@ -8,7 +9,8 @@ ghost use Rattle.fst_semiring.specs.Division.{push_quotient};
 ghost use Rattle.fst_machine.specs.Graph.{graph_of};
 ghost use Rattle.fst_machine.specs.Machine.{IsMachine, arc_total, valued, valued_arc};
 ghost use Rattle.fst_pushing.specs.Pushing.{pushed_by, pushed_machine, value_at};
-ghost use Rattle.fst_pushing.specs.Values.{HasDistances, most_distance, most_pushed, value_in};
+ghost use Rattle.fst_pushing.specs.Totals.{IsEntered};
+ghost use Rattle.fst_pushing.specs.Values.{HasDistances, LeadsTo, most_distance, most_pushed, value_in};
 
 use fst_machine::{Fst, FstArc, WideArc};
 use fst_semiring::Weight;
@@ -74,6 +76,18 @@ fn put_pushed<W: Weight>(
     Ok(())
 }
 
+/// Whether one of these arcs leads to a state.
+fn leads_to<W: Weight>(arcs: &[FstArc<W>], state: u32) -> bool
+    ensures { LeadsTo arcs.now state result }
+{
+    for arc in arcs {
+        if arc.next == state {
+            return true;
+        }
+    }
+    false
+}
+
 /// A trim machine with its weights pushed by the distances of its states to the final states. The weights are computed
 /// where they are asked for, so that no second machine is kept.
 #[derive(Drop)]
@@ -126,6 +140,26 @@ impl<W: Weight> Pushing<W> {
         ensures { result ≡ arc_total self.now.states }
     {
         self.fst.arc_count()
+    }
+
+    /// The number of arcs of a state. Takes no memory.
+    pub(crate) fn arcs_of(&self, state: u32) -> usize
+        requires { state < length self.now.states }
+        ensures { result ≡ length ((graph_of self.now).arcs state) }
+    {
+        self.fst.arcs(state).len()
+    }
+
+    /// Whether an arc leads to a state. Takes no memory.
+    pub(crate) fn is_entered(&self, state: u32) -> bool
+        ensures { Decides result (IsEntered self.now state) }
+    {
+        for from in 0..self.fst.states() {
+            if leads_to(self.fst.arcs(from), state) {
+                return true;
+            }
+        }
+        false
     }
 
     /// The final weight of a state, pushed. Takes no memory.

@@ -1,13 +1,12 @@
-use Rattle.std.proofs.Common.{◌≡◌, ◌<◌, ◌≤◌, ℕ, List, Some, length, get_or, slice_get, refl, sym, ap, ◌∙◌, subst, arith}
+use Rattle.std.proofs.Common.{◌≡◌, ◌<◌, ◌≤◌, ℕ, List, Some, length, get_or, slice_get, sym, ap, ◌∙◌, subst, arith}
 use Rattle.std.specs.Prelude.{IfSome}
 use Rattle.std.proofs.lemmas.List.{length-map}
 use Rattle.std.proofs.lemmas.Option.{slice_get-get_or}
 use Rattle.fst_semiring.specs.Cost.{Cost}
 use Rattle.fst_semiring.specs.Semiring.{Within}
-use Rattle.fst_machine.specs.Machine.{Machine, IsMachine, valued, valued_state, most_states}
-use Rattle.fst_machine.specs.Connected.{IsConnected}
+use Rattle.fst_machine.specs.Machine.{Machine, valued, valued_state, most_states}
 use Rattle.fst_machine.proofs.Valued.{IsMachine-valued}
-use Rattle.fst_pushing.specs.Pushing.{IsPushed, pushed_machine, value_at}
+use Rattle.fst_pushing.specs.Pushing.{IsPushed, value_at}
 use Rattle.fst_pushing.specs.Values.{Picks, most_distance, value_in}
 use Rattle.fst_pushing.proofs.Connecting.{connected_start, kept_below}
 use Rattle.fst_pushing.proofs.Picked.{machine_some, picked_distances, picked_pushed, picked_range, value_at_within}

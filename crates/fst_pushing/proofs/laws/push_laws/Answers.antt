@@ -1,4 +1,4 @@
-use Rattle.fst_pushing.proofs.Pushed.{pushed_one, pushed_trim, pushed_some, pushed_relates}
+use Rattle.fst_pushing.proofs.PushedMachine.{pushed_one, pushed_trim, pushed_some, pushed_relates}
 use Rattle.fst_pushing.proofs.laws.push_laws.Goals as goal
 
 pub returns : goal.returns

@@ -1,5 +1,4 @@
 use Rattle.std.proofs.Common.{ap, ◌∙◌}
-use Rattle.fst_semiring.specs.Cost.{Cost}
 use Rattle.fst_semiring.specs.Semiring.{times}
 use Rattle.fst_semiring.specs.Division.{push_quotient}
 use Rattle.fst_pushing.proofs.Bounds.{product_wide, pushed_within}

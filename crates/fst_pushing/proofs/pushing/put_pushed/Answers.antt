@@ -1,7 +1,6 @@
-use Rattle.std.proofs.Common.{◌≡◌, ◌<◌, ℕ, ◌∷◌, ◌++◌, [], List, length, get_or, sym, ap, ◌∙◌, subst, arith}
+use Rattle.std.proofs.Common.{◌≡◌, ◌<◌, ℕ, length, get_or, sym, ap, ◌∙◌, subst}
 use Rattle.std.specs.List.{All}
 use Rattle.std.proofs.lemmas.List.Elements.{All-push}
-use Rattle.fst_semiring.specs.Cost.{Cost}
 use Rattle.fst_semiring.specs.Semiring.{times, IsCost, Within}
 use Rattle.fst_semiring.specs.Division.{push_quotient}
 use Rattle.fst_machine.specs.Machine.{Arc, valued_arc}
@@ -9,7 +8,6 @@ use Rattle.fst_machine.proofs.Changes.{read_as}
 use Rattle.fst_pushing.specs.Pushing.{pushed_by}
 use Rattle.fst_pushing.specs.Values.{most_pushed, value_in}
 use Rattle.fst_pushing.proofs.Lists.{map_step, value_read}
-use Rattle.fst_pushing.proofs.pushing.put_pushed.Given as given
 use Rattle.fst_pushing.proofs.pushing.put_pushed.Goals as goal
 
 pub loop-arc-preserved : goal.loop-arc-preserved

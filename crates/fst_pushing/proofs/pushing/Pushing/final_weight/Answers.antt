@@ -1,11 +1,10 @@
-use Rattle.std.proofs.Common.{◌≡◌, ◌<◌, ap, ap₂, sym, length, subst, ◌∙◌, arith}
+use Rattle.std.proofs.Common.{◌<◌, ap, sym, length, subst, ◌∙◌}
 use Rattle.fst_machine.specs.Machine.{Machine}
 use Rattle.fst_machine.specs.Graph.{graph_of}
-use Rattle.fst_semiring.specs.Cost.{Cost, plus}
+use Rattle.fst_semiring.specs.Cost.{Cost}
 use Rattle.fst_semiring.specs.Division.{push_quotient}
 use Rattle.fst_pushing.proofs.Bounds.{distance_wide, final_within}
-use Rattle.fst_pushing.proofs.View.{view_low, view_final, own_some, own_within, final_no_worse}
-use Rattle.fst_pushing.proofs.pushing.Pushing.final_weight.Given as given
+use Rattle.fst_pushing.proofs.View.{view_low, view_final, own_within}
 use Rattle.fst_pushing.proofs.pushing.Pushing.final_weight.Goals as goal
 
 pub final_weight-last-requires : goal.final_weight-last-requires

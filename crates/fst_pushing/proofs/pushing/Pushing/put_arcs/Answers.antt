@@ -1,14 +1,12 @@
-use Rattle.std.proofs.Common.{◌≡◌, ◌<◌, ap, ap₂, sym, length, map, subst, ◌∙◌, arith}
+use Rattle.std.proofs.Common.{◌≡◌, ◌<◌, ap, sym, length, map, subst, ◌∙◌, arith}
 use Rattle.fst_machine.specs.Machine.{Machine, valued_arc}
 use Rattle.fst_machine.specs.Graph.{graph_of}
 use Rattle.fst_semiring.specs.Cost.{Cost, plus}
-use Rattle.fst_semiring.specs.Division.{push_quotient}
 use Rattle.std.specs.List.{All}
 use Rattle.fst_semiring.specs.Semiring.{times, Within}
 use Rattle.fst_pushing.specs.Pushing.{pushed_by}
 use Rattle.fst_pushing.specs.Values.{most_distance, value_in}
 use Rattle.fst_pushing.proofs.View.{view_low, view_arcs, own_some, own_within, all_within, arcs_no_worse, arcs_near}
-use Rattle.fst_pushing.proofs.pushing.Pushing.put_arcs.Given as given
 use Rattle.fst_pushing.proofs.pushing.Pushing.put_arcs.Goals as goal
 
 pub index-own-requires : goal.index-own-requires

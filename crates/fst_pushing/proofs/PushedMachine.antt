@@ -1,31 +1,26 @@
 -- The pushed machine: what it has from the machine, and that each of its states has distance One.
-use Rattle.std.proofs.Common.{◌≡◌, ◌≢◌, ◌⊎◌, inl, inr, ◌↔◌, ℕ, ◌+◌, ◌<◌, ◌≤◌, zero, suc, List, [], ◌∷◌, Option, None, Some, length, map, get_or, slice_get, sym, refl, ap, ap₂, ◌∙◌, subst, arith}
+use Rattle.std.proofs.Common.{◌≡◌, ◌≢◌, ◌↔◌, ℕ, ◌+◌, ◌<◌, zero, suc, List, [], ◌∷◌, Some, length, map, get_or, slice_get, sym, refl, ap, ◌∙◌, subst, arith}
 use Rattle.std.specs.Prelude.{IfSome}
-use Rattle.std.proofs.lemmas.Bool.{cases_lt}
-use Rattle.std.proofs.lemmas.List.{get_or_past}
 use Rattle.fst_semiring.specs.Cost.{Cost, infinite}
 use Rattle.fst_semiring.specs.declared.arc_type.ArcType.{ArcType}
-use Rattle.fst_semiring.specs.Semiring.{one_of, times, IsCost}
+use Rattle.fst_semiring.specs.Semiring.{one_of, times}
 use Rattle.fst_semiring.specs.Division.{push_quotient}
 use Rattle.fst_semiring.proofs.Laws.{times_zero}
-use Rattle.fst_semiring.proofs.OfKind.{IsCost-times, IsCost-push}
 use Rattle.fst_machine.specs.Machine.{Arc, State, Machine}
-use Rattle.fst_machine.specs.Graph.{Graph, graph_of, no_state}
-use Rattle.fst_machine.specs.Letters.{Letter}
-use Rattle.fst_machine.specs.Paths.{Transition, IsPath}
-use Rattle.fst_machine.specs.Relation.{RelFrom, Rel}
+use Rattle.fst_machine.specs.Graph.{graph_of, no_state}
+use Rattle.fst_machine.specs.Relation.{Rel}
 use Rattle.fst_machine.specs.Cycles.{IsAccessible, IsCoaccessible}
-use Rattle.fst_machine.specs.Distance.{Finishes, IsFinalDistance}
+use Rattle.fst_machine.specs.Distance.{IsFinalDistance}
 use Rattle.fst_machine.specs.Connected.{IsTrim}
 use Rattle.fst_machine.proofs.Cycles.{state_below}
 use Rattle.fst_machine.proofs.Connected.{connected-Rel}
 use Rattle.fst_pushing.specs.Pushing.{pushed_arc, Pushes, value_at, pushed_from, pushed_machine, IsPushed}
 use Rattle.fst_pushing.specs.PushLaws.{IsPotential}
 use Rattle.fst_pushing.proofs.Potential.{attained, distances_potential, times_not_zero}
-use Rattle.fst_pushing.proofs.PushedPaths.{pushed_path, arc_there, arc_back, path_there, arc_undone, final_there, pushed_says}
+use Rattle.fst_pushing.proofs.PushedPaths.{pushed_path, arc_back, path_there, arc_undone, final_there, pushed_says}
 use Rattle.fst_pushing.proofs.Normal.{distance_one}
 use Rattle.fst_pushing.proofs.Rank.{better_count, number_rank}
-use Rattle.fst_pushing.proofs.Connecting.{connected_next, connected_start, connected_trim, connected_letters, connected_finals, connected_once}
+use Rattle.fst_pushing.proofs.Connecting.{connected_next, connected_start, connected_trim, connected_letters, connected_once}
 
 -- the state in a place, pushed
 pub pushed_length : (kind : ArcType) (d : ℕ → Cost) (k : ℕ) (states : List (State Cost)) → length (pushed_from kind d k states) ≡ length states
