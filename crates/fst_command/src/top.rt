@@ -36,6 +36,7 @@ fn is_ready(verb: Verb) -> bool
             | Verb::Compose
             | Verb::Determinize
             | Verb::Shortestdistance
+            | Verb::Shortestpath
     )
 }
 
