@@ -17,6 +17,7 @@ use Rattle.fst_command.specs.Commands.{meaning_by, meaning_for}
 use Rattle.fst_command.specs.Composing.{state_limit}
 use Rattle.fst_command.specs.Given.{Given, choices_by, given_of}
 use Rattle.fst_command.specs.Meaning.{Made, bytes_of}
+use Rattle.fst_command.specs.Listing.{path_count}
 use Rattle.fst_command.specs.Measuring.{direction_of}
 use Rattle.fst_command.specs.OneOutcome.{HasOneOutcome, One, OneOutcome}
 use Rattle.fst_command.specs.Outcome.{Agrees, AreNamed, IsCause, Makes, Output, Prescribes, Refuses}
@@ -25,6 +26,7 @@ use Rattle.fst_command.proofs.Deciding.{one_equal, one_for_one, one_for_two, one
 use Rattle.fst_command.proofs.DecidingCoding.{one_coding_makes, one_coding_stops}
 use Rattle.fst_command.proofs.DecidingComposing.{one_composed}
 use Rattle.fst_command.proofs.DecidingDeterminizing.{one_determinized, one_undetermined}
+use Rattle.fst_command.proofs.DecidingListing.{one_listed, one_unlisted}
 use Rattle.fst_command.proofs.DecidingSizes.{one_cause, one_too_large}
 use Rattle.fst_command.proofs.Measured.{one_distances, one_unmeasured}
 
@@ -65,7 +67,10 @@ one_meaning Shortestdistance labels o given = record {
   stopped = one_for_one _ (λ m. one_told _ _ (one_unmeasured given.kind m (direction_of o))) given.machines;
   made = one_for_one _ (λ m. one_told _ _ (one_distances given.kind m (direction_of o))) given.machines;
 }
-one_meaning Shortestpath labels o given = record { stopped = one_never; made = λ x y one two. absurd one }
+one_meaning Shortestpath labels o given = record {
+  stopped = one_for_one _ (λ m. one_told _ _ (one_unlisted given.kind (path_count o) m)) given.machines;
+  made = one_for_one _ (λ m. one_made given.kind _ (one_listed given.kind (path_count o) m)) given.machines;
+}
 one_meaning Push labels o given = record { stopped = one_never; made = λ x y one two. absurd one }
 one_meaning Determinize labels o given = record {
   stopped = one_for_one _ (λ m. one_told _ _ (one_undetermined given.kind (state_limit o) m)) given.machines;

@@ -10,6 +10,7 @@ use Rattle.fst_command.specs.Coding.{encode_meaning}
 use Rattle.fst_command.specs.Composing.{compose_meaning}
 use Rattle.fst_command.specs.Determinizing.{determinize_meaning}
 use Rattle.fst_command.specs.Describing.{info_meaning}
+use Rattle.fst_command.specs.Listing.{listing_meaning}
 use Rattle.fst_command.specs.Measuring.{measure_meaning}
 use Rattle.fst_command.specs.Rational.{closure_meaning, concat_meaning, invert_meaning, project_meaning, relabel_meaning, reverse_meaning, union_meaning}
 use Rattle.fst_command.specs.Replacing.{replace_meaning}
@@ -38,7 +39,7 @@ meaning_by Arcsort labels o = arcsort_meaning o
 meaning_by Compose labels o = compose_meaning o
 meaning_by Rmepsilon labels o = unbuilt
 meaning_by Shortestdistance labels o = measure_meaning o
-meaning_by Shortestpath labels o = unbuilt
+meaning_by Shortestpath labels o = listing_meaning o
 meaning_by Push labels o = unbuilt
 meaning_by Encode labels o = encode_meaning o
 meaning_by Determinize labels o = determinize_meaning o

@@ -15,6 +15,7 @@ mod coding;
 mod composing;
 mod describing;
 mod determinizing;
+mod listing;
 mod measuring;
 mod rational;
 mod replacing;
@@ -70,11 +71,7 @@ where
         Verb::Determinize => determinizing::determinized(alloc, &plan.options, given),
         Verb::Encode => coding::coded(alloc, &plan.options, given),
         Verb::Shortestdistance => measuring::measured(alloc, &plan.options, given, queues),
-        Verb::Rmepsilon
-        | Verb::Shortestpath
-        | Verb::Push
-        | Verb::Minimize
-        | Verb::Batch
-        | Verb::Make => unreachable!(),
+        Verb::Shortestpath => listing::listed(alloc, &plan.options, given),
+        Verb::Rmepsilon | Verb::Push | Verb::Minimize | Verb::Batch | Verb::Make => unreachable!(),
     }
 }

@@ -22,6 +22,8 @@ mod forms;
 #[cfg(test)]
 mod operations;
 #[cfg(test)]
+mod paths;
+#[cfg(test)]
 mod plans;
 #[cfg(test)]
 mod replacement;

@@ -15,3 +15,15 @@ pub mod Searches
 pub mod SortedTurns
 pub mod PathWords
 pub mod Preparing
+pub mod Fronts
+pub mod Counted
+pub mod TurnLists
+pub mod BestHops
+pub mod Worst
+pub mod ClassWords
+pub mod TracedWords
+pub mod ClassLists
+pub mod Gathered
+pub mod OneAnswer
+pub mod WrittenWords
+pub mod TotalHeaps

@@ -24,22 +24,22 @@ use Rattle.fst_nbest.specs.Words.{WeightedWord, word_cmp, WordsAscend, Says, NoL
 use Rattle.fst_nbest.proofs.Searches.{Has-map, map_Has}
 use Rattle.fst_nbest.specs.PathWords.{HasSolidArcs, IsCount, solid, toward, arc_step, path_words, AreDistances}
 
-solid_some : (w v : Cost) → solid w ≡ Some v → (w ≡ v) × (w ≡ infinite → ⊥)
+pub solid_some : (w v : Cost) → solid w ≡ Some v → (w ≡ v) × (w ≡ infinite → ⊥)
 solid_some best v e = (same_Some best v e, λ f. cc)
 solid_some (finite a b) v e = (same_Some (finite a b) v e, λ f. cc)
 solid_some infinite v e = absurd (cc)
 
-some_solid : (w : Cost) → (w ≡ infinite → ⊥) → solid w ≡ Some w
+pub some_solid : (w : Cost) → (w ≡ infinite → ⊥) → solid w ≡ Some w
 some_solid best h = refl
 some_solid (finite a b) h = refl
 some_solid infinite h = absurd (h refl)
 
-toward_some : {N : Type 0} (d : Cost) (s t : Cost × N) → toward d s ≡ Some t → (s ≡ t) × (d ≡ infinite → ⊥)
+pub toward_some : {N : Type 0} (d : Cost) (s t : Cost × N) → toward d s ≡ Some t → (s ≡ t) × (d ≡ infinite → ⊥)
 toward_some best s t e = (same_Some s t e, λ f. cc)
 toward_some (finite a b) s t e = (same_Some s t e, λ f. cc)
 toward_some infinite s t e = absurd (cc)
 
-some_toward : {N : Type 0} (d : Cost) (s : Cost × N) → (d ≡ infinite → ⊥) → toward d s ≡ Some s
+pub some_toward : {N : Type 0} (d : Cost) (s : Cost × N) → (d ≡ infinite → ⊥) → toward d s ≡ Some s
 some_toward best s h = refl
 some_toward (finite a b) s h = refl
 some_toward infinite s h = absurd (h refl)
@@ -85,16 +85,16 @@ module _ {N : Type 0} (kind : ArcType) (g : Graph N) (dist : N → Cost) where
 
   module _ (exact : AreDistances kind g dist) (firm : HasSolidArcs kind g) where
     -- a name that the start reaches, and from which a path leads to a final name, is not at distance Zero
-    reaches : (q last : N) (path : List (Transition N)) → IsAccessible g q → IsPath g q path last → (g.final last ≡ infinite → ⊥) → dist q ≡ infinite → ⊥
+    pub reaches : (q last : N) (path : List (Transition N)) → IsAccessible g q → IsPath g q path last → (g.final last ≡ infinite → ⊥) → dist q ≡ infinite → ⊥
     reaches q last path there leads final none = by (exact q)
       where
         done : Finishes kind g q (times kind (product kind (letters path)) (g.final last))
         done = record { last = last; path = path; leads = leads; final = final; weight = refl }
 
-        by : IsFinalDistance kind g q (dist q) ⊎ ((IsAccessible g q → ⊥) × (dist q ≡ infinite)) → ⊥
+        by : (IsAccessible g q × IsFinalDistance kind g q (dist q)) ⊎ ((IsAccessible g q → ⊥) × (dist q ≡ infinite)) → ⊥
         by (inr apart) = apart.0 there
-        by (inl (inl nothing)) = nothing.0 _ done
-        by (inl (inr least)) = not_zero firm least.0.path least.0.last q least.0.leads least.0.final (sym least.0.weight ∙ none)
+        by (inl (is, inl nothing)) = nothing.0 _ done
+        by (inl (is, inr least)) = not_zero firm least.0.path least.0.last q least.0.leads least.0.final (sym least.0.weight ∙ none)
 
     pub path_says : (q last : N) (path : List (Transition N)) → IsAccessible g q → IsPath g q path last → (g.final last ≡ infinite → ⊥) → Says kind (path_words g dist) q (arc_places path) (times kind (product kind (letters path)) (g.final last))
     path_says q last [] there here final =
@@ -110,30 +110,48 @@ module _ {N : Type 0} (kind : ArcType) (g : Graph N) (dist : N → Cost) where
           times_assoc kind t.arc.weight (product kind (letters path)) (g.final last),
         )
 
+    -- a name that is not at distance Zero is reached, and a path from it has this weight
+    pub best_path : (q : N) → (dist q ≡ infinite → ⊥) → IsAccessible g q × Finishes kind g q (dist q)
+    best_path q some = by (exact q)
+      where
+        by : (IsAccessible g q × IsFinalDistance kind g q (dist q)) ⊎ ((IsAccessible g q → ⊥) × (dist q ≡ infinite)) → IsAccessible g q × Finishes kind g q (dist q)
+        by (inr apart) = absurd (some apart.1)
+        by (inl (is, inl nothing)) = absurd (some nothing.1)
+        by (inl (is, inr least)) = (is, least.0)
+
+    -- and no path from it weighs less
+    pub no_better : (q : N) (v : Cost) → (dist q ≡ infinite → ⊥) → Finishes kind g q v → plus (dist q) v ≡ dist q
+    no_better q v some done = by (exact q)
+      where
+        by : (IsAccessible g q × IsFinalDistance kind g q (dist q)) ⊎ ((IsAccessible g q → ⊥) × (dist q ≡ infinite)) → plus (dist q) v ≡ dist q
+        by (inr apart) = absurd (some apart.1)
+        by (inl (is, inl nothing)) = absurd (some nothing.1)
+        by (inl (is, inr least)) = least.1 v done
+
+    -- a best path is a word
+    pub best_says : (q : N) → (dist q ≡ infinite → ⊥) → (word : List ℕ) × Says kind (path_words g dist) q word (dist q)
+    best_says q some =
+        let best = best_path q some in
+        let done = best.1 in
+        (arc_places done.path, subst (λ (w : Cost). Says kind (path_words g dist) q (arc_places done.path) w) (sym done.weight) (path_says q done.last done.path best.0 done.leads done.final))
+
+    -- a word is a path to a final name
+    pub says_finishes : (q : N) (word : List ℕ) (v : Cost) → Says kind (path_words g dist) q word v → Finishes kind g q v
+    says_finishes q word v says = let p = says_path q word v says in record { last = p.1; path = p.0; leads = p.2; final = p.3; weight = p.5 }
+
     -- what is ahead of a name where words go on
     pub name_ahead : (q : N) (c : ℕ) → (dist q ≡ infinite → ⊥) → IsCount kind (path_words g dist) q (dist q) c → IsAhead kind (path_words g dist) q (dist q) c
     name_ahead q c some h = record { word = h.word; says = h.says; long = h.long; least = least }
       where
         least : (other : List ℕ) (v : Cost) → Says kind (path_words g dist) q other v → NoLess (dist q) c v (length other)
-        least other v says = by_exact (exact q)
+        least other v says = by_order (cost_cmp (dist q) v) refl (no_better q v some (says_finishes q other v says))
           where
-            path : (path : List (Transition N)) × (last : N) × IsPath g q path last × (g.final last ≡ infinite → ⊥) × (arc_places path ≡ other) × (v ≡ times kind (product kind (letters path)) (g.final last))
-            path = says_path q other v says
-
-            done : Finishes kind g q v
-            done = record { last = path.1; path = path.0; leads = path.2; final = path.3; weight = path.5 }
-
             by_order : (o : Ordering) → cost_cmp (dist q) v ≡ o → plus (dist q) v ≡ dist q → NoLess (dist q) c v (length other)
             by_order Less e better = inl e
             by_order Equal e better =
                 let same : dist q ≡ v = cost_cmp_equal (dist q) v e in
                 inr (same, h.least other (subst (λ (w : Cost). Says kind (path_words g dist) q other w) (sym same) says))
             by_order Greater e better = absurd (plus_least (dist q) v better (cost_total.antisymm v (dist q) ∙ ap ordering_reverse e))
-
-            by_exact : IsFinalDistance kind g q (dist q) ⊎ ((IsAccessible g q → ⊥) × (dist q ≡ infinite)) → NoLess (dist q) c v (length other)
-            by_exact (inr apart) = absurd (some apart.1)
-            by_exact (inl (inl nothing)) = absurd (some nothing.1)
-            by_exact (inl (inr least)) = by_order (cost_cmp (dist q) v) refl (least.1 v done)
 
     -- the words of a graph with its distances and counts are a system
     pub paths_are_words : (count : N → ℕ) → ((q : N) → (dist q ≡ infinite → ⊥) → IsCount kind (path_words g dist) q (dist q) (count q)) → AreWords kind (path_words g dist) dist count
@@ -153,6 +171,13 @@ path_cmp_word : {N : Type 0} (a b : WeightedPath N) → path_cmp a b ≡ word_cm
 path_cmp_word a b =
     ap₂ (λ (m n : ℕ). ordering_then (cost_cmp a.weight b.weight) (ordering_then (nat_cmp m n) (slice_cmp nat_cmp (arc_places a.path) (arc_places b.path))))
     (sym (length-map a.path (λ (t : Transition _). t.place))) (sym (length-map b.path (λ (t : Transition _). t.place)))
+
+-- two successful paths of one word are one path
+pub one_path : {N : Type 0} (kind : ArcType) (g : Graph N) (a b : WeightedPath N) → IsSuccessful kind g a.path a.weight → IsSuccessful kind g b.path b.weight → arc_places a.path ≡ arc_places b.path → a.weight ≡ b.weight → a ≡ b
+one_path kind g a b h k word weight =
+    let first : h.first ≡ k.first = same_Some h.first k.first (sym h.starts ∙ k.starts) in
+    let same = same_path g a.path b.path h.first h.last k.last h.leads (subst (λ (n : _). IsPath g n b.path k.last) (sym first) k.leads) word in
+    λ i. record { path = same.0 i; weight = weight i }
 
 module _ {N : Type 0} (kind : ArcType) (g : Graph N) (dist : N → Cost) (exact : AreDistances kind g dist) (firm : HasSolidArcs kind g) (start : N) (starts : g.start ≡ Some start) where
   -- the paths of words
@@ -184,13 +209,6 @@ module _ {N : Type 0} (kind : ArcType) (g : Graph N) (dist : N → Cost) (exact 
       subst (λ (w : Cost). Says kind (path_words g dist) start (arc_places b.path) w) (sym h.weight)
       (path_says kind g dist exact firm start h.last b.path (record { first = start; path = []; starts = starts; leads = refl }) (subst (λ (n : N). IsPath g n b.path h.last) first h.leads) h.final)
 
-  -- two successful paths of one word are one path
-  one_path : (a b : WeightedPath N) → IsSuccessful kind g a.path a.weight → IsSuccessful kind g b.path b.weight → word_of_path a ≡ word_of_path b → a ≡ b
-  one_path a b h k e =
-      let first : h.first ≡ k.first = same_Some h.first k.first (sym h.starts ∙ k.starts) in
-      let same = same_path g a.path b.path h.first h.last k.last h.leads (subst (λ (n : N). IsPath g n b.path k.last) (sym first) k.leads) (ap (λ (w : WeightedWord). w.word) e) in
-      λ i. record { path = same.0 i; weight = ap (λ (w : WeightedWord). w.weight) e i }
-
   ascends_paths : (paths : List (WeightedPath N)) → WordsAscend (map word_of_path paths) → Ascends paths
   ascends_paths [] h = tt
   ascends_paths (a ∷ paths) h = ((λ b there. path_cmp_word a b ∙ h.0 (word_of_path b) (map_Has word_of_path paths b there)), ascends_paths paths h.1)
@@ -214,6 +232,6 @@ module _ {N : Type 0} (kind : ArcType) (g : Graph N) (dist : N → Cost) (exact 
           → Has paths b ⊎ ((length paths ≡ n) × ((a : WeightedPath N) → Has paths a → path_cmp a b ≡ Less))
       by paths made long b h (inl here) =
           let from = Has-map word_of_path paths (word_of_path b) (subst (λ (ws : List WeightedWord). Has ws (word_of_path b)) (sym made.same) here) in
-          inl (subst (λ (p : WeightedPath N). Has paths p) (one_path from.0 b (made.successful from.0 from.1) h from.2) from.1)
+          inl (subst (λ (p : WeightedPath N). Has paths p) (one_path kind g from.0 b (made.successful from.0 from.1) h (ap (λ (w : WeightedWord). w.word) from.2) (ap (λ (w : WeightedWord). w.weight) from.2)) from.1)
       by paths made long b h (inr (full, before)) =
           inr (long ∙ full, λ a there. path_cmp_word a b ∙ before (word_of_path a) (subst (λ (ws : List WeightedWord). Has ws (word_of_path a)) made.same (map_Has word_of_path paths a there)))

@@ -1,5 +1,6 @@
 pub mod Chains
 pub mod Listing
+pub mod FirstPaths
 pub mod Heap
 pub mod Words
 pub mod Families
@@ -7,3 +8,6 @@ pub mod Entries
 pub mod Turns
 pub mod PathWords
 pub mod Ready
+pub mod Counts
+pub mod Classes
+pub mod Totals

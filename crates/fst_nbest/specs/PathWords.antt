@@ -30,9 +30,9 @@ arc_step dist (Some a) = toward (dist a.next) (a.weight, a.next)
 abbrev pub path_words : {N : Type 0} → Graph N → (N → Cost) → Words N
 path_words g dist = record { stop = λ q. solid (g.final q); step = λ q k. arc_step dist (slice_get (g.arcs q) k) }
 
--- each name has its distance to the final names, or Zero where no path leads to it
+-- each name that a path leads to has its distance to the final names, each other one Zero
 abbrev pub AreDistances : {N : Type 0} → ArcType → Graph N → (N → Cost) → Type 0
-AreDistances kind g dist = (q : _) → IsFinalDistance kind g q (dist q) ⊎ ((IsAccessible g q → ⊥) × (dist q ≡ infinite))
+AreDistances kind g dist = (q : _) → (IsAccessible g q × IsFinalDistance kind g q (dist q)) ⊎ ((IsAccessible g q → ⊥) × (dist q ≡ infinite))
 
 -- no arc has weight Zero, and each has a weight of the arc type
 pub record HasSolidArcs {N : Type 0} (kind : ArcType) (g : Graph N) : Type 0 where

@@ -1,0 +1,57 @@
+-- `shortestpath` has one outcome.
+use Rattle.std.proofs.Common.{◌≡◌, ◌<◌, ◌+◌, ℕ, List, map, refl, sym, ap, subst, ◌∙◌}
+use Rattle.fst_semiring.specs.declared.arc_type.ArcType.{ArcType}
+use Rattle.fst_semiring.specs.Cost.{Cost}
+use Rattle.fst_machine.specs.Graph.{graph_of}
+use Rattle.fst_machine.specs.Cycles.{IsUseful}
+use Rattle.fst_machine.specs.Machine.{Machine, most_states}
+use Rattle.fst_machine.specs.declared.path.Step.{Step}
+use Rattle.fst_machine.specs.Paths.{places}
+use Rattle.fst_machine.specs.PathOrder.{WeightedPath}
+use Rattle.fst_machine.proofs.PathOrder.{one_IsFirst}
+use Rattle.fst_distance.specs.Distances.{NoneImproves}
+use Rattle.fst_nbest.specs.Chains.{IsChained, arcs_written, chain_of, chained}
+use Rattle.fst_nbest.specs.FirstPaths.{AreFirstPaths, IfImproving}
+use Rattle.fst_nbest.specs.Listing.{IsWritten}
+use Rattle.fst_nbest.specs.declared.fault.NbestFault.{NbestFault}
+use Rattle.fst_nbest.specs.declared.fault.NbestFault.TheVariants as faults
+use Rattle.fst_command.specs.Listing.{ImprovesPaths, IsUnlisted, Lists}
+use Rattle.fst_command.specs.OneOutcome.{One}
+use Rattle.fst_command.specs.declared.commands.listing.Unlisted.{Unlisted}
+use Rattle.fst_command.specs.declared.commands.listing.Unlisted.TheVariants.{ImprovingCycle, TooManyStates}
+
+module _ (kind : ArcType) (n : ℕ) (m : Machine Cost) where
+  pub one_unlisted : One (IsUnlisted kind n m)
+  one_unlisted ImprovingCycle ImprovingCycle one two = refl
+  one_unlisted ImprovingCycle TooManyStates one two = absurd (two.0 one)
+  one_unlisted TooManyStates ImprovingCycle one two = absurd (one.0 two)
+  one_unlisted TooManyStates TooManyStates one two = refl
+
+  pub one_listed : One (Lists kind n m)
+  one_listed r q one two = one.made ∙ (ap (λ (paths : List (WeightedPath ℕ)). chained (map (chain_of (graph_of m)) (map (λ a. places a.path) paths))) (one_IsFirst kind (graph_of m) n one.paths two.paths one.first two.first) ∙ sym two.made)
+
+-- ---- what is told, and what is made
+
+-- the cycle that a fault lists
+pub listed_cycle : (fault : NbestFault) (path : List Step) (P : List Step → Type 0) → fault ≡ faults.ImprovingCycle path → IfImproving fault P → P path
+listed_cycle fault path P e h = subst (λ (f : NbestFault). IfImproving f P) e h
+
+module _ (kind : ArcType) (n : ℕ) (m : Machine Cost) (walks : List (List (ℕ × ℕ))) (firsts : AreFirstPaths kind (graph_of m) n walks) (none : NoneImproves kind (graph_of m) (IsUseful (graph_of m))) where
+  pub fine : ImprovesPaths kind m → ⊥
+  fine improves = none improves.0 improves.1 improves.2 improves.3
+
+  pub too_long : most_states < arcs_written walks + 1 → IsUnlisted kind n m TooManyStates
+  too_long long = (fine, record { paths = firsts.listed; first = firsts.first; long = subst (λ (ws : List (List (ℕ × ℕ))). most_states < arcs_written ws + 1) (sym firsts.written) long })
+
+  pub listed_passes : (most_states < arcs_written walks + 1 → ⊥) → (why : Unlisted) → IsUnlisted kind n m why → ⊥
+  listed_passes fits ImprovingCycle improves = fine improves
+  listed_passes fits TooManyStates (clear, long) = fits (subst (λ (ws : List (List (ℕ × ℕ))). most_states < arcs_written ws + 1)
+      (ap (λ (paths : List (WeightedPath ℕ)). map (λ a. places a.path) paths) (one_IsFirst kind (graph_of m) n long.paths firsts.listed long.first firsts.first) ∙ firsts.written) long.long)
+
+  pub lists : (r : Machine Cost) → r ≡ chained (map (chain_of (graph_of m)) walks) → ((listed : List (WeightedPath ℕ)) → IsWritten kind (graph_of m) listed walks → IsChained kind listed (graph_of r)) → Lists kind n m r
+  lists r made chains = record {
+    paths = firsts.listed;
+    first = firsts.first;
+    made = made ∙ ap (λ (ws : List (List (ℕ × ℕ))). chained (map (chain_of (graph_of m)) ws)) (sym firsts.written);
+    chains = chains firsts.listed (record { successful = firsts.first.successful; written = firsts.written });
+  }

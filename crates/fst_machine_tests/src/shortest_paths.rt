@@ -1,0 +1,192 @@
+//! The n best paths of small machines: by hand, and beside the list of all paths of the plain program; and the machines
+//! of listed paths.
+
+ghost use Rattle.std.specs.Prelude.{◌≡◌, ◌<◌, ◌≤◌};
+
+use crate::machines::{is_text, machine};
+use fst_machine::{Fst, Path, Paths, Step, Steps};
+use fst_nbest::{NbestFault, chains, nbest};
+use fst_plain::{PlainPath, successful_paths};
+use fst_semiring::{Boolean, Lexicographic, MinMax, Tropical, Weight};
+use std::alloc::Global;
+use std::marker::Brand;
+use std::process::Abort;
+use std::sync::ledger::{Blank, Ledger};
+use std::test::Fail;
+
+/// Two arcs of weight 2 to a state with a loop that costs nothing.
+const LOOPED: &[u8] = b"0 1 1 1 2\n0 1 2 2 2\n1 1 3 3\n1\n";
+
+/// The same without the loop.
+const PAIR: &[u8] = b"0 1 1 1 2\n0 1 2 2 2\n1\n";
+
+/// A tropical machine, how many paths, and the machine of its first paths.
+static ROWS: [(&[u8], u32, &[u8]); 8] = [
+    (
+        LOOPED,
+        4,
+        b"0 1 1 1 2\n0 2 2 2 2\n0 3 1 1 2\n0 5 2 2 2\n1\n2\n3 4 3 3\n4\n5 6 3 3\n6\n",
+    ),
+    (PAIR, 9, b"0 1 1 1 2\n0 2 2 2 2\n1\n2\n"),
+    // The path without arcs.
+    (b"0 3\n", 1, b"0 3\n"),
+    (b"0 1 1 1\n", 1, b""),
+    (b"", 3, b""),
+    // A cycle that is better than One, but reaches no final state, and one that no path from the start reaches.
+    (
+        b"0 1 1 1 1\n0 2 2 2\n2 2 3 3 -1\n3 3 4 4 -1\n3 1 5 5\n1\n",
+        2,
+        b"0 1 1 1 1\n1\n",
+    ),
+    // Fewer arcs go before lesser places.
+    (
+        b"0 1 1 1 1\n0 2 2 2 2\n1 2 3 3 1\n2\n",
+        2,
+        b"0 1 2 2 2\n0 2 1 1 1\n1\n2 3 3 3 1\n3\n",
+    ),
+    // The path without arcs between others.
+    (
+        b"0 1 1 1 -1\n0 1 2 2 5\n0\n1\n",
+        3,
+        b"0 1 1 1 -1\n0 2 2 2 5\n0\n1\n2\n",
+    ),
+];
+
+/// The first paths of a machine.
+fn firsts<W: Weight, L: Ledger>(
+    alloc: Global,
+    fst: &Fst<W>,
+    n: u32,
+    blank: Blank,
+) -> Result<Paths, NbestFault>
+    requires name { blank.name ≡ L.name }
+    requires parts { blank.parts ≡ L.parts }
+    requires own { 0 < blank.parts }
+    requires some { 1 ≤ n }
+    requires few { n ≤ 100000 }
+{
+    nbest(alloc, fst, n, &mut Steps::<L>::new(blank))
+}
+
+/// Whether the program answers as the plain one lists, of whose paths the first have at most so many arcs.
+fn is_listed(path: &Path, plain: &PlainPath) -> bool {
+    path.len() == plain.transitions.len()
+        && plain.transitions.iter().enumerate().all(|(k, t)| {
+            k < path.len()
+                && path.item(k).state == t.state
+                && path.item(k).place as usize == t.place
+        })
+}
+
+/// Asks that the first paths of a machine are the first of those that the plain program lists.
+fn compare<W: Weight>(rt: &impl Abort, alloc: Global, text: &[u8]) -> Result<(), Fail> {
+    let fst: Fst<W> = machine(alloc, text)?;
+    let plain = successful_paths(alloc, &fst, 9)?;
+    for n in 1..6 {
+        match firsts::<W, Brand>(alloc, &fst, n, Blank::new(1)) {
+            Ok(paths) => {
+                assert_eq!(rt; paths.len(), plain.len().min(n as usize), "{text:?}");
+                for i in 0..paths.len() {
+                    assert!(rt; i < plain.len() && i < paths.len());
+                    assert!(rt; is_listed(paths.item(i), &plain[i]), "{text:?}: {n}, {i}");
+                }
+            }
+            Err(_) => assert!(rt; false, "{text:?}"),
+        }
+    }
+    Ok(())
+}
+
+/// Machines with ties, cycles that cost nothing, paths of all lengths, states on no path, and few paths.
+static SHAPES: [&[u8]; 7] = [
+    b"0 1 1 1 5\n1 2 2 2 5\n1 3 3 3 3\n3 2 4 4 3\n2\n",
+    b"0 1 1 1 2\n0 1 2 2 2\n1 1 3 3\n1\n",
+    b"0 0 1 1 1\n0 1 2 2 1\n1 0 3 3 1\n1 2\n0 3\n",
+    b"0 1 1 1 4\n0 2 2 2 1\n2 1 3 3 3\n1 3 4 4 2\n2 3 5 5 5\n3 1\n2 7\n",
+    b"2 1 1 1 3\n2 0 2 2 3\n0 1 3 3\n0 0 4 4\n1 3 5 5 3\n1 1\n",
+    b"1 0 1 1 2\n1 0 2 2 2\n0 2 3 3 2\n0 2 4 4 2\n2 3 5 5 2\n2 3 6 6 2\n3 2\n",
+    b"0 1 1 1 7\n1 0 2 2 7\n1 7\n",
+];
+
+/// The same of an arc type with one weight, and of one with pairs.
+static TRUTHS: [&[u8]; 3] = [
+    b"0 1 1 1\n0 1 2 2\n1 1 3 3\n1 0 4 4\n1\n",
+    b"0 0 1 1\n0 1 2 2\n1 2 3 3\n0 2 4 4\n2\n1\n",
+    b"0 1 1 1\n1 2 2 2\n1 3 3 3\n3 2 4 4\n2\n",
+];
+
+static ORDERED: [&[u8]; 3] = [
+    b"0 1 1 1 2,5\n0 1 2 2 2,4\n1 1 3 3 0,1\n1 0,0\n",
+    b"0 0 1 1 1,-5\n0 1 2 2 1,0\n1 0 3 3 0,0\n1 0,2\n",
+    b"0 1 1 1 1,1\n1 2 2 2 1,1\n1 3 3 3 1,0\n3 2 4 4 0,1\n2 0,0\n",
+];
+
+#[test]
+fn lists_what_the_plain_program_lists(rt: HostRuntime) -> Result<(), Fail> {
+    for text in &SHAPES {
+        compare::<Tropical>(&rt, rt.alloc(), text)?;
+        compare::<MinMax>(&rt, rt.alloc(), text)?;
+    }
+    for text in &TRUTHS {
+        compare::<Boolean>(&rt, rt.alloc(), text)?;
+    }
+    for text in &ORDERED {
+        compare::<Lexicographic>(&rt, rt.alloc(), text)?;
+    }
+    Ok(())
+}
+
+/// Asks that the machine of the first paths of a machine is that of a text.
+fn is_chained(
+    rt: &impl Abort,
+    alloc: Global,
+    text: &[u8],
+    n: u32,
+    wanted: &[u8],
+) -> Result<(), Fail>
+    requires some { 1 ≤ n }
+    requires few { n ≤ 100000 }
+{
+    let fst: Fst<Tropical> = machine(alloc, text)?;
+    let Ok(paths) = firsts::<Tropical, Brand>(alloc, &fst, n, Blank::new(1)) else {
+        assert!(rt; false, "{text:?}: no paths");
+        return Ok(());
+    };
+    match chains(alloc, &fst, &paths) {
+        Ok(made) => is_text(rt, alloc, &made, wanted)?,
+        Err(_) => assert!(rt; false, "{text:?}: no machine"),
+    }
+    Ok(())
+}
+
+#[test]
+fn makes_the_machine_of_the_first_paths(rt: HostRuntime) -> Result<(), Fail> {
+    for (text, n, wanted) in &ROWS {
+        assert!(rt; 1 <= *n && *n <= 100_000);
+        is_chained(&rt, rt.alloc(), text, *n, wanted)?;
+    }
+    Ok(())
+}
+
+/// Whether a fault lists the loop of the only state.
+fn lists_the_loop(fault: &NbestFault) -> bool {
+    match fault {
+        NbestFault::ImprovingCycle { cycle } => {
+            cycle.len() == 1 && *cycle.item(0) == Step { state: 0, place: 0 }
+        }
+        NbestFault::Memory => false,
+    }
+}
+
+#[test]
+fn a_cycle_on_successful_paths_that_is_better_than_one_is_listed(
+    rt: HostRuntime,
+) -> Result<(), Fail> {
+    let alloc = rt.alloc();
+    let fst: Fst<Tropical> = machine(alloc, b"0 0 1 1 -1\n0\n")?;
+    match firsts::<Tropical, Brand>(alloc, &fst, 1, Blank::new(1)) {
+        Ok(_) => assert!(rt; false, "paths"),
+        Err(fault) => assert!(rt; lists_the_loop(&fault)),
+    }
+    Ok(())
+}
