@@ -1,0 +1,5 @@
+pub mod OneAnswer
+pub mod Numbered
+pub mod Lines
+pub mod Filled
+pub mod Continuing
