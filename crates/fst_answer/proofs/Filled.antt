@@ -1,19 +1,26 @@
 -- A machine that is filled state by state becomes the graph, numbered.
-use Rattle.std.proofs.Common.{◌≡◌, ◌⊎◌, inl, inr, ℕ, zero, suc, ◌+◌, ◌<◌, ◌≤◌, List, [], ◌∷◌, ◌++◌, Some, length, map, take, get_or, slice_get, refl, sym, ap, ap₂, ◌∙◌, subst, append-nil, append_assoc, arith}
-use Rattle.std.specs.List.{AllZip}
+use Rattle.std.proofs.Common.{◌≡◌, ◌⊎◌, inl, inr, ℕ, zero, suc, Bool, true, false, true≢false, Ok, Err, ◌+◌, ◌<◌, ◌≤◌, List, [], ◌∷◌, ◌++◌, Some, length, map, take, get_or, slice_get, refl, sym, ap, ap₂, ◌∙◌, subst, append-nil, append_assoc, arith}
+use Rattle.std.specs.Prelude.{IfOk, OnOk, Result, is_err}
+use Rattle.std.specs.List.{All, AllZip}
 use Rattle.std.proofs.lemmas.Bool.{cases_lt}
-use Rattle.std.proofs.lemmas.List.{length-append, map-append}
+use Rattle.std.proofs.lemmas.List.{get_or_past, length-append, map-append}
 use Rattle.std.proofs.lemmas.List.Sums.{sum_by-cons, sum_by_more, sum_by_more_le}
-use Rattle.std.proofs.lemmas.Option.{get_or_from_slice_get, same_Some, slice_get_within}
+use Rattle.std.proofs.lemmas.Option.{get_or_from_slice_get, same_Some, slice_get-get_or, slice_get_within}
 use Rattle.std.proofs.lemmas.Slice.Zip.{AllZip-long}
 use Rattle.fst_semiring.specs.Cost.{Cost, infinite}
-use Rattle.fst_machine.specs.BreadthFirst.{IsBreadthFirst}
-use Rattle.fst_machine.specs.Graph.{Graph}
-use Rattle.fst_machine.specs.Machine.{Arc, Machine, State, arc_total, bare_state, changed, most_arcs, valued_arc, valued_state}
+use Rattle.fst_semiring.specs.Semiring.{Within}
+use Rattle.fst_semiring.proofs.Ranges.{Within-more}
+use Rattle.fst_machine.specs.BreadthFirst.{Has, IsBreadthFirst}
+use Rattle.fst_machine.specs.Graph.{Graph, graph_of, no_state}
+use Rattle.fst_machine.specs.Machine.{Arc, Machine, State, arc_total, bare_state, changed, most_arcs, valued, valued_arc, valued_state, with_arc, with_final}
 use Rattle.fst_machine.specs.Numbering.{IsNumbered}
+use Rattle.fst_machine.proofs.Arcs.{append_at, at_mapped}
+use Rattle.fst_machine.proofs.Elements.{Has-append_cases, at_Has}
+use Rattle.fst_nbest.specs.Chains.{arc_at, no_arc}
+use Rattle.fst_nbest.specs.Listing.{IsStep}
 use Rattle.fst_walk.specs.Making.{IsNumberedArc, IsNumberedState, arcs_of}
 use Rattle.fst_walk.proofs.Ending.{done_numbered}
-use Rattle.fst_answer.specs.Filling.{IsFilling, filled}
+use Rattle.fst_answer.specs.Filling.{AreSmall, IsFilling, IsSmallState, filled}
 
 -- ---- lists with one element changed
 
@@ -148,3 +155,93 @@ module _ {N : Type 0} (g : Graph N) (names : List N) where
       (λ j n s at there. h.done j n s (let low = slice_get_within names j n at in omega (arith, low, all)) at there) in
       let same : ◌≡◌ {A = Machine Cost} (record { start = Some 0; states = m.states }) m = λ i. record { start = sym h.start i; states = m.states } in
       subst (IsNumbered g names) same (done_numbered g names m.states zipped start starts listed)
+
+-- ---- numbers stay small
+
+-- states without arcs that are not final have small numbers
+pub bare_small : (m : Machine Cost) → ((j : ℕ) (s : State Cost) → slice_get m.states j ≡ Some s → s ≡ bare_state infinite) → AreSmall m
+bare_small m bare j s at = subst IsSmallState (sym (bare j s at)) (record { final = tt; arcs = λ a h. absurd h })
+
+-- so have they with a state that is filled
+pub filled_small : (m : Machine Cost) (i : ℕ) (last : Cost) (arcs : List (Arc Cost ℕ)) → AreSmall m → Within 2000000000000000000 last → ((a : Arc Cost ℕ) → Has arcs a → Within 2000000000000000000 a.weight)
+    → AreSmall (record { start = m.start; states = changed (filled last arcs) m.states i })
+filled_small m i last arcs small final range j s at = by (changed_at (filled last arcs) m.states i j s at)
+  where
+    own : (x : State Cost) → IsSmallState x → (a : Arc Cost ℕ) → Has x.arcs a ⊎ Has arcs a → Within 2000000000000000000 a.weight
+    own x old a (inl h) = old.arcs a h
+    own x old a (inr h) = range a h
+
+    by : ((j ≡ i) × ((x : State Cost) × (slice_get m.states i ≡ Some x) × (filled last arcs x ≡ s))) ⊎ ((j ≡ i → ⊥) × (slice_get m.states j ≡ Some s)) → IsSmallState s
+    by (inl c) = subst IsSmallState c.1.2 (record { final = final; arcs = λ a h. own c.1.0 (small i c.1.0 c.1.1) a (Has-append_cases c.1.0.arcs arcs a h) })
+    by (inr c) = small j s c.1
+
+module _ (m : Machine Cost) (small : AreSmall m) where
+  -- the arc of a step
+  pub small_step : (s : ℕ × ℕ) → IsStep (graph_of m) s → Within 2000000000000000000 (arc_at (graph_of m) s).weight
+  small_step s step = by (cases_lt s.0 (length m.states))
+    where
+      by : (s.0 < length m.states) ⊎ (length m.states ≤ s.0) → Within 2000000000000000000 (arc_at (graph_of m) s).weight
+      by (inl low) =
+          let state = get_or m.states s.0 no_state in
+          let there = small s.0 state (slice_get-get_or m.states s.0 no_state low) in
+          there.arcs (arc_at (graph_of m) s) (at_Has state.arcs s.1 (arc_at (graph_of m) s) (slice_get-get_or state.arcs s.1 (no_arc s.0) step))
+      by (inr high) =
+          let none : length ((graph_of m).arcs s.0) ≡ 0 = ap (λ (t : State Cost). length t.arcs) (get_or_past m.states s.0 no_state high) in
+          absurd (omega (arith, none, step))
+
+  -- the final weight of a state
+  pub small_last : (p : ℕ) → Within 2000000000000000000 ((graph_of m).final p)
+  small_last p = by (cases_lt p (length m.states))
+    where
+      by : (p < length m.states) ⊎ (length m.states ≤ p) → Within 2000000000000000000 ((graph_of m).final p)
+      by (inl low) = (small p (get_or m.states p no_state) (slice_get-get_or m.states p no_state low)).final
+      by (inr high) = subst (λ (t : State Cost). Within 2000000000000000000 t.final) (sym (get_or_past m.states p no_state high)) tt
+
+module _ {V : Type 0} (value : V → Cost) (m : Machine V) (small : AreSmall (valued value m)) (b : ℕ) (more : 2000000000000000000 ≤ b) where
+  state_there : (k : ℕ) (d : State V) → k < length m.states → IsSmallState (valued_state value (get_or m.states k d))
+  state_there k d low = small k (valued_state value (get_or m.states k d)) (at_mapped (valued_state value) m.states k (get_or m.states k d) (slice_get-get_or m.states k d low))
+
+  -- in the weights themselves
+  pub small_arcs_all : All (λ s. All (λ a. Within b (value a.weight)) s.arcs) m.states
+  small_arcs_all k d low j e below =
+      let state = get_or m.states k d in
+      let arc = get_or state.arcs j e in
+      let there = at_Has (map (valued_arc value) state.arcs) j (valued_arc value arc) (at_mapped (valued_arc value) state.arcs j arc (slice_get-get_or state.arcs j e below)) in
+      Within-more 2000000000000000000 b (value arc.weight) more ((state_there k d low).arcs (valued_arc value arc) there)
+
+  pub small_finals_all : All (λ s. Within b (value s.final)) m.states
+  small_finals_all k d low = Within-more 2000000000000000000 b (value (get_or m.states k d).final) more (state_there k d low).final
+
+-- one more bare state is put behind bare states
+pub bare_more : {V : Type 0} (value : V → Cost) (states new : List (State V)) (zero' : V) → value zero' ≡ infinite → new ≡ states ++ bare_state zero' ∷ []
+    → ((j : ℕ) (s : State Cost) → slice_get (map (valued_state value) states) j ≡ Some s → s ≡ bare_state infinite) → (j : ℕ) (s : State Cost) → slice_get (map (valued_state value) new) j ≡ Some s → s ≡ bare_state infinite
+bare_more value states new zero' is put bare j s at = by (append_at (map (valued_state value) states) (valued_state value (bare_state zero') ∷ []) j s (ap (λ xs. slice_get xs j) (sym (ap (map (valued_state value)) put ∙ map-append (valued_state value) states (bare_state zero' ∷ []))) ∙ at))
+  where
+    last : (k : ℕ) → slice_get (valued_state value (bare_state zero') ∷ []) k ≡ Some s → s ≡ bare_state infinite
+    last zero e = sym (same_Some (valued_state value (bare_state zero')) s e) ∙ ap (λ (w : Cost). record { final = w; arcs = [] }) is
+    last (suc k) e = absurd (cc)
+
+    by : (slice_get (map (valued_state value) states) j ≡ Some s) ⊎ ((k : ℕ) × (slice_get (valued_state value (bare_state zero') ∷ []) k ≡ Some s) × (j ≡ length (map (valued_state value) states) + k)) → s ≡ bare_state infinite
+    by (inl early) = bare j s early
+    by (inr late) = last late.0 late.1
+
+-- ---- arcs put one after the other
+
+module _ {V : Type 0} where
+  -- a final weight alone
+  pub filled_none : (last : V) (xs : List (State V)) (i : ℕ) → changed (with_final last) xs i ≡ changed (filled last []) xs i
+  filled_none last xs i = ap (λ (f : State V → State V). changed f xs i) (λ j s. record { final = last; arcs = sym (append-nil s.arcs) j })
+
+  -- one arc more
+  pub filled_one : (last : V) (arcs : List (Arc V ℕ)) (a : Arc V ℕ) (xs : List (State V)) (i : ℕ) → changed (with_arc a) (changed (filled last arcs) xs i) i ≡ changed (filled last (arcs ++ a ∷ [])) xs i
+  filled_one last arcs a xs i =
+      changed_twice (with_arc a) (filled last arcs) xs i ∙ ap (λ (f : State V → State V). changed f xs i) (λ j s. record { final = last; arcs = append_assoc s.arcs arcs (a ∷ []) j })
+
+-- what holds of a result that is no fault
+pub fine_if : {X E Q : Type 0} (r : Result X E) (b : Bool) → b ≡ is_err r → b ≡ false → IfOk r (λ x. Q) → Q
+fine_if (Ok x) b is fine q = q
+fine_if (Err e) b is fine q = absurd (true≢false (sym is ∙ fine))
+
+pub fine_on : {X E Q : Type 0} (r : Result X E) (b : Bool) → b ≡ is_err r → b ≡ false → OnOk r Q → Q
+fine_on (Ok x) b is fine q = q
+fine_on (Err e) b is fine q = absurd (true≢false (sym is ∙ fine))

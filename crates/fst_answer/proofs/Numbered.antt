@@ -20,7 +20,14 @@ use Rattle.fst_machine.specs.Renaming.{Renames, moved}
 use Rattle.fst_machine.proofs.Elements.{Apart_at}
 use Rattle.fst_machine.proofs.Numbering.{IsNumbered-Renames}
 use Rattle.fst_machine.proofs.Renaming.{moved-IsPath, moved-arc_places, moved-letters, moved_back}
+use Rattle.fst_delayed.proofs.Keys.{Has-map}
 use Rattle.fst_answer.specs.BestPaths.{Improves, labels_of, told_of}
+
+-- what stands in a mapped list
+pub mapped_Has : {X Y : Type 0} (f : X → Y) (xs : List X) (y : Y) → Has (map f xs) y → (x : X) × Has xs x × (f x ≡ y)
+mapped_Has f [] y h = absurd h
+mapped_Has f (x ∷ xs) y (inl e) = (x, inl refl, e)
+mapped_Has f (x ∷ xs) y (inr h) = let r = mapped_Has f xs y h in (r.0, inr r.1, r.2)
 
 module _ {N M : Type 0} (f : N → M) where
   -- the path under other names
@@ -35,20 +42,10 @@ module _ {N M : Type 0} (f : N → M) where
       let turns = ap₂ (slice_cmp nat_cmp) (moved-arc_places f a.path) (moved-arc_places f b.path) in
       ap (ordering_then (cost_cmp a.weight b.weight)) (ap₂ ordering_then size turns)
 
-  Has-renamed : (paths : List (WeightedPath N)) (a : WeightedPath N) → Has paths a → Has (map renamed_path paths) (renamed_path a)
-  Has-renamed [] a h = absurd h
-  Has-renamed (b ∷ paths) a (inl e) = inl (ap renamed_path e)
-  Has-renamed (b ∷ paths) a (inr h) = inr (Has-renamed paths a h)
-
-  renamed-Has : (paths : List (WeightedPath N)) (b : WeightedPath M) → Has (map renamed_path paths) b → (a : WeightedPath N) × Has paths a × (renamed_path a ≡ b)
-  renamed-Has [] b h = absurd h
-  renamed-Has (a ∷ paths) b (inl e) = (a, inl refl, e)
-  renamed-Has (a ∷ paths) b (inr h) = let r = renamed-Has paths b h in (r.0, inr r.1, r.2)
-
   renamed-Ascends : (paths : List (WeightedPath N)) → Ascends paths → Ascends (map renamed_path paths)
   renamed-Ascends [] h = tt
   renamed-Ascends (a ∷ paths) h = (
-    λ b there. let r = renamed-Has paths b there in subst (λ (z : WeightedPath M). path_cmp (renamed_path a) z ≡ Less) r.2 (renamed_cmp a r.0 ∙ h.0 r.0 r.1),
+    λ b there. let r = mapped_Has renamed_path paths b there in subst (λ (z : WeightedPath M). path_cmp (renamed_path a) z ≡ Less) r.2 (renamed_cmp a r.0 ∙ h.0 r.0 r.1),
     renamed-Ascends paths h.1,
   )
 
@@ -142,7 +139,7 @@ module _ {N : Type 0} (kind : ArcType) (g : Graph N) (names : List N) (m : Machi
     few = let long = length-map paths (renamed_path name_of) in let few = first.few in omega (arith, long, few);
     ascends = renamed-Ascends name_of paths first.ascends;
     successful = λ b has.
-        let r = renamed-Has name_of paths b has in
+        let r = mapped_Has (renamed_path name_of) paths b has in
         subst (λ (z : WeightedPath N). IsSuccessful kind g z.path z.weight) r.2 (named_successful r.0.path r.0.weight (first.successful r.0 r.1));
     others = λ b s. by_others b s;
   }
@@ -158,11 +155,11 @@ module _ {N : Type 0} (kind : ArcType) (g : Graph N) (names : List N) (m : Machi
           subst Others same (by a (first.others a old.1))
         where
           by : (a : WeightedPath ℕ) → Has paths a ⊎ ((length paths ≡ n) × ((c : WeightedPath ℕ) → Has paths c → path_cmp c a ≡ Less)) → Others (renamed_path name_of a)
-          by a (inl has) = inl (Has-renamed name_of paths a has)
+          by a (inl has) = inl (Has-map (renamed_path name_of) paths a has)
           by a (inr full) = inr (
             length-map paths (renamed_path name_of) ∙ full.0,
             λ c has.
-                let r = renamed-Has name_of paths c has in
+                let r = mapped_Has (renamed_path name_of) paths c has in
                 subst (λ (z : WeightedPath N). path_cmp z (renamed_path name_of a) ≡ Less) r.2 (renamed_cmp name_of r.0 a ∙ full.1 r.0 r.1),
           )
 

@@ -4,3 +4,4 @@ pub mod AnswerText
 pub mod AnswerLaws
 pub mod Filling
 pub mod Building
+pub mod ToldChains

@@ -1,11 +1,18 @@
 //! The answer of a line whose walk is over.
 
 ghost use Rattle.std.specs.Prelude.{◌≡◌, ◌<◌, ◌≤◌, IfErr, IfOk, OnOk, length, map};
-ghost use Rattle.fst_machine.specs.Machine.{most_states};
+ghost use Rattle.fst_machine.specs.Cycles.{IsUseful};
+ghost use Rattle.fst_machine.specs.Graph.{graph_of};
+ghost use Rattle.fst_machine.specs.Machine.{most_states, valued};
+ghost use Rattle.fst_machine.specs.Steps.{written};
+ghost use Rattle.fst_distance.specs.Distances.{IsListed, NoneImproves};
+ghost use Rattle.fst_nbest.specs.FirstPaths.{AreFirstPaths, IfImproving};
 ghost use Rattle.fst_delayed.specs.Caches.{IsTrueOf, keys};
 ghost use Rattle.fst_delayed.specs.Graphs.{delayed_graph};
 ghost use Rattle.fst_batch.specs.Walks.{IsJob, IsOver};
 ghost use Rattle.fst_answer.specs.Answers.{IsAnswer};
+ghost use Rattle.fst_answer.specs.Building.{AnswersWhole, IsWhole};
+ghost use Rattle.fst_answer.specs.Filling.{AreSmall};
 
 use crate::answer::LineAnswer;
 use crate::building::lattice_machine;
@@ -28,15 +35,21 @@ fn best_paths<W: Weight, L: Ledger>(
     n: u32,
     blank: Blank,
 ) -> Result<Paths, NbestFault>
+    requires some { 1 ≤ n }
+    requires few { n ≤ 100000 }
+    requires small { AreSmall (valued W.wide_value fst.now) }
     requires name { blank.name ≡ L.name }
     requires parts { blank.parts ≡ L.parts }
-    requires some { 0 < blank.parts }
+    requires blank { 0 < blank.parts }
+    ensures first { IfOk result (λ paths. AreFirstPaths W.KIND (graph_of (valued W.wide_value fst.now)) n (map written paths)) }
+    ensures none { OnOk result (NoneImproves W.KIND (graph_of (valued W.wide_value fst.now)) (IsUseful (graph_of (valued W.wide_value fst.now)))) }
+    ensures cycle { IfErr result (λ f. IfImproving f (IsListed W.KIND (graph_of (valued W.wide_value fst.now)) (IsUseful (graph_of (valued W.wide_value fst.now))))) }
 {
     let mut steps = Steps::<L>::new(blank);
     nbest_wide(alloc, fst, n, &mut steps)
 }
 
-/// The answer of a line whose lattice has just these names.
+/// The answer of a line without a byte 0 whose lattice has these names, where they are not too many.
 fn answer_lattice<W: Weight, M: Meter>(
     alloc: Global,
     delayed: &Delayed<'_, W, M>,
@@ -44,7 +57,14 @@ fn answer_lattice<W: Weight, M: Meter>(
     cache: &Cache<W>,
     points: &Points,
     n: u32,
-) -> Result<LineAnswer<W>, AllocError> {
+) -> Result<LineAnswer<W>, AllocError>
+    requires some { 1 ≤ n }
+    requires few { n ≤ 100000 }
+    requires entries { IsTrueOf W.wide_value (delayed_graph W.KIND W.value delayed.now) cache.now }
+    requires whole { IsWhole W.KIND W.value delayed.now line.now (keys cache.now) points.now }
+    requires found { 0 < length points.now }
+    ensures { IfOk result (λ answer. AnswersWhole W.KIND W.value delayed.now n line.now points.now answer) }
+{
     let Some(fst) = lattice_machine(alloc, delayed, line, cache, points)? else {
         return Ok(LineAnswer::Refused(LineFault::TooManyArcs));
     };

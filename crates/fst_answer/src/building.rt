@@ -1,14 +1,14 @@
 //! The lattice of a line as a machine.
 
-ghost use Rattle.std.specs.Prelude.{◌≡◌, ◌+◌, ◌<◌, ◌≤◌, IfOk, MatchBool, MatchOption, length};
-ghost use Rattle.fst_machine.specs.Machine.{most_arcs, most_states, valued};
-ghost use Rattle.fst_machine.specs.Numbering.{IsNumbered};
+ghost use Rattle.std.specs.Prelude.{◌≡◌, ◌+◌, ◌<◌, IfOk, MatchBool, MatchOption, OnOk, length};
+ghost use Rattle.fst_semiring.specs.Semiring.{Within};
+ghost use Rattle.fst_machine.specs.Machine.{most_arcs, valued};
 ghost use Rattle.fst_walk.specs.Making.{arcs_of};
 ghost use Rattle.fst_delayed.specs.Caches.{IsTrueOf, keys};
 ghost use Rattle.fst_delayed.specs.Graphs.{IsKeyOf, delayed_graph};
 ghost use Rattle.fst_batch.specs.Lattice.{lattice, point};
 ghost use Rattle.fst_answer.specs.Building.{IsWhole};
-ghost use Rattle.fst_answer.specs.Filling.{IsFilling};
+ghost use Rattle.fst_answer.specs.Filling.{AreSmall, IsFilling, IsMadeOf};
 
 use crate::filling::{blank_machine, fill_state};
 use crate::numbering::number_point;
@@ -26,6 +26,7 @@ fn last_weight<W: Weight, M: Meter>(
     name: ComposeKey,
 ) -> W::Wide
     requires { IsKeyOf delayed.now name }
+    ensures range { Within 2000000000000000000 (W.wide_value result) }
     ensures value { W.wide_value result ≡ (lattice line.now (delayed_graph W.KIND W.value delayed.now)).final (point position name) }
 {
     if position == line.len() as u64 {
@@ -46,10 +47,12 @@ fn put_point<W: Weight, M: Meter>(
     place: usize,
 ) -> Result<bool, AllocError>
     requires entries { IsTrueOf W.wide_value (delayed_graph W.KIND W.value delayed.now) cache.now }
-    requires whole { IsWhole W.KIND W.value delayed.now line.now (keys cache.now) most_states points.now }
+    requires whole { IsWhole W.KIND W.value delayed.now line.now (keys cache.now) points.now }
     requires place { place < length points.now }
     requires filling { IsFilling (lattice line.now (delayed_graph W.KIND W.value delayed.now)) points.now place (valued W.wide_value fst.old) }
-    ensures { IfOk result (λ fits. MatchBool fits (IsFilling (lattice line.now (delayed_graph W.KIND W.value delayed.now)) points.now (place + 1) (valued W.wide_value fst.new)) (most_arcs < arcs_of (lattice line.now (delayed_graph W.KIND W.value delayed.now)) points.now)) }
+    requires small { AreSmall (valued W.wide_value fst.old) }
+    ensures small { OnOk result (AreSmall (valued W.wide_value fst.new)) }
+    ensures filling { IfOk result (λ fits. MatchBool fits (IsFilling (lattice line.now (delayed_graph W.KIND W.value delayed.now)) points.now (place + 1) (valued W.wide_value fst.new)) (most_arcs < arcs_of (lattice line.now (delayed_graph W.KIND W.value delayed.now)) points.now)) }
 {
     delayed.small_arcs();
     let (position, name) = points.item(place);
@@ -76,9 +79,9 @@ pub(crate) fn lattice_machine<W: Weight, M: Meter>(
     points: &Points,
 ) -> Result<Option<WideFst<W>>, AllocError>
     requires entries { IsTrueOf W.wide_value (delayed_graph W.KIND W.value delayed.now) cache.now }
-    requires whole { IsWhole W.KIND W.value delayed.now line.now (keys cache.now) most_states points.now }
+    requires whole { IsWhole W.KIND W.value delayed.now line.now (keys cache.now) points.now }
     requires some { 0 < length points.now }
-    ensures { IfOk result (λ made. MatchOption made (most_arcs < arcs_of (lattice line.now (delayed_graph W.KIND W.value delayed.now)) points.now) (λ fst. IsNumbered (lattice line.now (delayed_graph W.KIND W.value delayed.now)) points.now (valued W.wide_value fst) × (arcs_of (lattice line.now (delayed_graph W.KIND W.value delayed.now)) points.now ≤ most_arcs))) }
+    ensures { IfOk result (λ made. MatchOption made (most_arcs < arcs_of (lattice line.now (delayed_graph W.KIND W.value delayed.now)) points.now) (λ fst. IsMadeOf (lattice line.now (delayed_graph W.KIND W.value delayed.now)) points.now (valued W.wide_value fst))) }
 {
     let mut fst = blank_machine(alloc, points.len())?;
     let mut made = Vec::new(alloc);
@@ -87,5 +90,6 @@ pub(crate) fn lattice_machine<W: Weight, M: Meter>(
             return Ok(None);
         }
     }
+    let _states = fst.states();
     Ok(Some(fst))
 }

@@ -9,9 +9,10 @@ ghost use Rattle.fst_machine.specs.Machine.{IsArc, valued, valued_arc};
 ghost use Rattle.fst_machine.specs.Steps.{written};
 ghost use Rattle.fst_nbest.specs.Chains.{arc_at, chain_of};
 ghost use Rattle.fst_nbest.specs.FirstPaths.{AreFirstPaths};
-ghost use Rattle.fst_nbest.specs.Listing.{AreSteps, IsStep};
+ghost use Rattle.fst_nbest.specs.Listing.{AreAllSteps, AreSteps, IsStep};
 ghost use Rattle.fst_answer.specs.BestPaths.{first_not_text, is_text, valued_told};
-ghost use Rattle.fst_answer.specs.Building.{chain_weight};
+ghost use Rattle.fst_answer.specs.Filling.{AreSmall};
+ghost use Rattle.fst_answer.specs.ToldChains.{Tells, chain_weight};
 
 use crate::answer::{Answer, LineAnswer};
 use crate::fault::LineFault;
@@ -38,7 +39,9 @@ fn step_arc<W: Weight>(fst: &WideFst<W>, step: &Step) -> WideArc<W>
 fn end_weight<W: Weight>(fst: &WideFst<W>, start: u32, path: &Path) -> W::Wide
     requires start { fst.now.start ≡ Some start }
     requires steps { AreSteps (graph_of (valued W.wide_value fst.now)) (written path.now) }
-    ensures { W.wide_value result ≡ (chain_of (graph_of (valued W.wide_value fst.now)) (written path.now)).last }
+    requires small { AreSmall (valued W.wide_value fst.now) }
+    ensures value { W.wide_value result ≡ (chain_of (graph_of (valued W.wide_value fst.now)) (written path.now)).last }
+    ensures range { Within 2000000000000000000 (W.wide_value result) }
 {
     let _states = fst.states();
     let len = path.len();
@@ -52,7 +55,7 @@ fn end_weight<W: Weight>(fst: &WideFst<W>, start: u32, path: &Path) -> W::Wide
 /// The product of the weights of the arcs of a path.
 fn path_product<W: Weight>(fst: &WideFst<W>, path: &Path) -> W::Wide
     requires steps { AreSteps (graph_of (valued W.wide_value fst.now)) (written path.now) }
-    requires small { All (λ s. All (λ a. Within 2000000000000000000 (W.wide_value a.weight)) s.arcs) fst.now.states }
+    requires small { AreSmall (valued W.wide_value fst.now) }
     requires few { length path.now ≤ 1099511627776 }
     ensures value { W.wide_value result ≡ product W.KIND (chain_of (graph_of (valued W.wide_value fst.now)) (written path.now)).letters }
     ensures range { Within (length path.now * 2000000000000000000) (W.wide_value result) }
@@ -75,8 +78,7 @@ fn path_weight<W: Weight>(
 ) -> Result<Option<W>, AllocError>
     requires start { fst.now.start ≡ Some start }
     requires steps { AreSteps (graph_of (valued W.wide_value fst.now)) (written path.now) }
-    requires small { All (λ s. All (λ a. Within 2000000000000000000 (W.wide_value a.weight)) s.arcs) fst.now.states }
-    requires finals { All (λ s. Within 2000000000000000000 (W.wide_value s.final)) fst.now.states }
+    requires small { AreSmall (valued W.wide_value fst.now) }
     ensures { IfOk result (λ weight. MatchOption weight (InRange (chain_weight W.KIND (chain_of (graph_of (valued W.wide_value fst.now)) (written path.now))) → ⊥) (λ w. (W.value w ≡ chain_weight W.KIND (chain_of (graph_of (valued W.wide_value fst.now)) (written path.now))) × InRange (W.value w))) }
 {
     if path.len() > MOST_STEPS {
@@ -123,7 +125,12 @@ pub(crate) fn list_paths<W: Weight>(
     fst: &WideFst<W>,
     start: u32,
     paths: &Paths,
-) -> Result<LineAnswer<W>, AllocError> {
+) -> Result<LineAnswer<W>, AllocError>
+    requires start { fst.now.start ≡ Some start }
+    requires steps { AreAllSteps (graph_of (valued W.wide_value fst.now)) (map written paths.now) }
+    requires small { AreSmall (valued W.wide_value fst.now) }
+    ensures { IfOk result (Tells W.KIND W.value (map (chain_of (graph_of (valued W.wide_value fst.now))) (map written paths.now))) }
+{
     let mut answers = List::new(alloc);
     let mut wrong = None;
     for place in 0..paths.len() {
@@ -135,10 +142,11 @@ pub(crate) fn list_paths<W: Weight>(
             continue;
         }
         let mut text = Vec::new(alloc);
-        match put_text(&mut text, fst, path)? {
-            Ok(()) => answers.push(Answer { weight, text })?,
-            Err(label) => wrong = Some(label),
+        if let Err(label) = put_text(&mut text, fst, path)? {
+            wrong = Some(label);
+            continue;
         }
+        answers.push(Answer { weight, text })?;
     }
     match wrong {
         Some(label) => Ok(LineAnswer::Refused(LineFault::NotText { label })),
