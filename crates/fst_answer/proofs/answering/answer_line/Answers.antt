@@ -1,10 +1,13 @@
-use Rattle.std.proofs.Common.{◌≡◌, [], ℕ, List, sym, ap, ◌∙◌, subst}
+use Rattle.std.proofs.Common.{◌≡◌, [], ℕ, List, length, sym, ap, ◌∙◌, subst}
 use Rattle.std.proofs.lemmas.Result.{IfOk-weaker}
 use Rattle.fst_delayed.specs.Caches.{keys}
 use Rattle.fst_delayed.specs.Graphs.{delayed_graph}
 use Rattle.fst_answer.specs.Answers.{IsAnswer}
 use Rattle.fst_answer.specs.BestPaths.{Told}
-use Rattle.fst_answer.specs.Building.{AnswersWhole}
+use Rattle.fst_walk.specs.Making.{IsReached}
+use Rattle.fst_delayed.specs.Handed.{Name}
+use Rattle.fst_batch.specs.Lattice.{Point, lattice}
+use Rattle.fst_answer.specs.Building.{AnswersWhole, IsWhole}
 use Rattle.fst_answer.specs.declared.fault.LineFault.TheVariants.{StateLimit}
 use Rattle.fst_answer.specs.declared.answer.LineAnswer.{LineAnswer}
 use Rattle.fst_answer.specs.declared.answer.LineAnswer.TheVariants.{Listed, Refused}
@@ -29,13 +32,14 @@ returns-then-len-eq0 g c =
     let w = c.args.job.now in
     let going = sym c.stage.ensures ∙ c.in-Going.is in
     let clear = going_clear kind value c.args.delayed.now c.args.line.now (keys c.args.cache.now) w c.requires.job going in
-    let none = going_empty kind value c.args.delayed.now c.args.line.now (keys c.args.cache.now) w c.requires.job going c.requires.over (sym c.len.ensures ∙ c.if-len-eq0.true) in
+    let none = going_empty kind value c.args.delayed.now c.args.line.now (keys c.args.cache.now) w c.requires.job going c.requires.over (ap (λ (ps : List (Point (Name ℕ ℕ))). length ps) (sym c.points-points.ensures) ∙ (sym c.len.ensures ∙ c.if-len-eq0.true)) in
     subst (λ (xs : List (Told _)). IsAnswer kind G c.args.n w.limit c.args.line.now value (Listed xs)) (sym c.new.ensures) (empty_answer kind value G c.args.n w.limit c.args.line.now clear none)
 
 pub answer_lattice-requires-clause-whole : goal.answer_lattice-requires-clause-whole
-answer_lattice-requires-clause-whole g c =
+answer_lattice-requires-clause-whole g c κs within =
     let going = sym c.stage.ensures ∙ c.in-Going.is in
-    going_whole g.W.Weight.KIND g.W.Weight.value c.args.delayed.now c.args.line.now (keys c.args.cache.now) c.args.job.now c.requires.job going c.requires.over (λ none. c.if-len-eq0.false (c.len.ensures ∙ none)) c.requires.limit
+    subst (IsWhole g.W.Weight.KIND g.W.Weight.value c.args.delayed.now c.args.line.now (keys c.args.cache.now)) (sym c.points-points.ensures)
+    (going_whole g.W.Weight.KIND g.W.Weight.value c.args.delayed.now c.args.line.now (keys c.args.cache.now) c.args.job.now c.requires.job going c.requires.over (λ none. c.if-len-eq0.false (c.len.ensures ∙ (ap (λ (ps : List (Point (Name ℕ ℕ))). length ps) c.points-points.ensures ∙ none))) c.requires.limit)
 
 pub returns : goal.returns
 returns g c =
@@ -45,5 +49,5 @@ returns g c =
     let w = c.args.job.now in
     let going = sym c.stage.ensures ∙ c.in-Going.is in
     let clear = going_clear kind value c.args.delayed.now c.args.line.now (keys c.args.cache.now) w c.requires.job going in
-    let reached = going_reached kind value c.args.delayed.now c.args.line.now (keys c.args.cache.now) w c.requires.job going c.requires.over (λ none. c.if-len-eq0.false (c.len.ensures ∙ none)) in
-    IfOk-weaker c.answer_lattice.result (AnswersWhole kind value c.args.delayed.now c.args.n c.args.line.now w.points) (IsAnswer kind G c.args.n w.limit c.args.line.now value) (λ a h. h w.limit clear reached) c.answer_lattice.ensures
+    let reached = going_reached kind value c.args.delayed.now c.args.line.now (keys c.args.cache.now) w c.requires.job going c.requires.over (λ none. c.if-len-eq0.false (c.len.ensures ∙ (ap (λ (ps : List (Point (Name ℕ ℕ))). length ps) c.points-points.ensures ∙ none))) in
+    IfOk-weaker c.answer_lattice.result (AnswersWhole kind value c.args.delayed.now c.args.n c.args.line.now c.points-points.result.now) (IsAnswer kind G c.args.n w.limit c.args.line.now value) (λ a h. h w.limit clear (subst (IsReached (lattice c.args.line.now G) w.limit) (sym c.points-points.ensures) reached)) c.answer_lattice.ensures

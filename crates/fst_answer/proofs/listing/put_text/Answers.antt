@@ -52,7 +52,7 @@ loop-place-preserved g c =
     let is : c.label.inside.olabel ≡ l.olabel = ap (λ (a : Arc Cost ℕ). a.olabel) (ap (valued_arc value) c.label.view_is ∙ c.step_arc.ensures.value) in
     let told = sym c.is_text.ensures ∙ c.if-not-is_text.false in
     let fine = ap is_text (sym is) ∙ told in
-    let some = λ none. c.if-label-eq0.false (is ∙ none) in
+    let some : l.olabel ≡ 0 → ⊥ = λ none. c.if-label-eq0.false (is ∙ none) in
     let put = c.in_ok-push.ensures.items ∙ (ap (λ (k : ℕ). c.loop-place.text.items ++ k ∷ []) is) in
     record {
       text = text_spoken letters c.loop-place.place l at c.loop-place.text.items _ c.loop-place.invariant.text c.push.new.self.items some put;
