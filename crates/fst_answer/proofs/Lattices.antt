@@ -1,5 +1,5 @@
 -- The arcs of a lattice, and the lattice of a line whose walk is over.
-use Rattle.std.proofs.Common.{◌≡◌, ◌⊎◌, inl, inr, ℕ, zero, suc, ◌+◌, ◌<◌, ◌≤◌, Bool, true, false, true≢false, cond, nat_eq, List, [], ◌∷◌, ◌++◌, Option, None, Some, length, map, take, get_or, slice_get, refl, sym, ap, ap₂, ◌∙◌, subst, eq-eqb, eqb-true, arith}
+use Rattle.std.proofs.Common.{◌≡◌, ℕ, zero, suc, ◌+◌, ◌<◌, ◌≤◌, Bool, true, false, cond, nat_eq, List, [], ◌∷◌, ◌++◌, Option, None, Some, length, map, take, get_or, slice_get, refl, sym, ap, ◌∙◌, subst, eq-eqb, eqb-true, arith}
 use Rattle.std.specs.Prelude.{MatchOption}
 use Rattle.std.specs.List.{All, AllZip}
 use Rattle.std.proofs.lemmas.List.{map-append, take_all}
@@ -11,7 +11,6 @@ use Rattle.fst_machine.specs.BreadthFirst.{Has, IsBreadthFirst}
 use Rattle.fst_machine.specs.Graph.{Graph, nexts}
 use Rattle.fst_machine.specs.Machine.{Arc, IsArc, Machine, greatest_label, most_states, valued_arc}
 use Rattle.fst_machine.specs.Paths.{Leaves, Transition}
-use Rattle.fst_machine.specs.Walking.{IsWalking}
 use Rattle.fst_machine.proofs.Arcs.{at_mapped, mapped_at}
 use Rattle.fst_machine.proofs.BreadthFirst.{breadth_first_of_walked}
 use Rattle.fst_machine.proofs.Elements.{Has-append_left, Has-append_right, Has_at, at_Has}
@@ -26,7 +25,7 @@ use Rattle.fst_delayed.specs.Handed.{Name}
 use Rattle.fst_delayed.proofs.Keys.{Has-map}
 use Rattle.fst_batch.specs.Lattice.{HasNoZero, Point, arc_to, byte_arcs, lattice, point, point_arcs, reading}
 use Rattle.fst_batch.specs.LinePaths.{moves_at}
-use Rattle.fst_batch.specs.Walks.{AreAmong, IsAt, IsJob, IsOver, IsStopped, IsWalkOf, LineWalk, label_arcs}
+use Rattle.fst_batch.specs.Walks.{AreAmong, IsAt, IsJob, IsOver, IsWalkOf, LineWalk, label_arcs}
 use Rattle.fst_batch.specs.declared.stage.Stage.{Stage}
 use Rattle.fst_batch.specs.declared.stage.Stage.TheVariants.{Bad, Going, Stopped}
 use Rattle.fst_batch.proofs.Filtering.{Has-filter}

@@ -1,19 +1,19 @@
 -- A machine that numbers the names of a graph has the best paths of the graph, and its improving cycles.
-use Rattle.std.proofs.Common.{◌≡◌, ◌⊎◌, inl, inr, ℕ, ◌<◌, ◌≤◌, List, [], ◌∷◌, ◌++◌, Option, None, Some, length, map, get_or, slice_get, refl, sym, ap, ap₂, ◌∙◌, subst, Ordering, Less, arith}
+use Rattle.std.proofs.Common.{◌≡◌, ◌⊎◌, inl, inr, ℕ, ◌<◌, List, [], ◌∷◌, ◌++◌, Option, None, Some, length, map, get_or, slice_get, refl, sym, ap, ap₂, ◌∙◌, subst, Less, arith}
 use Rattle.std.specs.Ordering.{nat_cmp, ordering_then}
 use Rattle.std.specs.Cmp.Lexicographic.{slice_cmp}
 use Rattle.std.proofs.lemmas.List.{length-map}
 use Rattle.std.proofs.lemmas.Option.{get_or_from_slice_get, slice_get-get_or, slice_get_within}
-use Rattle.fst_semiring.specs.Cost.{Cost, cost_cmp, infinite}
+use Rattle.fst_semiring.specs.Cost.{Cost, cost_cmp}
 use Rattle.fst_semiring.specs.declared.arc_type.ArcType.{ArcType}
 use Rattle.fst_semiring.specs.Semiring.{one_of, times}
 use Rattle.fst_machine.specs.BreadthFirst.{Apart, Has}
-use Rattle.fst_machine.specs.Cycles.{IsAccessible, IsCoaccessible, IsImprovingCycle, IsUseful}
+use Rattle.fst_machine.specs.Cycles.{IsImprovingCycle, IsUseful}
 use Rattle.fst_machine.specs.Graph.{Graph, graph_of}
 use Rattle.fst_machine.specs.Letters.{Letter, output, product}
 use Rattle.fst_machine.specs.Machine.{Machine}
 use Rattle.fst_machine.specs.Numbering.{IsNumbered, start_of}
-use Rattle.fst_machine.specs.PathOrder.{Ascends, IsFirst, WeightedPath, arc_places, path_cmp}
+use Rattle.fst_machine.specs.PathOrder.{Ascends, IsFirst, WeightedPath, path_cmp}
 use Rattle.fst_machine.specs.Paths.{IsPath, Transition, letters}
 use Rattle.fst_machine.specs.Relation.{IsSuccessful}
 use Rattle.fst_machine.specs.Renaming.{Renames, moved}

@@ -1,18 +1,17 @@
 -- A line has one answer.
-use Rattle.std.proofs.Common.{◌≡◌, ◌⊎◌, inl, inr, ℕ, zero, suc, ◌<◌, ◌≤◌, List, [], ◌∷◌, Option, Some, map, refl, sym, ap, ap₂, ◌∙◌, subst, arith}
+use Rattle.std.proofs.Common.{◌≡◌, ◌⊎◌, inl, inr, ℕ, zero, suc, ◌<◌, ◌≤◌, List, [], ◌∷◌, Some, map, refl, sym, ap, ap₂, ◌∙◌, arith}
 use Rattle.std.proofs.lemmas.Bool.{cases_lt}
 use Rattle.fst_semiring.specs.Cost.{Cost}
 use Rattle.fst_semiring.specs.declared.arc_type.ArcType.{ArcType}
 use Rattle.fst_machine.specs.Graph.{Graph}
 use Rattle.fst_machine.specs.PathOrder.{WeightedPath}
 use Rattle.fst_machine.proofs.PathOrder.{one_IsFirst}
-use Rattle.fst_batch.specs.Lattice.{Point, lattice}
-use Rattle.fst_answer.specs.BestPaths.{IsListed, IsNotText, Told, first_not_text, labels_of, told_of, valued_told}
-use Rattle.fst_answer.specs.Answers.{IsAnswer, NoneBefore, Stands, all_faults, place_of}
+use Rattle.fst_batch.specs.Lattice.{lattice}
+use Rattle.fst_answer.specs.BestPaths.{IsNotText, Told, first_not_text, labels_of, told_of, valued_told}
+use Rattle.fst_answer.specs.Answers.{NoneBefore, Stands, all_faults, place_of}
 use Rattle.fst_answer.specs.AnswerLaws.{HasOneAnswer}
 use Rattle.fst_answer.specs.declared.fault.LineFault.{LineFault}
 use Rattle.fst_answer.specs.declared.fault.LineFault.TheVariants.{BadByte, ImprovingCycle, NotText, Overflow, StateLimit, TooManyArcs}
-use Rattle.fst_answer.specs.declared.answer.LineAnswer.{LineAnswer}
 use Rattle.fst_answer.specs.declared.answer.LineAnswer.TheVariants.{Listed, Refused}
 
 -- what is told of paths is known by the values of the weights

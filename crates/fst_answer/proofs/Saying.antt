@@ -1,6 +1,6 @@
 -- What the first paths of a machine say, and the answer that is told of them.
-use Rattle.std.proofs.Common.{◌≡◌, ◌⊎◌, inl, inr, ℕ, ◌≤◌, List, [], ◌∷◌, ◌++◌, None, Some, map, slice_get, refl, sym, ap, ap₂, ◌∙◌, subst}
-use Rattle.fst_semiring.specs.Cost.{Cost, infinite}
+use Rattle.std.proofs.Common.{◌≡◌, inl, inr, ℕ, ◌≤◌, List, [], ◌∷◌, ◌++◌, Some, map, slice_get, refl, sym, ap, ap₂, ◌∙◌, subst}
+use Rattle.fst_semiring.specs.Cost.{Cost}
 use Rattle.fst_semiring.specs.Semiring.{InRange, times}
 use Rattle.fst_semiring.specs.declared.arc_type.ArcType.{ArcType}
 use Rattle.fst_machine.specs.BreadthFirst.{Has, IsBreadthFirst}
@@ -26,12 +26,11 @@ use Rattle.fst_nbest.proofs.Chained.{path_last, path_letters}
 use Rattle.fst_nbest.proofs.Remaining.{all_steps}
 use Rattle.fst_delayed.proofs.Keys.{Has-map}
 use Rattle.fst_batch.specs.Lattice.{HasNoZero, Point, lattice}
-use Rattle.fst_answer.specs.BestPaths.{Improves, Told, first_not_text, labels_of, told_of, valued_told}
+use Rattle.fst_answer.specs.BestPaths.{Improves, first_not_text, labels_of, told_of}
 use Rattle.fst_answer.specs.Answers.{IsAnswer}
 use Rattle.fst_answer.specs.Building.{AnswersWhole}
 use Rattle.fst_answer.specs.Filling.{IsMadeOf}
 use Rattle.fst_answer.specs.ToldChains.{AreInRange, Tells, chain_labels, chain_told, chain_weight}
-use Rattle.fst_answer.specs.declared.fault.LineFault.{LineFault}
 use Rattle.fst_answer.specs.declared.fault.LineFault.TheVariants.{BadByte, ImprovingCycle, NotText, Overflow, StateLimit, TooManyArcs}
 use Rattle.fst_answer.specs.declared.answer.LineAnswer.{LineAnswer}
 use Rattle.fst_answer.specs.declared.answer.LineAnswer.TheVariants.{Listed, Refused}

@@ -1,5 +1,5 @@
 -- What settles the answer of a line.
-use Rattle.std.proofs.Common.{◌≡◌, ◌⊎◌, inl, inr, ℕ, ◌<◌, ◌≤◌, List, [], ◌∷◌, Option, None, Some, length, map, refl, sym, ap, ◌∙◌, subst, arith}
+use Rattle.std.proofs.Common.{◌≡◌, ℕ, ◌<◌, ◌≤◌, List, [], Option, None, Some, map, refl, sym, ap, ◌∙◌, subst, arith}
 use Rattle.fst_semiring.specs.Cost.{Cost}
 use Rattle.fst_semiring.specs.Semiring.{InRange}
 use Rattle.fst_semiring.specs.declared.arc_type.ArcType.{ArcType}
@@ -14,11 +14,9 @@ use Rattle.fst_walk.specs.Answers.{HasManyArcs, ReachesMore}
 use Rattle.fst_walk.specs.Making.{IsReached, arcs_of}
 use Rattle.fst_walk.proofs.Refusing.{reached_few}
 use Rattle.fst_batch.specs.Lattice.{HasNoZero, Point, lattice}
-use Rattle.fst_answer.specs.BestPaths.{HasGreatWeight, Improves, IsListed, IsNotText, Told, first_not_text, labels_of, told_of, valued_told}
-use Rattle.fst_answer.specs.Answers.{IsAnswer, NoneBefore, Stands, all_faults, place_of}
-use Rattle.fst_answer.specs.declared.fault.LineFault.{LineFault}
+use Rattle.fst_answer.specs.BestPaths.{HasGreatWeight, Improves, IsNotText, Told, first_not_text, labels_of, told_of, valued_told}
+use Rattle.fst_answer.specs.Answers.{IsAnswer, NoneBefore, all_faults}
 use Rattle.fst_answer.specs.declared.fault.LineFault.TheVariants.{BadByte, ImprovingCycle, NotText, Overflow, StateLimit, TooManyArcs}
-use Rattle.fst_answer.specs.declared.answer.LineAnswer.{LineAnswer}
 use Rattle.fst_answer.specs.declared.answer.LineAnswer.TheVariants.{Listed, Refused}
 use Rattle.fst_answer.proofs.Numbered.{none_first}
 

@@ -8,7 +8,6 @@ use Rattle.fst_machine.specs.BreadthFirst.{Has}
 use Rattle.fst_machine.specs.Letters.{output, product}
 use Rattle.fst_nbest.specs.Chains.{Chain}
 use Rattle.fst_answer.specs.BestPaths.{Told, first_not_text, valued_told}
-use Rattle.fst_answer.specs.declared.fault.LineFault.{LineFault}
 use Rattle.fst_answer.specs.declared.fault.LineFault.TheVariants.{BadByte, ImprovingCycle, NotText, Overflow, StateLimit, TooManyArcs}
 use Rattle.fst_answer.specs.declared.answer.LineAnswer.{LineAnswer}
 use Rattle.fst_answer.specs.declared.answer.LineAnswer.TheVariants.{Listed, Refused}

@@ -1,4 +1,4 @@
-use Rattle.std.proofs.Common.{◌≡◌, [], ℕ, List, length, sym, ap, ◌∙◌, subst}
+use Rattle.std.proofs.Common.{ℕ, List, length, sym, ap, ◌∙◌, subst}
 use Rattle.std.proofs.lemmas.Result.{IfOk-weaker}
 use Rattle.fst_delayed.specs.Caches.{keys}
 use Rattle.fst_delayed.specs.Graphs.{delayed_graph}
@@ -9,7 +9,6 @@ use Rattle.fst_delayed.specs.Handed.{Name}
 use Rattle.fst_batch.specs.Lattice.{Point, lattice}
 use Rattle.fst_answer.specs.Building.{AnswersWhole, IsWhole}
 use Rattle.fst_answer.specs.declared.fault.LineFault.TheVariants.{StateLimit}
-use Rattle.fst_answer.specs.declared.answer.LineAnswer.{LineAnswer}
 use Rattle.fst_answer.specs.declared.answer.LineAnswer.TheVariants.{Listed, Refused}
 use Rattle.fst_answer.proofs.Lattices.{going_clear, going_empty, going_reached, going_whole, stopped_more}
 use Rattle.fst_answer.proofs.Settling.{empty_answer, limit_answer}

@@ -1,8 +1,7 @@
-use Rattle.std.proofs.Common.{◌≡◌, ◌+◌, ◌<◌, ◌≤◌, ℕ, List, length, sym, ap, ◌∙◌, subst, arith}
+use Rattle.std.proofs.Common.{ℕ, List, length, sym, ap, ◌∙◌, subst, arith}
 use Rattle.std.specs.List.{All}
 use Rattle.fst_machine.specs.Machine.{Arc, IsArc, changed}
 use Rattle.fst_answer.specs.Filling.{filled}
-use Rattle.std.specs.Prelude.{MatchOption}
 use Rattle.fst_delayed.specs.Caches.{keys}
 use Rattle.fst_batch.specs.Lattice.{point}
 use Rattle.fst_answer.proofs.Wholes.{whole_arcs, whole_found, whole_held, whole_key, whole_many, whole_more, whole_small}

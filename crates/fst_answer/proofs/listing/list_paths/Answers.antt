@@ -1,5 +1,4 @@
-use Rattle.std.proofs.Common.{◌≡◌, ◌+◌, ◌≤◌, None, Some, length, map, take, refl, sym, ap, ◌∙◌, subst, arith}
-use Rattle.std.proofs.lemmas.List.{length-map}
+use Rattle.std.proofs.Common.{None, Some, map, refl, sym, ◌∙◌, subst}
 use Rattle.fst_semiring.specs.Semiring.{InRange}
 use Rattle.fst_machine.specs.Graph.{graph_of}
 use Rattle.fst_machine.specs.Machine.{valued}
@@ -7,8 +6,8 @@ use Rattle.fst_machine.specs.Steps.{written}
 use Rattle.fst_machine.proofs.Arcs.{at_mapped}
 use Rattle.fst_machine.proofs.Elements.{at_Has}
 use Rattle.fst_nbest.specs.Chains.{chain_of}
-use Rattle.fst_nbest.proofs.Remaining.{chains-length, path_there}
-use Rattle.fst_answer.proofs.Texts.{all_known, none_known, own_told, range_more, some_known, told_known, told_more, wrong_known, wrong_now, wrong_stays}
+use Rattle.fst_nbest.proofs.Remaining.{path_there}
+use Rattle.fst_answer.proofs.Texts.{none_known, own_told, range_more, some_known, told_more, wrong_now, wrong_stays}
 use Rattle.fst_answer.proofs.Weighed.{starts_somewhere}
 use Rattle.fst_answer.proofs.listing.list_paths.Goals as goal
 

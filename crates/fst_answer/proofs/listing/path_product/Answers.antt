@@ -1,9 +1,9 @@
-use Rattle.std.proofs.Common.{◌≡◌, ◌+◌, ◌-◌, ◌*◌, ◌≤◌, ℕ, length, drop, sym, ap, ◌∙◌, subst, arith}
+use Rattle.std.proofs.Common.{◌≡◌, ◌-◌, ◌*◌, ℕ, sym, ap, ◌∙◌, subst, arith}
 use Rattle.fst_semiring.specs.Cost.{Cost}
 use Rattle.fst_semiring.specs.Semiring.{Within}
 use Rattle.fst_semiring.proofs.Ranges.{Within-more}
 use Rattle.fst_machine.specs.Graph.{graph_of}
-use Rattle.fst_machine.specs.Letters.{letter_of, product}
+use Rattle.fst_machine.specs.Letters.{letter_of}
 use Rattle.fst_machine.specs.Machine.{Arc, valued, valued_arc}
 use Rattle.fst_machine.specs.Steps.{written}
 use Rattle.fst_nbest.specs.Chains.{arc_at, chain_of}

@@ -1,4 +1,4 @@
-use Rattle.std.proofs.Common.{◌≡◌, ◌∷◌, ◌++◌, [], ℕ, List, Some, ap, sym, ◌∙◌, arith}
+use Rattle.std.proofs.Common.{◌≡◌, ◌∷◌, ◌++◌, [], ℕ, Some, ap, sym, ◌∙◌}
 use Rattle.fst_semiring.specs.Cost.{Cost}
 use Rattle.fst_machine.specs.Graph.{graph_of}
 use Rattle.fst_machine.specs.Letters.{letter_of, output}

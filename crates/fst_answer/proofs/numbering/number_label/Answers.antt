@@ -1,4 +1,4 @@
-use Rattle.std.proofs.Common.{◌∷◌, List, Some, map, take, sym, ap, ◌∙◌, subst, arith}
+use Rattle.std.proofs.Common.{List, Some, map, sym, ap, ◌∙◌, subst, arith}
 use Rattle.std.proofs.lemmas.List.{take_all}
 use Rattle.std.proofs.lemmas.Option.{slice_get-get_or}
 use Rattle.fst_machine.specs.Machine.{valued_arc}

@@ -1,4 +1,4 @@
-use Rattle.std.proofs.Common.{◌++◌, [], List, map, slice_get, ap, subst}
+use Rattle.std.proofs.Common.{◌++◌, [], List, map, slice_get, subst}
 use Rattle.std.proofs.lemmas.Result.{on_ok_weaker}
 use Rattle.fst_machine.specs.Machine.{valued_arc}
 use Rattle.fst_walk.specs.Names.{key_arc}
