@@ -13,3 +13,4 @@ pub mod Turns
 pub mod Joining
 pub mod Gathering
 pub mod Rounds
+pub mod Places

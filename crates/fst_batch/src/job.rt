@@ -104,6 +104,27 @@ impl Job {
         self.index
     }
 
+    /// How far it has come. Takes no memory.
+    pub fn stage(&self) -> Stage
+        ensures { result ≡ self.now.stage }
+    {
+        self.stage
+    }
+
+    /// The greatest number of names that its lattice may have. Takes no memory.
+    pub fn limit(&self) -> u32
+        ensures { result ≡ self.now.limit }
+    {
+        self.limit
+    }
+
+    /// The names that it has found. Takes no memory.
+    pub fn points(&self) -> &Points
+        ensures { result.now ≡ self.now.points }
+    {
+        &self.points
+    }
+
     /// Whether its walk is over. Takes no memory.
     pub fn is_over(&self) -> bool
         ensures over { result ≡ true → IsOver self.now }

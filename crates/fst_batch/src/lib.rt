@@ -25,6 +25,7 @@ pub use gate::{Gate, OpenGate};
 pub use job::Job;
 pub use lines::Lines;
 pub use phasing::{PhaseReport, phase};
+pub use points::Points;
 pub use stage::Stage;
 pub use state::JobState;
 pub use worker::Worker;

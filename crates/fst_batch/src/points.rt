@@ -1,7 +1,7 @@
 //! The names of a lattice that a walk has found.
 
-ghost use Rattle.std.specs.Prelude.{◌≡◌, ◌⊎◌, ◌+◌, ◌<◌, ◌≤◌, ◌∷◌, [], IfOk, MatchBool, Some, length, slice_get};
-ghost use Rattle.fst_machine.specs.BreadthFirst.{Grows};
+ghost use Rattle.std.specs.Prelude.{◌≡◌, ◌⊎◌, ◌+◌, ◌<◌, ◌≤◌, ◌∷◌, [], IfOk, MatchBool, MatchOption, Some, length, slice_get};
+ghost use Rattle.fst_machine.specs.BreadthFirst.{Grows, Has};
 ghost use Rattle.fst_walk.specs.Making.{Passes};
 ghost use Rattle.fst_batch.specs.Lattice.{point};
 
@@ -41,7 +41,7 @@ fn put_point(keys: &mut IndexSet<PointKey>, key: PointKey) -> Result<usize, Allo
 
 /// Names of a lattice, each once, in the order in which they were found. A name is looked up by its hash.
 #[derive(Drop)]
-pub(crate) struct Points {
+pub struct Points {
     keys: IndexSet<PointKey>,
 }
 
@@ -84,18 +84,24 @@ impl Points {
     }
 
     /// The number of names. Takes no memory.
-    pub(crate) fn len(&self) -> usize
+    pub fn len(&self) -> usize
         ensures { result ≡ length self.now }
     {
         self.keys.len()
     }
 
     /// The name in a place, from 0: its position, and its name in the composition. Takes no memory.
-    pub(crate) fn item(&self, index: usize) -> (u64, ComposeKey)
+    pub fn item(&self, index: usize) -> (u64, ComposeKey)
         requires { index < length self.now }
         ensures { slice_get self.now index ≡ Some (point result.0 result.1) }
     {
         let key = &self.keys[index];
         (key.position, key.name)
+    }
+    /// The place of a name, from 0; `None` exactly where it was not found. Takes no memory.
+    pub fn place(&self, position: u64, name: ComposeKey) -> Option<usize>
+        ensures { MatchOption result (Has self.now (point position name) → ⊥) (λ place. slice_get self.now place ≡ Some (point position name)) }
+    {
+        self.keys.get_index_of(&PointKey { position, name })
     }
 }

@@ -376,7 +376,7 @@ chained_IsChained kind v listed (d ∷ ds) fits good = some_IsChained kind v d d
 
 -- ---- what listed paths say
 
-path_letters : {N : Type 0} (g : Graph N) (path : List (Transition N)) (p q : N) → IsPath g p path q → map (λ (s : N × ℕ). letter_of (arc_at g s)) (places path) ≡ letters path
+pub path_letters : {N : Type 0} (g : Graph N) (path : List (Transition N)) (p q : N) → IsPath g p path q → map (λ (s : N × ℕ). letter_of (arc_at g s)) (places path) ≡ letters path
 path_letters g [] p q here = refl
 path_letters {N} g (t ∷ path) p q leads = ap₂ (λ (a : Arc Cost N) (ls : List Letter). letter_of a ∷ ls) (step_is g p t leads.0) (path_letters g path t.arc.next q leads.1)
   where
@@ -391,7 +391,7 @@ path_end {N} g (t ∷ path) p q leads =
 
 module _ {N : Type 0} (kind : ArcType) (g : Graph N) where
   -- the final weight of a successful path's end
-  path_last : (path : List (Transition N)) (w : Cost) (h : IsSuccessful kind g path w) → last_weight g g.start (places path) ≡ g.final h.last
+  pub path_last : (path : List (Transition N)) (w : Cost) (h : IsSuccessful kind g path w) → last_weight g g.start (places path) ≡ g.final h.last
   path_last path w h = ap (λ (o : Option N). last_weight g o (places path)) h.starts ∙ ap (λ (q : N). g.final q) (path_end g path h.first h.last h.leads)
 
   -- the chains of successful paths fit them, and are good

@@ -1,0 +1,12 @@
+pub mod OneAnswer
+pub mod Numbered
+pub mod Lines
+pub mod Filled
+pub mod Continuing
+pub mod Reaching
+pub mod Lattices
+pub mod Settling
+pub mod Saying
+pub mod Weighed
+pub mod Texts
+pub mod Wholes

@@ -1,0 +1,101 @@
+//! The arcs of a name of a lattice, to the numbers of names.
+
+ghost use Rattle.std.specs.Prelude.{◌≡◌, ◌+◌, ◌≤◌, ◌∷◌, [], ℕ, OnOk, Some, length, map, slice_get};
+ghost use Rattle.std.specs.List.{AllZip};
+ghost use Rattle.fst_machine.specs.BreadthFirst.{Has};
+ghost use Rattle.fst_machine.specs.Graph.{nexts};
+ghost use Rattle.fst_machine.specs.Machine.{most_states, valued_arc};
+ghost use Rattle.fst_walk.specs.Making.{IsNumberedArc};
+ghost use Rattle.fst_walk.specs.Names.{key_arc};
+ghost use Rattle.fst_delayed.specs.Handed.{Name};
+ghost use Rattle.fst_batch.specs.Lattice.{Point, byte_arcs, point, point_arcs};
+ghost use Rattle.fst_batch.specs.Walks.{label_arcs};
+ghost use Rattle.fst_answer.specs.Building.{AreFound};
+ghost use Rattle.fst_answer.specs.Filling.{Continues};
+
+use fst_batch::Points;
+use fst_delayed::KeyArc;
+use fst_machine::{FstArc, WideArc};
+use fst_semiring::Weight;
+use std::alloc::AllocError;
+
+/// Puts an arc that reads a label, to the number of its next name at a position; no other arc.
+fn number_one<W: Weight>(
+    out: &mut Vec<WideArc<W>>,
+    points: &Points,
+    arc: &KeyArc<W>,
+    label: u32,
+    position: u64,
+) -> Result<(), AllocError>
+    requires few { length points.now ≤ most_states }
+    requires found { arc.now.ilabel ≡ label → Has points.now (point position arc.now.next) }
+    ensures { OnOk result (Continues points.now (label_arcs label position (key_arc W.wide_value arc.now ∷ [])) (map (valued_arc W.wide_value) out.old.items) (map (valued_arc W.wide_value) out.new.items)) }
+{
+    if arc.ilabel != label {
+        return Ok(());
+    }
+    let Some(place) = points.place(position, arc.next) else {
+        unreachable!()
+    };
+    out.push(FstArc {
+        ilabel: arc.ilabel,
+        olabel: arc.olabel,
+        weight: arc.weight,
+        next: place as u32,
+    })?;
+    Ok(())
+}
+
+/// Puts those of the arcs that read a label, to the numbers of their next names at a position.
+fn number_label<W: Weight>(
+    out: &mut Vec<WideArc<W>>,
+    points: &Points,
+    arcs: &[KeyArc<W>],
+    label: u32,
+    position: u64,
+) -> Result<(), AllocError>
+    requires few { length points.now ≤ most_states }
+    requires found { AreFound points.now label position (map (key_arc W.wide_value) arcs.now) }
+    ensures { OnOk result (Continues points.now (label_arcs label position (map (key_arc W.wide_value) arcs.now)) (map (valued_arc W.wide_value) out.old.items) (map (valued_arc W.wide_value) out.new.items)) }
+{
+    for arc in arcs {
+        number_one(out, points, arc, label, position)?;
+    }
+    Ok(())
+}
+
+/// Puts those of the arcs that read the byte behind a position, if there is one.
+fn number_byte<W: Weight>(
+    out: &mut Vec<WideArc<W>>,
+    points: &Points,
+    arcs: &[KeyArc<W>],
+    line: &[u8],
+    position: u64,
+) -> Result<(), AllocError>
+    requires few { length points.now ≤ most_states }
+    requires found { (byte : ℕ) → slice_get line.now position ≡ Some byte → AreFound points.now byte (position + 1) (map (key_arc W.wide_value) arcs.now) }
+    ensures { OnOk result (Continues points.now (byte_arcs (slice_get line.now position) position (map (key_arc W.wide_value) arcs.now)) (map (valued_arc W.wide_value) out.old.items) (map (valued_arc W.wide_value) out.new.items)) }
+{
+    if position >= line.len() as u64 {
+        return Ok(());
+    }
+    let byte = line[position as usize];
+    number_label(out, points, arcs, u32::from(byte), position + 1)
+}
+
+/// Fills a list with the arcs of a name of a lattice, to the numbers of names. Its name in the composition has these arcs.
+pub(crate) fn number_point<W: Weight>(
+    out: &mut Vec<WideArc<W>>,
+    points: &Points,
+    arcs: &[KeyArc<W>],
+    line: &[u8],
+    position: u64,
+) -> Result<(), AllocError>
+    requires few { length points.now ≤ most_states }
+    requires found { (n : Point (Name ℕ ℕ)) → Has (nexts (point_arcs line.now position (map (key_arc W.wide_value) arcs.now))) n → Has points.now n }
+    ensures { OnOk result (AllZip (IsNumberedArc points.now) (point_arcs line.now position (map (key_arc W.wide_value) arcs.now)) (map (valued_arc W.wide_value) out.new.items)) }
+{
+    out.clear();
+    number_byte(out, points, arcs, line, position)?;
+    number_label(out, points, arcs, 0, position)
+}
