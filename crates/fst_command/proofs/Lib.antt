@@ -23,7 +23,9 @@ mod DecidingSizes
 mod DecidingCoding
 mod DecidingComposing
 mod DecidingDeterminizing
+mod DecidingRemoving
 mod OneOutcome
 mod Exactly
 mod Determinized
 mod Measured
+mod Removed

@@ -13,6 +13,7 @@ pub mod Replacing
 pub mod Composing
 pub mod Determinizing
 pub mod Measuring
+pub mod Removing
 pub mod Coding
 pub mod Commands
 pub mod Plans

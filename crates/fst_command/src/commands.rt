@@ -15,6 +15,7 @@ mod describing;
 mod determinizing;
 mod measuring;
 mod rational;
+mod removing;
 mod replacing;
 mod texts;
 mod trimming;
@@ -57,9 +58,9 @@ pub(crate) fn made<W: Weight>(
         Verb::Compose => composing::composed(alloc, &plan.options, given),
         Verb::Determinize => determinizing::determinized(alloc, &plan.options, given),
         Verb::Encode => coding::coded(alloc, &plan.options, given),
+        Verb::Rmepsilon => removing::removed(alloc, &plan.options, given, queues),
         Verb::Shortestdistance => measuring::measured(alloc, &plan.options, given, queues),
-        Verb::Rmepsilon
-        | Verb::Shortestpath
+        Verb::Shortestpath
         | Verb::Push
         | Verb::Minimize
         | Verb::Batch

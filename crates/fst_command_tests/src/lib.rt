@@ -16,6 +16,8 @@ mod desks;
 #[cfg(test)]
 mod distances;
 #[cfg(test)]
+mod epsilon_arcs;
+#[cfg(test)]
 mod faults;
 #[cfg(test)]
 mod forms;
@@ -23,6 +25,8 @@ mod forms;
 mod operations;
 #[cfg(test)]
 mod plans;
+#[cfg(test)]
+mod queues;
 #[cfg(test)]
 mod replacement;
 #[cfg(test)]

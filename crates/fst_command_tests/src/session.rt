@@ -36,7 +36,7 @@ pub(crate) enum Row {
 }
 
 /// The words of a line, one by one.
-fn split(alloc: Global, line: &str) -> Result<Vec<String>, AllocError> {
+pub(crate) fn split(alloc: Global, line: &str) -> Result<Vec<String>, AllocError> {
     let mut words = Vec::new(alloc);
     for word in line.split_whitespace() {
         words.push(String::from_str(alloc, word)?)?;
