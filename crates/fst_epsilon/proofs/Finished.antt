@@ -1,5 +1,5 @@
 -- The whole result.
-use Rattle.std.proofs.Common.{◌≡◌, ◌⊎◌, inl, inr, ℕ, ◌<◌, ◌≤◌, List, [], ◌∷◌, Option, None, Some, length, get_or, slice_get, refl, sym, ap, ◌∙◌, subst, arith}
+use Rattle.std.proofs.Common.{◌≡◌, ◌⊎◌, inl, inr, ℕ, ◌<◌, ◌≤◌, List, [], ◌∷◌, Option, None, Some, length, get_or, slice_get, sym, ap, ◌∙◌, subst, arith}
 use Rattle.std.specs.Prelude.{◌↔◌, IfSome}
 use Rattle.std.specs.List.{All}
 use Rattle.std.proofs.lemmas.Bool.{cases_lt}
@@ -7,19 +7,17 @@ use Rattle.std.proofs.lemmas.List.{get_or_past}
 use Rattle.std.proofs.lemmas.Option.{get_or_from_slice_get, same_Some, slice_get-get_or, slice_get_within}
 use Rattle.fst_semiring.specs.Cost.{Cost, infinite}
 use Rattle.fst_semiring.specs.declared.arc_type.ArcType.{ArcType}
-use Rattle.fst_semiring.specs.Semiring.{times}
 use Rattle.fst_semiring.proofs.Laws.{one_not_zero, times_only_zero}
 use Rattle.fst_machine.specs.BreadthFirst.{Has}
-use Rattle.fst_machine.specs.Cycles.{IsAccessible, IsImprovingCycle}
-use Rattle.fst_machine.specs.Distance.{AllArcs, EpsilonArc, Reaches}
-use Rattle.fst_machine.specs.Graph.{Graph, graph_of, no_state}
+use Rattle.fst_machine.specs.Cycles.{IsAccessible}
+use Rattle.fst_machine.specs.Distance.{EpsilonArc}
+use Rattle.fst_machine.specs.Graph.{graph_of, no_state}
 use Rattle.fst_machine.specs.Letters.{product}
 use Rattle.fst_machine.specs.Machine.{Arc, IsArc, IsMachine, Machine, State, arc_total, greatest_label, most_arcs}
 use Rattle.fst_machine.specs.Paths.{IsPath, Transition, letters}
 use Rattle.fst_machine.specs.Relation.{IsWeight}
-use Rattle.fst_machine.proofs.Elements.{at_Has}
 use Rattle.fst_epsilon.specs.Answers.{AreRemoved, HasNoEpsilons, IsGathered, IsRemovedMachine, IsRemovedState, KeepsWeights, NoSilentCycle}
-use Rattle.fst_epsilon.specs.Construction.{IsRemoved, best_final, collected, merged}
+use Rattle.fst_epsilon.specs.Construction.{IsRemoved}
 use Rattle.fst_epsilon.specs.Removal.{IsBehind}
 use Rattle.fst_epsilon.proofs.Closures.{all_from}
 use Rattle.fst_epsilon.proofs.Exact.{arc_from, removed_removes}

@@ -8,8 +8,8 @@ use Rattle.fst_semiring.specs.Cost.{Cost, infinite, plus}
 use Rattle.fst_semiring.specs.declared.arc_type.ArcType.{ArcType}
 use Rattle.fst_semiring.specs.Semiring.{times}
 use Rattle.fst_semiring.proofs.Order.{plus_assoc, plus_comm}
-use Rattle.fst_machine.specs.Graph.{Graph, graph_of, no_state}
-use Rattle.fst_machine.specs.Machine.{Arc, Machine, State, valued, valued_arc, valued_state}
+use Rattle.fst_machine.specs.Graph.{Graph, no_state}
+use Rattle.fst_machine.specs.Machine.{Arc, State, valued_arc, valued_state}
 use Rattle.fst_epsilon.specs.Construction.{behind_arc, best_final, collected, is_silent, merged, put_arc, spoken}
 
 -- the arcs of a state that was read are those of the graph

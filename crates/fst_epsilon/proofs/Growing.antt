@@ -1,7 +1,6 @@
 -- The result grows by a state.
-use Rattle.std.proofs.Common.{◌≡◌, ◌⊎◌, inl, inr, ℕ, ◌+◌, ◌<◌, ◌≤◌, ◌^◌, min, zero, suc, List, [], ◌∷◌, ◌++◌, Option, None, Some, length, take, slice_get, refl, sym, ap, ◌∙◌, subst, arith}
+use Rattle.std.proofs.Common.{◌≡◌, ◌⊎◌, inl, inr, ℕ, ◌+◌, ◌<◌, ◌≤◌, min, zero, suc, List, [], ◌∷◌, ◌++◌, Option, None, Some, true, false, true≢false, is_some, length, take, slice_get, refl, sym, ap, ◌∙◌, subst, arith}
 use Rattle.std.specs.List.{All}
-use Rattle.std.specs.Prelude.{MatchOption}
 use Rattle.std.proofs.lemmas.Bool.{cases_lt}
 use Rattle.std.proofs.lemmas.List.Elements.{All-nil, All-push}
 use Rattle.std.proofs.lemmas.List.Sums.{sum_by-append}
@@ -9,7 +8,7 @@ use Rattle.std.proofs.lemmas.Option.{same_Some, slice_get_within}
 use Rattle.fst_semiring.specs.Cost.{Cost}
 use Rattle.fst_semiring.specs.declared.arc_type.ArcType.{ArcType}
 use Rattle.fst_machine.specs.Graph.{Graph}
-use Rattle.fst_machine.specs.Machine.{Machine, State, arc_total, most_arcs}
+use Rattle.fst_machine.specs.Machine.{State, arc_total, most_arcs}
 use Rattle.fst_machine.specs.Narrowing.{IsFirstPast, IsInRange}
 use Rattle.fst_machine.proofs.Arcs.{append_at, at_append_left, at_append_right}
 use Rattle.fst_epsilon.specs.Answers.{AreRemoved, IsRemovedState}
@@ -31,7 +30,7 @@ take_whole (x ∷ xs) ys = ap (λ zs. x ∷ zs) (take_whole xs ys)
 pub made_nothing : (kept : List (State Cost)) → kept ≡ [] → IsMade [] kept 0 None
 made_nothing kept e = record { few = λ low. refl; many = λ high. absurd (omega (arith, high)); range = λ low. All-nil IsInRange; all_kept = λ low none. e }
 
-module _ (all kept : List (State Cost)) (total count : ℕ) (s : State Cost) (size : count ≡ min (total + length s.arcs) (2 ^ 64 - 1)) where
+module _ (all kept : List (State Cost)) (total count : ℕ) (s : State Cost) (size : count ≡ min (total + length s.arcs) 18446744073709551615) where
   few_more : (total ≤ most_arcs → total ≡ arc_total all) → count ≤ most_arcs → count ≡ arc_total (all ++ s ∷ [])
   few_more few low = let was = few (omega (arith, size, low)) in let more = total_more all s in omega (arith, size, low, was, more)
 
@@ -69,8 +68,8 @@ module _ (all kept : List (State Cost)) (total count : ℕ) (s : State Cost) (si
       }
 
   -- the first that is out of range
-  pub made_out : (place : ℕ) → length all ≡ place → IsMade all kept total None → (IsInRange s → ⊥) → IsMade (all ++ s ∷ []) kept count (Some place)
-  made_out place at made past = record {
+  pub made_out : (new : List (State Cost)) (place : ℕ) → length all ≡ place → IsMade all kept total None → (IsInRange s → ⊥) → IsMade (all ++ s ∷ []) new count (Some place)
+  made_out new place at made past = record {
     few = few_more made.few;
     many = many_more made.few made.many;
     range = λ low. record {
@@ -90,6 +89,19 @@ module _ (all kept : List (State Cost)) (total count : ℕ) (s : State Cost) (si
     range = λ low. All-push IsInRange all s (made.range (omega (arith, size, low))) fits;
     all_kept = λ low none. put ∙ ap (λ (zs : List (State Cost)). zs ++ s ∷ []) (made.all_kept (omega (arith, size, low)) refl);
   }
+
+  -- the same, whether one was out of range or not
+  pub after_past : (overflow : Option ℕ) → is_some overflow ≡ true → IsMade all kept total overflow → IsMade (all ++ s ∷ []) kept count overflow
+  after_past None some made = absurd (true≢false (sym some))
+  after_past (Some place) some made = made_past place made
+
+  pub after_none_out : (overflow : Option ℕ) (new : List (State Cost)) (place : ℕ) → is_some overflow ≡ false → length all ≡ place → IsMade all kept total overflow → (IsInRange s → ⊥) → IsMade (all ++ s ∷ []) new count (Some place)
+  after_none_out None new place none at made past = made_out new place at made past
+  after_none_out (Some first) new place none at made past = absurd (true≢false none)
+
+  pub after_none : (overflow : Option ℕ) (new : List (State Cost)) → is_some overflow ≡ false → IsMade all kept total overflow → IsInRange s → new ≡ kept ++ s ∷ [] → IsMade (all ++ s ∷ []) new count overflow
+  after_none None new none made fits put = made_more new made fits put
+  after_none (Some first) new none made fits put = absurd (true≢false none)
 
   -- there is room for it
   pub room : IsMade all kept total None → count ≤ most_arcs → arc_total kept + length s.arcs ≤ most_arcs

@@ -1,22 +1,19 @@
 -- A machine has one machine without epsilon arcs, and one thing stands against it.
-use Rattle.std.proofs.Common.{◌≡◌, ◌⊎◌, inl, inr, ℕ, ◌+◌, ◌<◌, ◌≤◌, zero, suc, List, [], ◌∷◌, ◌++◌, Option, None, Some, Result, Err, Ordering, Less, Equal, length, map, get_or, slice_get, refl, sym, ap, ap₂, ◌∙◌, subst, arith}
+use Rattle.std.proofs.Common.{◌≡◌, ◌⊎◌, inl, inr, ℕ, ◌+◌, ◌<◌, ◌≤◌, suc, List, [], ◌∷◌, ◌++◌, Some, Result, Err, Ordering, Less, Equal, length, map, get_or, slice_get, refl, sym, ap, ap₂, ◌∙◌, subst, arith}
 use Rattle.std.proofs.lemmas.Option.{slice_get-get_or}
 use Rattle.std.proofs.lemmas.List.Sums.{sum_by-append}
-use Rattle.fst_semiring.specs.Cost.{Cost, cost_cmp, infinite}
+use Rattle.fst_semiring.specs.Cost.{Cost}
 use Rattle.fst_semiring.specs.declared.arc_type.ArcType.{ArcType}
 use Rattle.fst_semiring.specs.Semiring.{one_of}
 use Rattle.fst_semiring.proofs.Order.{cost_cmp_same}
 use Rattle.fst_machine.specs.BreadthFirst.{Has}
-use Rattle.fst_machine.specs.Cycles.{IsAccessible, IsImprovingCycle}
-use Rattle.fst_machine.specs.Distance.{AllArcs, EpsilonArc, IsDistance, Reaches}
+use Rattle.fst_machine.specs.Distance.{EpsilonArc, Reaches}
 use Rattle.fst_machine.specs.Graph.{Graph, graph_of, no_state}
 use Rattle.fst_machine.specs.Machine.{Machine, State, arc_total, most_arcs}
 use Rattle.fst_machine.specs.Narrowing.{IsFirstPast, IsInRange}
-use Rattle.fst_machine.specs.Paths.{Transition}
 use Rattle.fst_machine.proofs.Arcs.{mapped_at}
 use Rattle.fst_machine.proofs.Cycles.{state_below}
-use Rattle.fst_machine.proofs.Elements.{at_Has}
-use Rattle.fst_machine.proofs.Narrowing.{all_at, cause_exact, made_exact}
+use Rattle.fst_machine.proofs.Narrowing.{all_at, cause_exact}
 use Rattle.fst_machine.specs.declared.narrow.NarrowFault.{NarrowFault}
 use Rattle.fst_machine.specs.declared.narrow.NarrowFault.TheVariants as narrow
 use Rattle.fst_machine.proofs.OneMachine.{one_ascending, one_state}

@@ -1,8 +1,8 @@
 -- Arcs are put beside what makes them alike.
-use Rattle.std.proofs.Common.{◌≡◌, ◌⊎◌, inl, inr, ℕ, ◌+◌, ◌&&◌, ◌||◌, Bool, true, false, true≢false, cond, if◌then◌else◌, zero, suc, List, [], ◌∷◌, ◌++◌, eqb, eqb-true, eq-eqb, map, set, get_or, length, refl, sym, ap, ◌∙◌, subst, arith}
+use Rattle.std.proofs.Common.{◌≡◌, ℕ, ◌+◌, ◌&&◌, ◌||◌, Bool, true, false, true≢false, cond, if◌then◌else◌, zero, suc, List, [], ◌∷◌, ◌++◌, eqb, eqb-true, eq-eqb, map, set, get_or, refl, sym, ap, ◌∙◌, subst, arith}
 use Rattle.std.specs.Prelude.{not}
 use Rattle.std.specs.List.{list_any, position_or_len}
-use Rattle.std.proofs.lemmas.Bool.{and_from, and_parts, cases_Bool}
+use Rattle.std.proofs.lemmas.Bool.{and_from, and_parts}
 use Rattle.indexmap.specs.IndexSet.{insert_key}
 use Rattle.std.proofs.lemmas.List.{map-append}
 use Rattle.fst_semiring.specs.Cost.{Cost, plus}

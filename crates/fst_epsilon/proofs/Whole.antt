@@ -1,7 +1,7 @@
 -- From what the code holds to the whole result.
-use Rattle.std.proofs.Common.{◌≡◌, ◌⊎◌, inl, inr, ℕ, ◌+◌, ◌*◌, ◌<◌, ◌≤◌, List, Result, Ok, Err, [], ◌∷◌, ◌++◌, Option, None, Some, length, map, slice_get, refl, sym, ap, ◌∙◌, subst, arith}
+use Rattle.std.proofs.Common.{◌≡◌, inl, inr, ℕ, ◌+◌, ◌*◌, ◌<◌, ◌≤◌, List, Result, Ok, Err, [], ◌∷◌, ◌++◌, Option, None, Some, length, map, slice_get, refl, sym, ap, ◌∙◌, subst, arith}
 use Rattle.std.specs.List.{All}
-use Rattle.std.specs.Prelude.{IfOk, OnOk}
+use Rattle.std.specs.Prelude.{IfErr, IfOk, OnOk}
 use Rattle.std.specs.List.Sorted.{IsNonDecreasingBy, IsPermutation}
 use Rattle.std.proofs.lemmas.List.{length-append}
 use Rattle.std.proofs.lemmas.List.Sorted.{IsPermutation-map}
@@ -12,15 +12,14 @@ use Rattle.fst_semiring.specs.Semiring.{IsWide}
 use Rattle.fst_semiring.proofs.Ranges.{Within-more}
 use Rattle.fst_machine.specs.BreadthFirst.{Has}
 use Rattle.fst_machine.specs.Cycles.{IsAccessible}
-use Rattle.fst_machine.specs.Distance.{EpsilonArc, Reaches}
-use Rattle.fst_machine.specs.Graph.{Graph, graph_of, no_state}
-use Rattle.fst_machine.specs.Machine.{Arc, IsMachine, Machine, State, arc_total, most_arcs, most_states}
+use Rattle.fst_machine.specs.Graph.{Graph, graph_of}
+use Rattle.fst_machine.specs.Machine.{IsMachine, Machine, State, most_arcs, most_states}
 use Rattle.fst_machine.specs.Narrowing.{IsFirstPast}
 use Rattle.fst_machine.specs.declared.path.Step.{Step}
 use Rattle.fst_machine.proofs.Arcs.{mapped_at}
 use Rattle.fst_machine.proofs.PathParts.{IsPath-append}
 use Rattle.fst_distance.specs.Closure.{IsClosure, IsSilentCycle, Reached, valued_reached}
-use Rattle.fst_epsilon.specs.Answers.{IsFine, IsGathered, IsImprovingSilently, IsRemovedMachine, IsRemovedState, Stops}
+use Rattle.fst_epsilon.specs.Answers.{IsFine, IsImprovingSilently, IsRemovedMachine, IsRemovedState, Stops}
 use Rattle.fst_epsilon.specs.Construction.{IsClosureList, best_final, collected, merged}
 use Rattle.fst_epsilon.specs.Gathering.{pairs_of, rank}
 use Rattle.fst_epsilon.specs.Making.{IsMade, IsRemoving}
@@ -59,7 +58,7 @@ module _ {D : Type 0} (wide : D → Cost) (kind : ArcType) (m : Machine Cost) (g
   stand = all_stand kind (graph_of m) q bound (map (valued_reached wide) old) (map (valued_reached wide) new) c moved ranked
 
   stands : (r : Reached D) → Has new r → Stands kind (graph_of m) q bound (map (valued_reached wide) old) (map (valued_reached wide) new) c moved ranked (valued_reached wide r)
-  stands r h = all_has _ (map (valued_reached wide) new) (valued_reached wide r) stand (Has_mapped (valued_reached wide) new r h)
+  stands r h = all_has (Stands kind (graph_of m) q bound (map (valued_reached wide) old) (map (valued_reached wide) new) c moved ranked) (map (valued_reached wide) new) (valued_reached wide r) stand (Has_mapped (valued_reached wide) new r h)
 
   pub sorted_closure : IsClosureList kind (graph_of m) q (pairs_of wide new)
   sorted_closure = subst (IsClosureList kind (graph_of m) q) (sym (pairs_same wide new)) (closure_list kind (graph_of m) q bound (map (valued_reached wide) old) (map (valued_reached wide) new) c moved ranked)
@@ -144,3 +143,14 @@ module _ (kind : ArcType) (m : Machine Cost) (good : IsMachine (λ (v : Cost). v
 pub passes_ok : {X E : Type 0} (kind : ArcType) (m : Machine Cost) (view : X → Machine Cost) (r : Result X E) → IfOk r (λ x. IsFine kind m (view x)) → OnOk r ((fault : EpsilonFault) → Stops kind m fault → ⊥)
 passes_ok kind m view (Ok x) fine = fine_passes kind m (view x) fine
 passes_ok kind m view (Err e) fine = tt
+
+-- ---- what an answer says, once it is known
+
+pub in_ok : {T E : Type 0} (r : Result T E) (x : T) (P : T → Type 0) → r ≡ Ok x → IfOk r P → P x
+in_ok r x P e h = subst (λ (s : Result _ _). IfOk s P) e h
+
+pub on_ok : {T E : Type 0} (r : Result T E) (x : T) (P : Type 0) → r ≡ Ok x → OnOk r P → P
+on_ok r x P e h = subst (λ (s : Result _ _). OnOk s P) e h
+
+pub in_err : {T E : Type 0} (r : Result T E) (f : E) (P : E → Type 0) → r ≡ Err f → IfErr r P → P f
+in_err r f P e h = subst (λ (s : Result _ _). IfErr s P) e h

@@ -89,6 +89,24 @@ fn put_all<W: Weight, Q: StateQueue>(
     Ok(Ok(()))
 }
 
+/// The machine of all states that were made, or why it is none.
+fn finished<W: Weight>(fst: &Fst<W>, output: Output<W>) -> Result<Fst<W>, EpsilonFault>
+    requires { IsRemoving W.KIND (graph_of (valued W.value fst.now)) (length fst.now.states) (map (valued_state W.value) output.states) output.total output.overflow }
+    ensures fine { IfOk result (λ h. IsFine W.KIND (valued W.value fst.now) (valued W.value h)) }
+    ensures keeps { IfOk result (λ h. KeepsWeights W.KIND (valued W.value fst.now) (valued W.value h)) }
+    ensures graph { IfOk result (λ h. IsRemoved W.KIND (graph_of (valued W.value fst.now)) (graph_of (valued W.value h))) }
+    ensures cause { IfErr result (Stops W.KIND (valued W.value fst.now)) }
+{
+    let _states = fst.states();
+    if output.total > MOST_ARCS as usize {
+        return Err(EpsilonFault::TooManyArcs);
+    }
+    match output.overflow {
+        Some(state) => Err(EpsilonFault::Overflow { state }),
+        None => Ok(output.states.into_machine(fst.start())),
+    }
+}
+
 /// The machine without epsilon arcs or why there is none, with memory apart.
 fn removed<W: Weight, Q: StateQueue>(
     alloc: Global,
@@ -103,19 +121,12 @@ fn removed<W: Weight, Q: StateQueue>(
     ensures empty { IfOk result (λ r. OnOk r (Q.members queue.new ≡ [])) }
     ensures below { AreBelow (length fst.now.states) (Q.members queue.new) }
 {
-    let _states = fst.states();
     let marks = accessible::<W, Fst<W>>(alloc, fst)?;
     let mut output = Output::new(alloc, fst.states() as usize, fst.arc_count() as usize)?;
-    if let Err(cycle) = put_all(alloc, fst, marks.as_slice(), queue, &mut output)? {
-        return Ok(Err(EpsilonFault::ImprovingCycle { cycle }));
+    match put_all(alloc, fst, marks.as_slice(), queue, &mut output)? {
+        Ok(()) => Ok(finished(fst, output)),
+        Err(cycle) => Ok(Err(EpsilonFault::ImprovingCycle { cycle })),
     }
-    if output.total > MOST_ARCS as usize {
-        return Ok(Err(EpsilonFault::TooManyArcs));
-    }
-    if let Some(state) = output.overflow {
-        return Ok(Err(EpsilonFault::Overflow { state }));
-    }
-    Ok(Ok(output.states.into_machine(fst.start())))
 }
 
 /// The machine without epsilon arcs. Each state that the start reaches gets the arcs that are not epsilon of the states

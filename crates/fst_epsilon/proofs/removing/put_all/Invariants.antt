@@ -2,7 +2,6 @@ use Rattle.std.proofs.Common.{◌≡◌, ◌≤◌, [], length, map}
 use Rattle.fst_machine.specs.Graph.{graph_of}
 use Rattle.fst_machine.specs.Machine.{valued, valued_state}
 use Rattle.fst_trim.specs.Links.{epsilon_links}
-use Rattle.fst_distance.specs.Trying.{AreBelow}
 use Rattle.fst_epsilon.specs.Making.{IsRemoving}
 use Rattle.fst_epsilon.proofs.removing.put_all.Given as goal
 
