@@ -3,6 +3,7 @@
 #![tactic(auto)]
 
 use fst_command::{Queues, run};
+use fst_delayed::CountMeter;
 use fst_desk::RealDesk;
 use fst_queue::{BestFirst, Fifo, Lifo};
 use std::alloc::Global;
@@ -31,11 +32,13 @@ fn main(rt: HostRuntime) -> ExitCode {
         return ExitCode::from(3);
     };
     let queues = Queues { fifo, lifo, best };
+    // It counts the expansions of a batch.
+    let mut meter = CountMeter::new();
     let status = match words(&rt, alloc) {
-        Ok(words) => run(&rt, alloc, words.as_slice(), &mut desk, queues),
+        Ok(words) => run(&rt, alloc, words.as_slice(), &mut desk, queues, &mut meter),
         Err(fault) if fault.kind() == ErrorKind::OutOfMemory => 3,
         // A word that is no text makes a command line that no command has, as no words do.
-        Err(_) => run(&rt, alloc, &[], &mut desk, queues),
+        Err(_) => run(&rt, alloc, &[], &mut desk, queues, &mut meter),
     };
     ExitCode::from(status)
 }

@@ -1,5 +1,6 @@
 -- How many machines are read, and how many outputs are made.
-use Rattle.std.proofs.Common.{◌≡◌, ℕ, suc, ◌+◌, Bool, true, false, cond, List, [], ◌∷◌, length, Option, Some, None, Result, Ok, Err, refl, sym, ap, ◌∙◌, arith, nat_lt, is_some}
+use Rattle.std.proofs.Common.{◌≡◌, ℕ, suc, ◌+◌, ◌≤◌, Bool, true, false, cond, List, [], ◌∷◌, length, Option, Some, None, Result, Ok, Err, refl, sym, ap, ◌∙◌, subst, arith, nat_lt, is_some}
+use Rattle.std.proofs.lemmas.Bool.{ltb-false}
 use Rattle.std.specs.Option.{option_map}
 use Rattle.std.proofs.lemmas.List.{length-append}
 use Rattle.fst_desk.specs.Seen.{Files}
@@ -56,11 +57,38 @@ put_codex o roles.Machine name content before after e = let got = then_ok (machi
 put_codex o roles.Codex name content before after e = let got = then_ok (codex_in name content) _ after e in ap (λ (h : Held). is_some h.codex) (sym got.1)
 put_codex o roles.Lines name content before after e = let same : record before { lines = content } ≡ after = cc in ap (λ (h : Held). is_some h.codex) (sym same)
 
+-- the lines are no longer than what is read of an input
+put_lines : (o : Options) (role : Role) (name content : List ℕ) (before after : Held) → put o role name content before ≡ Ok after
+    → length content ≤ read_limit → length before.lines ≤ read_limit → length after.lines ≤ read_limit
+unfolding put
+put_lines o roles.InputSymbols name content before after e short few =
+    let got = then_ok (table_in name content) _ after e in subst (λ (h : Held). length h.lines ≤ read_limit) got.1 few
+put_lines o roles.OutputSymbols name content before after e short few =
+    let got = then_ok (table_in name content) _ after e in subst (λ (h : Held). length h.lines ≤ read_limit) got.1 few
+put_lines o roles.InputPairs name content before after e short few =
+    let got = then_ok (pairs_in name content) _ after e in subst (λ (h : Held). length h.lines ≤ read_limit) got.1 few
+put_lines o roles.OutputPairs name content before after e short few =
+    let got = then_ok (pairs_in name content) _ after e in subst (λ (h : Held). length h.lines ≤ read_limit) got.1 few
+put_lines o roles.Text name content before after e short few =
+    let got = then_ok (text_in (arc_type_of o) (choices_by o before.isymbols before.osymbols) name content) _ after e in
+    subst (λ (h : Held). length h.lines ≤ read_limit) got.1 few
+put_lines o roles.Machine name content before after e short few =
+    let got = then_ok (machine_in name content) _ after e in subst (λ (h : Held). length h.lines ≤ read_limit) got.1 few
+put_lines o roles.Codex name content before after e short few =
+    let got = then_ok (codex_in name content) _ after e in subst (λ (h : Held). length h.lines ≤ read_limit) got.1 few
+put_lines o roles.Lines name content before after e short few =
+    let same : record before { lines = content } ≡ after = cc in subst (λ (h : Held). length h.lines ≤ read_limit) same short
+
 -- the first of several steps
 first_step : (long : Bool) (cause : Cause) (read : Result Held Fault) (rest : Held → Result Held Cause) (held : Held) → cond long (Err cause) (telling faulty read >>= rest) ≡ Ok held → (more : Held) × (read ≡ Ok more) × (rest more ≡ Ok held)
 first_step true cause read rest held e = absurd cc
 first_step false cause (Ok more) rest held e = (more, refl, e)
 first_step false cause (Err fault) rest held e = absurd cc
+
+-- an input that was read was not too long
+short_step : (long : Bool) (cause : Cause) (read : Result Held Cause) (held : Held) → cond long (Err cause) read ≡ Ok held → long ≡ false
+short_step true cause read held e = absurd cc
+short_step false cause read held e = refl
 
 -- all inputs
 held_machines : (told : Option Files) (o : Options) (is : List Input) (cs : List (List ℕ)) (before held : Held) → Agrees told is cs → given_by o is cs before ≡ Ok held
@@ -93,6 +121,17 @@ held_codex told o (i ∷ is) (c ∷ cs) before held agrees e any =
       go false true rest e any = rw e refl
       go false false rest e any = rw e any
 
+held_lines : (o : Options) (is : List Input) (cs : List (List ℕ)) (before held : Held) → given_by o is cs before ≡ Ok held → length before.lines ≤ read_limit → length held.lines ≤ read_limit
+held_lines o [] cs before held e few = let same : before ≡ held = cc in subst (λ (h : Held). length h.lines ≤ read_limit) same few
+held_lines o (i ∷ is) [] before held e few = let same : before ≡ held = cc in subst (λ (h : Held). length h.lines ≤ read_limit) same few
+held_lines o (i ∷ is) (c ∷ cs) before held e few =
+    let short : length c ≤ read_limit = ltb-false read_limit (length c) (short_step (nat_lt read_limit (length c)) (too_long i.name) (telling faulty (put o i.role i.name c before) >>= λ more. given_by o is cs more) held e) in
+    let step = first_step (nat_lt read_limit (length c)) (too_long i.name) (put o i.role i.name c before) (λ more. given_by o is cs more) held e in
+    held_lines o is cs step.0 held step.2 (put_lines o i.role i.name c before step.0 step.1 short few)
+
+pub read_lines : (plan : Plan) (cs : List (List ℕ)) (held : Held) → given_by plan.options (plan_inputs plan) cs nothing ≡ Ok held → length held.lines ≤ read_limit
+read_lines plan cs held e = held_lines plan.options (plan_inputs plan) cs nothing held e (omega arith)
+
 pub read_machines : (plan : Plan) (told : Option Files) (cs : List (List ℕ)) (held : Held) → IsWhole plan → Agrees told (plan_inputs plan) cs → given_by plan.options (plan_inputs plan) cs nothing ≡ Ok held → length held.machines ≡ machine_count plan
 read_machines plan told cs held whole agrees e = held_machines told plan.options (plan_inputs plan) cs nothing held agrees e ∙ omega (arith, machines_all plan whole)
 
@@ -116,6 +155,7 @@ told_ok tell (Err fault) x e = absurd cc
 record Parts (kind : ArcType) (held : Held) (given : Given) : Type 0 where
   machines : machines_as kind held.machines ≡ Ok given.machines
   codex : codex_at kind held.codex ≡ Ok given.codex
+  lines : given.lines ≡ held.lines
 
 parts : (kind : ArcType) (held : Held) (given : Given) → given_at kind held ≡ Ok given → Parts kind held given
 unfolding given_at
@@ -128,7 +168,7 @@ parts kind held given e = go (machines_as kind held.machines) (codex_at kind hel
   go (Ok ms) (Err k) mi ci is = absurd cc
   go (Ok ms) (Ok c) mi ci is =
       let same : record { kind = kind; isymbols = held.isymbols; osymbols = held.osymbols; ipairs = held.ipairs; opairs = held.opairs; lines = held.lines; machines = ms; codex = c } ≡ given = cc in
-      record { machines = mi ∙ ap (λ (g : Given). Ok g.machines) same; codex = ci ∙ ap (λ (g : Given). Ok g.codex) same }
+      record { machines = mi ∙ ap (λ (g : Given). Ok g.machines) same; codex = ci ∙ ap (λ (g : Given). Ok g.codex) same; lines = ap (λ (g : Given). g.lines) (sym same) }
 
 pub given_machines : (kind : ArcType) (held : Held) (given : Given) → given_at kind held ≡ Ok given → length given.machines ≡ length held.machines
 given_machines kind held given e = taken_length kind held.machines given.machines (parts kind held given e).machines
@@ -138,6 +178,10 @@ given_codex kind held given e has = go held.codex has (parts kind held given e).
   go : (c : Option TypedCodex) → is_some c ≡ true → codex_at kind c ≡ Ok given.codex → is_some given.codex ≡ true
   go None none is = absurd cc
   go (Some c) some is = let got = then_ok (codex_as kind c) Some given.codex is in ap is_some (sym got.1)
+
+-- the lines are handed on
+pub given_lines : (kind : ArcType) (held : Held) (given : Given) → given_at kind held ≡ Ok given → given.lines ≡ held.lines
+given_lines kind held given e = (parts kind held given e).lines
 
 -- a value that is seen is there
 pub some_seen : {A B : Type 0} (f : A → B) (o : Option A) → is_some (option_map f o) ≡ is_some o

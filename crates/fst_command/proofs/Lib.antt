@@ -29,3 +29,4 @@ mod Exactly
 mod Determinized
 mod Measured
 mod Removed
+mod Meters

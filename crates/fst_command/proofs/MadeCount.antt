@@ -22,13 +22,14 @@ use Rattle.fst_text.specs.Printed.{text_of_machine}
 use Rattle.fst_command.specs.Descriptions.{info_text}
 use Rattle.fst_command.specs.Given.{Given, Held, choices_by}
 use Rattle.fst_command.specs.Measuring.{AreDistances, direction_of, distance_lines}
-use Rattle.fst_command.specs.Meaning.{IsMachine, Made, bytes_of, coded, for_one, for_two, machine, text}
+use Rattle.fst_command.specs.Meaning.{IsMachine, Made, answered, bytes_of, coded, for_one, for_two, machine, text}
 use Rattle.fst_command.specs.Steps.{IsWorked}
 
 one_machine : (kind : ArcType) (says : Machine Cost → Type 0) (made : Made) → IsMachine kind says made → length (bytes_of made) ≡ 1
 one_machine kind says (machine k m) is = refl
 one_machine kind says (text bytes) is = absurd is
 one_machine kind says (coded k t m) is = absurd is
+one_machine kind says (answered bytes n) is = absurd is
 
 of_one : (ms : List (Machine Cost)) (says : Machine Cost → Made → Type 0) (made : Made) → ((m : Machine Cost) → says m made → length (bytes_of made) ≡ 1) → for_one ms (λ m. says m made) → length (bytes_of made) ≡ 1
 of_one [] says made count is = absurd is
@@ -47,6 +48,7 @@ two_of (a ∷ b ∷ c ∷ ms) kind says made is = absurd is
 two_coded : (kind : ArcType) (says : Table Cost → Machine Cost → Type 0) (made : Made) → IsCoded kind says made → length (bytes_of made) ≡ 2
 two_coded kind says (machine k m) is = absurd is
 two_coded kind says (text bytes) is = absurd is
+two_coded kind says (answered bytes n) is = absurd is
 two_coded kind says (coded k t m) is = refl
 
 decoded_count : (kind : ArcType) (says : Machine Cost → Table Cost → Machine Cost → Type 0) (made : Made) (ms : List (Machine Cost)) (c : Option (Table Cost)) → for_one ms (λ m. for_codex c (λ table. IsMachine kind (says m table) made)) → length (bytes_of made) ≡ 1

@@ -19,7 +19,7 @@ use Rattle.fst_command.specs.Given.{Given, choices_by, given_of}
 use Rattle.fst_command.specs.Meaning.{Made, bytes_of}
 use Rattle.fst_command.specs.Measuring.{direction_of}
 use Rattle.fst_command.specs.OneOutcome.{HasOneOutcome, One, OneOutcome}
-use Rattle.fst_command.specs.Outcome.{Agrees, AreNamed, IsCause, Output, Prescribes, Refuses}
+use Rattle.fst_command.specs.Outcome.{Agrees, AreNamed, IsCause, Makes, Output, Prescribes, Refuses}
 use Rattle.fst_command.specs.Trimming.{side_of}
 use Rattle.fst_command.proofs.Deciding.{one_equal, one_for_one, one_for_two, one_made, one_never, one_told}
 use Rattle.fst_command.proofs.DecidingCoding.{one_coding_makes, one_coding_stops}
@@ -102,13 +102,13 @@ module _ (plan : Plan) (files : Files) where
   one_stop : (given : Given) → HasOneOutcome (meaning_for plan) given
   one_stop given = one_meaning plan.command (rule_labels plan) plan.options given
 
-  same_given : (a b : List Output) (one : Prescribes plan (Some files) a) (two : Prescribes plan (Some files) b) → one.given ≡ two.given
-  same_given a b one two = one_value (given_of plan two.contents) one.given two.given (sym (one_given one.contents two.contents one.agrees two.agrees) ∙ one.reads) two.reads
+  same_given : (a b : List Output) (one : Prescribes plan (Some files) a) (two : Prescribes plan (Some files) b) → one.makes.given ≡ two.makes.given
+  same_given a b one two = one_value (given_of plan two.makes.contents) one.makes.given two.makes.given (sym (one_given one.makes.contents two.makes.contents one.makes.agrees two.makes.agrees) ∙ one.makes.reads) two.makes.reads
 
   one_list_of_outputs : One (Prescribes plan (Some files))
   one_list_of_outputs a b one two =
       let given = same_given a b one two in
-      let made : one.made ≡ two.made = (one_stop two.given).made one.made two.made (subst (λ (g : Given). (meaning_for plan).makes g one.made) given one.makes) two.makes in
+      let made : one.made ≡ two.made = (one_stop two.makes.given).made one.made two.made (subst (λ (g : Given). (meaning_for plan).makes g one.made) given one.makes.is) two.makes.is in
       one_naming (outputs_of plan) (bytes_of two.made) a b (subst (λ (m : Made). AreNamed (outputs_of plan) (bytes_of m) a) made one.named) two.named
 
   one_fault : (contents : List (List ℕ)) → One (IsCause plan contents)
@@ -131,11 +131,14 @@ module _ (plan : Plan) (files : Files) where
       one_fault two.contents c d (subst (λ (cs : List (List ℕ)). IsCause plan cs c) (one_reading files (plan_inputs plan) one.contents two.contents one.agrees two.agrees) one.is) two.is
 
   never_both : (a : List Output) (c : Cause) → Prescribes plan (Some files) a → Refuses plan (Some files) c → ⊥
-  never_both a c one two = by (given_of plan one.contents) one.reads (subst (λ (cs : List (List ℕ)). IsCause plan cs c) (sym (one_reading files (plan_inputs plan) one.contents two.contents one.agrees two.agrees)) two.is)
+  never_both a c one two = by (given_of plan does.contents) does.reads (subst (λ (cs : List (List ℕ)). IsCause plan cs c) (sym (one_reading files (plan_inputs plan) does.contents two.contents does.agrees two.agrees)) two.is)
     where
-      by : (read : Result Given Cause) → read ≡ Ok one.given → (read ≡ Err c) ⊎ ((given : Given) × (read ≡ Ok given) × (fault : Fault) × (meaning_for plan).stops given fault × (c ≡ faulty fault)) → ⊥
+      does : Makes plan (Some files) one.made
+      does = one.makes
+
+      by : (read : Result Given Cause) → read ≡ Ok does.given → (read ≡ Err c) ⊎ ((given : Given) × (read ≡ Ok given) × (fault : Fault) × (meaning_for plan).stops given fault × (c ≡ faulty fault)) → ⊥
       by read e (inl f) = let same = sym e ∙ f in cc
-      by read e (inr stops) = one.passes stops.2 (subst (λ (g : Given). (meaning_for plan).stops g stops.2) (one_value read stops.0 one.given stops.1 e) stops.3)
+      by read e (inr stops) = does.passes stops.2 (subst (λ (g : Given). (meaning_for plan).stops g stops.2) (one_value read stops.0 does.given stops.1 e) stops.3)
 
 pub one_outcome : (plan : Plan) (files : Files) → OneOutcome plan files
 one_outcome plan files = record { outputs = one_list_of_outputs plan files; cause = one_refused plan files; apart = never_both plan files }

@@ -7,21 +7,28 @@ use Rattle.fst_words.specs.Inputs.{plan_inputs}
 use Rattle.fst_words.specs.Plans.{outputs_of}
 use Rattle.fst_command.specs.declared.refusal.Refusal.{Refusal}
 use Rattle.fst_command.specs.Causes.{done, no_memory, unwritten}
-use Rattle.fst_command.specs.Outcome.{AreNamed, Calls, Leaves, OnlyFetches, Output, Prescribes}
-use Rattle.fst_command.specs.Steps.{BothAnswer, IsReady, NoRoom, NotWritten, Starves, StopsAfter, StoresOnce, Works, WriteAnswer, WritesBoth, WritesOutput, WrittenWhole}
+use Rattle.fst_command.specs.Given.{Held}
+use Rattle.fst_command.specs.Outcome.{AreNamed, Calls, Leaves, Makes, OnlyFetches, Output, Prescribes}
+use Rattle.fst_command.specs.Steps.{BothAnswer, IsReady, IsWorked, NoRoom, NotWritten, Progress, Starves, StopsAfter, StoresOnce, Works, WriteAnswer, WritesBoth, WritesOutput, WrittenWhole}
 use Rattle.fst_command.proofs.InTurn.{given_all}
 use Rattle.fst_command.proofs.Answering.{all_fetched}
+
+-- what is worked of all inputs is what the command makes
+pub makes-ready : (plan : Plan) (held : Held) (bytes : List (List ℕ)) (old now : Seen) → Progress plan (plan_inputs plan) held old now → (w : IsWorked plan held bytes) → Makes plan old.filed.told w.made
+makes-ready plan held bytes old now p w = record {
+  contents = p.contents;
+  agrees = p.agrees;
+  given = w.given;
+  reads = given_all plan p.contents held w.given p.reads w.reads;
+  passes = w.passes;
+  is = w.makes;
+}
 
 -- outputs that are ready are prescribed, under the names of the command
 prescribes-ready : (plan : Plan) (made : List (List ℕ)) (outputs : List Output) (old now : Seen) → IsReady plan made old now → AreNamed (outputs_of plan) made outputs → Prescribes plan old.filed.told outputs
 prescribes-ready plan made outputs old now is named = record {
-  contents = is.progress.contents;
-  agrees = is.progress.agrees;
-  given = is.worked.given;
-  reads = given_all plan is.progress.contents is.held is.worked.given is.progress.reads is.worked.reads;
-  passes = is.worked.passes;
   made = is.worked.made;
-  makes = is.worked.makes;
+  makes = makes-ready plan is.held made old now is.progress is.worked;
   named = subst (λ (bytes : List (List ℕ)). AreNamed (outputs_of plan) bytes outputs) is.worked.spells named;
 }
 

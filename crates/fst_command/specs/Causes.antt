@@ -48,7 +48,8 @@ status_of (unwritten name) = 5
 
 -- the line of a fault
 abbrev pub fault_line : Fault → List ℕ
-fault_line (misread name unit place reason) = concat (codes "fst: " ∷ name ∷ codes ": " ∷ unit ∷ codes " " ∷ decimal place ∷ codes ": " ∷ reason ∷ codes "\n" ∷ [])
+fault_line (misread name unit place reason) =
+    concat (codes "fst: " ∷ name ∷ codes ": " ∷ unit ∷ codes " " ∷ decimal place ∷ codes ": " ∷ reason ∷ codes "\n" ∷ [])
 fault_line (kinds_differ first other) = concat (codes "fst: arc types differ: " ∷ name_of first ∷ codes " and " ∷ name_of other ∷ codes "\n" ∷ [])
 fault_line (unmade reason) = concat (codes "fst: " ∷ reason ∷ codes "\n" ∷ [])
 

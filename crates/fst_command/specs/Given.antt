@@ -141,4 +141,6 @@ given_at kind held = do
 
 -- what a command is given, by the contents of its inputs
 abbrev pub given_of : Plan → List (List ℕ) → Result Given Cause
-given_of plan contents = given_by plan.options (plan_inputs plan) contents nothing >>= λ held. telling faulty (given_at (kind_of plan.options held.machines) held)
+given_of plan contents =
+    given_by plan.options (plan_inputs plan) contents nothing >>= λ held.
+    telling faulty (given_at (kind_of plan.options held.machines) held)

@@ -4,6 +4,7 @@
 pub mod Causes
 pub mod Given
 pub mod Meaning
+pub mod Metering
 pub mod Rational
 pub mod Trimming
 pub mod Descriptions

@@ -19,12 +19,22 @@ pub data Made : Type 0 where
   text : List ℕ → Made
   -- a codex and a machine of this arc type
   coded : ArcType → Table Cost → Machine Cost → Made
+  -- the text of the answers to lines, with how many states of the cascade were expanded for them
+  answered : List ℕ → ℕ → Made
 
 -- the bytes of its outputs, in the order in which they are stored
 abbrev pub bytes_of : Made → List (List ℕ)
 bytes_of (machine kind m) = spelling kind m ∷ []
 bytes_of (text bytes) = bytes ∷ []
 bytes_of (coded kind table m) = codex_spelling kind table ∷ spelling kind m ∷ []
+bytes_of (answered bytes expansions) = bytes ∷ []
+
+-- how many states of a cascade were expanded for it
+abbrev pub expansions_of : Made → ℕ
+expansions_of (machine kind m) = 0
+expansions_of (text bytes) = 0
+expansions_of (coded kind table m) = 0
+expansions_of (answered bytes expansions) = expansions
 
 -- ---- what stops a command
 
@@ -64,6 +74,7 @@ abbrev pub IsMachine : ArcType → (Machine Cost → Type 0) → Made → Type 0
 IsMachine kind says (machine k m) = (k ≡ kind) × says m
 IsMachine kind says (text bytes) = ⊥
 IsMachine kind says (coded k table m) = ⊥
+IsMachine kind says (answered bytes expansions) = ⊥
 
 -- ---- the meaning
 

@@ -1,15 +1,16 @@
 -- The outcome of a run: what it answers, what then stands, and what it shows. No command and no cause is named here.
-use Rattle.std.specs.Prelude.{◌≡◌, ◌⊎◌, ℕ, zero, suc, ◌<◌, ◌≤◌, List, [], ◌∷◌, ◌++◌, length, Option, Some, None, IfSome, Ok, Err}
+use Rattle.std.specs.Prelude.{◌≡◌, ◌⊎◌, ℕ, zero, suc, ◌<◌, ◌≤◌, Bool, true, false, List, [], ◌∷◌, ◌++◌, length, Option, Some, None, IfSome, Ok, Err}
 use Rattle.fst_desk.specs.Seen.{Files, Filed, Showing, Seen, Rises, raised}
 use Rattle.fst_desk.specs.Desk.{content_of, ToldHolds, ToldAppends}
 use Rattle.fst_words.specs.declared.plan.Plan.{Plan}
-use Rattle.fst_words.specs.Inputs.{Input, plan_inputs}
+use Rattle.fst_words.specs.Inputs.{Input, expands, plan_inputs}
 use Rattle.fst_words.specs.Plans.{outputs_of}
 use Rattle.fst_command.specs.Plans.{plan_of}
 use Rattle.fst_command.specs.Causes.{Cause, too_long, faulty, Fault, Answer, done, usage, refused, no_memory, unread, unwritten, status_of, line_of}
 use Rattle.fst_command.specs.Commands.{meaning_for}
 use Rattle.fst_command.specs.Given.{Given, Held, given_by, given_of, nothing, read_limit}
-use Rattle.fst_command.specs.Meaning.{Made, Passes, bytes_of}
+use Rattle.fst_command.specs.Meaning.{Made, Passes, bytes_of, expansions_of}
+use Rattle.fst_command.specs.Metering.{Metered, risen_by}
 
 -- the contents are those that are told under the names of the inputs
 abbrev pub Agrees : Option Files → List Input → List (List ℕ) → Type 0
@@ -34,15 +35,19 @@ abbrev pub Leaves : List Output → Option Files → Option Files → Type 0
 Leaves [] old new = new ≡ old
 Leaves (output ∷ outputs) old new = (mid : Option Files) × ToldHolds output.0 output.1 old mid × Leaves outputs mid new
 
--- the outcome is Ok with these outputs: nothing stops the command, and they are what it makes
-pub record Prescribes (plan : Plan) (told : Option Files) (outputs : List Output) : Type 0 where
+-- nothing stops the command, and this is what it makes of the contents
+pub record Makes (plan : Plan) (told : Option Files) (made : Made) : Type 0 where
   pub contents : List (List ℕ)
   pub agrees : Agrees told (plan_inputs plan) contents
   pub given : Given
   pub reads : given_of plan contents ≡ Ok given
   pub passes : Passes ((meaning_for plan).stops given)
+  pub is : (meaning_for plan).makes given made
+
+-- the outcome is Ok with these outputs: they are the bytes of what the command makes
+pub record Prescribes (plan : Plan) (told : Option Files) (outputs : List Output) : Type 0 where
   pub made : Made
-  pub makes : (meaning_for plan).makes given made
+  pub makes : Makes plan told made
   pub named : AreNamed (outputs_of plan) (bytes_of made) outputs
 
 -- what a command is given has this cause, or else the command is stopped by it
@@ -160,3 +165,16 @@ Completes words old new status =
     Agrees (Some files) (plan_inputs plan) contents → ((cause : Cause) → IsCause plan contents cause → ⊥) →
     new.filed.missed ≡ old.filed.missed → (Rises old.filed.write_faults new.filed.write_faults → ⊥) →
     (status ≡ 0) ⊎ (status ≡ 3)
+
+-- how a run leaves the meter: a command that expands no states leaves it as it was, and one that does has raised it by
+-- the expansions of what it makes, where the status is that of Ok; after its refusal nothing is said
+abbrev pub MetersBy : (expanding : Bool) → Plan → Option Files → Metered → Metered → ℕ → Type 0
+MetersBy false plan told before after status = after ≡ before
+MetersBy true plan told before after status = status ≡ 0 → (made : Made) × Makes plan told made × (after ≡ risen_by (expansions_of made) before)
+
+abbrev pub MetersPlan : Option Plan → Option Files → Metered → Metered → ℕ → Type 0
+MetersPlan None told before after status = after ≡ before
+MetersPlan (Some plan) told before after status = MetersBy (expands plan) plan told before after status
+
+abbrev pub Meters : List (List ℕ) → Option Files → Metered → Metered → ℕ → Type 0
+Meters words told before after status = MetersPlan (plan_of words) told before after status

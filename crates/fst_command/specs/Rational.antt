@@ -32,7 +32,8 @@ invert_meaning = record {
 abbrev pub project_meaning : Options → Meaning
 project_meaning o = record {
   stops = λ given. never;
-  makes = λ given made. for_one given.machines (λ m. IsMachine given.kind (λ r. (r ≡ projected o.project_output m) × Projects given.kind o.project_output m r) made);
+  makes = λ given made. for_one given.machines (λ m.
+      IsMachine given.kind (λ r. (r ≡ projected o.project_output m) × Projects given.kind o.project_output m r) made);
 }
 
 abbrev pub relabel_meaning : Meaning

@@ -7,7 +7,7 @@ use Rattle.fst_machine.specs.Machine.{Machine, valued}
 use Rattle.fst_codex.specs.Table.{valued_table}
 use Rattle.fst_any.specs.Typed.{typed, typed_codex}
 use Rattle.fst_command.specs.Given.{Given, Held}
-use Rattle.fst_command.specs.Meaning.{Made, coded, machine, text}
+use Rattle.fst_command.specs.Meaning.{Made, answered, coded, machine, text}
 use Rattle.fst_command.specs.declared.given.Held.{Held as DeclaredHeld}
 use Rattle.fst_command.specs.declared.given.Given.{Given as DeclaredGiven}
 use Rattle.fst_command.specs.declared.made.Made.{Made as DeclaredMade}
@@ -45,6 +45,7 @@ abbrev pub made_seen : {W X : Type 0} → ArcType → (W → Cost) → DeclaredM
 made_seen kind value (made.Machine m) = machine kind (valued value m)
 made_seen kind value (made.Text bytes) = text bytes.items
 made_seen kind value (made.Coded table m) = coded kind (valued_table value table) (valued value m)
+made_seen kind value (made.Answered bytes expansions) = answered bytes.items expansions
 
 -- the bytes of its outputs
 abbrev pub bytes_seen : Bytes → List (List ℕ)

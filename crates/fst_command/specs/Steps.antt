@@ -1,15 +1,16 @@
 -- What the steps of a command promise: reading an input, reading all, the work, writing an output, and the whole command.
-use Rattle.std.specs.Prelude.{◌≡◌, ◌⊎◌, ℕ, ◌<◌, ◌≤◌, List, [], ◌∷◌, ◌++◌, length, Option, Some, IfSome, Result, Ok, Err}
-use Rattle.fst_desk.specs.Seen.{Filed, Seen, Rises, raised}
+use Rattle.std.specs.Prelude.{◌≡◌, ◌⊎◌, ℕ, ◌<◌, ◌≤◌, Bool, true, false, List, [], ◌∷◌, ◌++◌, length, Option, Some, None, IfSome, Result, Ok, Err}
+use Rattle.fst_desk.specs.Seen.{Filed, Files, Seen, Rises, raised}
 use Rattle.fst_desk.specs.Desk.{content_of, ToldHolds}
 use Rattle.fst_words.specs.declared.options.Options.{Options}
 use Rattle.fst_words.specs.declared.plan.Plan.{Plan}
-use Rattle.fst_words.specs.Inputs.{Input, plan_inputs}
+use Rattle.fst_words.specs.Inputs.{Input, expands, plan_inputs}
 use Rattle.fst_command.specs.Causes.{Answer, Fault, done, faulty, no_memory, refused, too_long, unread, unwritten}
 use Rattle.fst_command.specs.Commands.{meaning_for}
 use Rattle.fst_command.specs.Given.{Given, Held, given_at, given_by, kind_of, nothing, put, read_limit}
-use Rattle.fst_command.specs.Meaning.{Made, Passes, bytes_of}
-use Rattle.fst_command.specs.Outcome.{Agrees, Answers, Calls}
+use Rattle.fst_command.specs.Meaning.{Made, Passes, bytes_of, expansions_of}
+use Rattle.fst_command.specs.Metering.{Metered, risen_by}
+use Rattle.fst_command.specs.Outcome.{Agrees, Answers, Calls, Makes}
 use Rattle.fst_command.specs.declared.refusal.Refusal.{Refusal}
 use Rattle.fst_command.specs.Told.{Fails, IsMemory, Tells}
 
@@ -185,3 +186,25 @@ pub record IsReady (plan : Plan) (bytes : List (List ℕ)) (old now : Seen) : Ty
 -- ending a command where the bytes were ready
 abbrev pub WorksAfter : Plan → List (List ℕ) → Seen → Seen → Result Unit Refusal → Type 0
 WorksAfter plan bytes mid new result = (old : Seen) → IsReady plan bytes old mid → Works (Some plan) old new result
+
+-- ---- the meter
+
+-- how the work on what was read leaves it
+abbrev pub MetersWorkBy : (expanding : Bool) → Plan → Held → Metered → Metered → Result (List (List ℕ)) Refusal → Type 0
+MetersWorkBy false plan held before after result = after ≡ before
+MetersWorkBy true plan held before after (Ok bytes) = (w : IsWorked plan held bytes) × (after ≡ risen_by (expansions_of w.made) before)
+MetersWorkBy true plan held before after (Err refusal) = Unit {0}
+
+abbrev pub MetersWork : Plan → Held → Metered → Metered → Result (List (List ℕ)) Refusal → Type 0
+MetersWork plan held before after result = MetersWorkBy (expands plan) plan held before after result
+
+-- how the whole command leaves it
+abbrev pub MetersEnd : (expanding : Bool) → Plan → Option Files → Metered → Metered → Result Unit Refusal → Type 0
+MetersEnd false plan told before after result = after ≡ before
+MetersEnd true plan told before after (Ok _) = (made : Made) × Makes plan told made × (after ≡ risen_by (expansions_of made) before)
+MetersEnd true plan told before after (Err refusal) = Unit {0}
+
+-- for words of a command, and for others
+abbrev pub MetersWords : Option Plan → Option Files → Metered → Metered → Result Unit Refusal → Type 0
+MetersWords None told before after result = after ≡ before
+MetersWords (Some plan) told before after result = MetersEnd (expands plan) plan told before after result

@@ -1,11 +1,13 @@
 //! The order of work of a plan: the inputs, the work, the outputs.
 
 ghost use Rattle.std.specs.Prelude.{◌≡◌, Some, length, true};
+ghost use Rattle.fst_words.specs.Inputs.{expands};
 ghost use Rattle.fst_words.specs.PlanLaws.{IsWhole};
 ghost use Rattle.fst_words.specs.Plans.{outputs_of};
+ghost use Rattle.fst_command.specs.Metering.{IsFree, meter_seen};
 ghost use Rattle.fst_command.specs.Plans.{is_built};
 ghost use Rattle.fst_command.specs.Seeing.{bytes_seen};
-ghost use Rattle.fst_command.specs.Steps.{Works, WorksAfter};
+ghost use Rattle.fst_command.specs.Steps.{MetersEnd, Works, WorksAfter};
 
 use crate::files::{write_both, write_output};
 use crate::made::Bytes;
@@ -13,9 +15,11 @@ use crate::queues::Queues;
 use crate::reading::read_all;
 use crate::refusal::Refusal;
 use crate::working::worked;
+use fst_delayed::Meter;
 use fst_desk::Desk;
 use fst_words::Plan;
 use std::alloc::Global;
+use std::thread::Threads;
 
 /// Stores the bytes of the outputs, each under its name.
 fn store<D: Desk>(alloc: Global, desk: &mut D, plan: &Plan, bytes: Bytes) -> Result<(), Refusal>
@@ -36,21 +40,25 @@ fn store<D: Desk>(alloc: Global, desk: &mut D, plan: &Plan, bytes: Bytes) -> Res
 }
 
 /// Does what a plan asks for. All bytes are there before the first is written.
-pub(crate) fn carry_out<D: Desk>(
+pub(crate) fn carry_out<R: Threads + Sync, D: Desk, M: Meter>(
+    rt: &R,
     alloc: Global,
     desk: &mut D,
     plan: &Plan,
     queues: Queues,
+    meter: &mut M,
 ) -> Result<(), Refusal>
     requires built { is_built plan.now.command ≡ true }
     requires whole { IsWhole plan.now }
-    ensures { Works (Some plan.now) (D.seen desk.old) (D.seen desk.new) result }
+    requires free { IsFree (meter_seen M.count M.parts_out M.is_part meter.old) }
+    ensures works { Works (Some plan.now) (D.seen desk.old) (D.seen desk.new) result }
+    ensures meter { MetersEnd (expands plan.now) plan.now (D.seen desk.old).filed.told (meter_seen M.count M.parts_out M.is_part meter.old) (meter_seen M.count M.parts_out M.is_part meter.new) result }
 {
     let held = match read_all(alloc, desk, plan) {
         Ok(held) => held,
         Err(refusal) => return Err(refusal),
     };
-    let bytes = match worked(alloc, plan, held, queues) {
+    let bytes = match worked(rt, alloc, plan, held, queues, meter) {
         Ok(bytes) => bytes,
         Err(refusal) => return Err(refusal),
     };

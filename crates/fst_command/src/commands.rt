@@ -1,11 +1,13 @@
 //! What each command makes of what it is given: the table of `specs/Commands.antt` in code.
 
-ghost use Rattle.std.specs.Prelude.{◌≡◌, IsSome, length, true};
+ghost use Rattle.std.specs.Prelude.{◌≡◌, ◌≤◌, IsSome, length, true};
 ghost use Rattle.std.specs.Result.{result_map_both};
-ghost use Rattle.fst_words.specs.Inputs.{has_codex, machine_count};
+ghost use Rattle.fst_words.specs.Inputs.{expands, has_codex, machine_count};
 ghost use Rattle.fst_words.specs.PlanLaws.{IsWhole};
 ghost use Rattle.fst_command.specs.Commands.{meaning_for};
+ghost use Rattle.fst_command.specs.Given.{read_limit};
 ghost use Rattle.fst_command.specs.Meaning.{Settles};
+ghost use Rattle.fst_command.specs.Metering.{IsFree, Raises, meter_seen};
 ghost use Rattle.fst_command.specs.Plans.{is_built};
 ghost use Rattle.fst_command.specs.Seeing.{given_seen, made_seen};
 
@@ -24,23 +26,33 @@ use crate::given::Given;
 use crate::made::Made;
 use crate::queues::Queues;
 use crate::refusal::Refusal;
+use fst_delayed::Meter;
 use fst_semiring::Weight;
 use fst_words::{Plan, Verb};
 use std::alloc::Global;
+use std::thread::Threads;
 
 /// What a command makes of what it is given, or why it makes nothing.
-pub(crate) fn made<W: Weight>(
+pub(crate) fn made<R: Threads + Sync, W: Weight + Send + Sync, M: Meter>(
+    rt: &R,
     alloc: Global,
     plan: &Plan,
     given: Given<W>,
     queues: Queues,
+    meter: &mut M,
 ) -> Result<Made<W>, Refusal>
+where
+    W::Wide: Send + Sync,
     requires built { is_built plan.now.command ≡ true }
     requires whole { IsWhole plan.now }
     requires machines { length given.machines.items ≡ machine_count plan.now }
     requires codex { has_codex plan.now ≡ true → IsSome given.codex }
-    ensures { Settles (meaning_for plan.now) (given_seen W.KIND W.value given) (result_map_both (made_seen W.KIND W.value) (λ e. e) result) }
+    requires lines { length given.lines.items ≤ read_limit }
+    requires free { IsFree (meter_seen M.count M.parts_out M.is_part meter.old) }
+    ensures settles { Settles (meaning_for plan.now) (given_seen W.KIND W.value given) (result_map_both (made_seen W.KIND W.value) (λ e. e) result) }
+    ensures meter { Raises (expands plan.now) (meter_seen M.count M.parts_out M.is_part meter.old) (meter_seen M.count M.parts_out M.is_part meter.new) (result_map_both (made_seen W.KIND W.value) (λ e. e) result) }
 {
+    let _ = rt;
     match plan.command {
         Verb::Compile => texts::compiled(given),
         Verb::Print => texts::printed(alloc, &plan.options, given),

@@ -19,6 +19,8 @@ pub(crate) enum Made<W: Weight> {
     Text(Vec<u8>),
     /// A codex and a machine.
     Coded(Codex<W>, Fst<W>),
+    /// The text of the answers to lines, and how many states of the cascade were expanded for them.
+    Answered(Vec<u8>, u64),
 }
 
 /// The bytes of the outputs of a command, in the order in which they are stored.
@@ -36,7 +38,7 @@ pub(crate) fn bytes_of<W: Weight>(alloc: Global, made: Made<W>) -> Result<Bytes,
 {
     match made {
         Made::Machine(machine) => Ok(Bytes::One(encode(alloc, &machine)?)),
-        Made::Text(text) => Ok(Bytes::One(text)),
+        Made::Text(text) | Made::Answered(text, _) => Ok(Bytes::One(text)),
         Made::Coded(codex, machine) => {
             let first = write_codex(alloc, &codex)?;
             drop(codex);

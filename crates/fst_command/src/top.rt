@@ -1,13 +1,15 @@
 //! The top call: words, work, and the line of a refusal.
 
 ghost use Rattle.std.specs.Prelude.{◌≡◌, map, string_bytes};
+ghost use Rattle.fst_command.specs.Metering.{IsFree, meter_seen};
 ghost use Rattle.fst_command.specs.Plans.{is_built, plan_of};
-ghost use Rattle.fst_command.specs.Outcome.{Runs, Completes};
-ghost use Rattle.fst_command.specs.Steps.{Works};
+ghost use Rattle.fst_command.specs.Outcome.{Completes, Meters, Runs};
+ghost use Rattle.fst_command.specs.Steps.{MetersWords, Works};
 
 use crate::carrying::carry_out;
 use crate::queues::Queues;
 use crate::refusal::Refusal;
+use fst_delayed::Meter;
 use fst_desk::Desk;
 use fst_words::{Verb, WordsFault, read_words};
 use std::alloc::Global;
@@ -41,20 +43,24 @@ fn is_ready(verb: Verb) -> bool
 }
 
 /// Does what the words ask for.
-fn work<D: Desk>(
+fn work<R: Threads + Sync, D: Desk, M: Meter>(
+    rt: &R,
     alloc: Global,
     words: &[String],
     desk: &mut D,
     queues: Queues,
+    meter: &mut M,
 ) -> Result<(), Refusal>
-    ensures { Works (plan_of (map (λ w. string_bytes w) words.now)) (D.seen desk.old) (D.seen desk.new) result }
+    requires free { IsFree (meter_seen M.count M.parts_out M.is_part meter.old) }
+    ensures meter { MetersWords (plan_of (map (λ w. string_bytes w) words.now)) (D.seen desk.old).filed.told (meter_seen M.count M.parts_out M.is_part meter.old) (meter_seen M.count M.parts_out M.is_part meter.new) result }
+    ensures works { Works (plan_of (map (λ w. string_bytes w) words.now)) (D.seen desk.old) (D.seen desk.new) result }
 {
     match read_words(alloc, words) {
         Ok(plan) => {
             if !is_ready(plan.command) {
                 return Err(Refusal::Usage);
             }
-            carry_out(alloc, desk, &plan, queues)
+            carry_out(rt, alloc, desk, &plan, queues, meter)
         }
         Err(WordsFault::Usage) => Err(Refusal::Usage),
         Err(WordsFault::Memory) => Err(Refusal::Memory),
@@ -62,10 +68,19 @@ fn work<D: Desk>(
 }
 
 /// Does what the words ask for, and shows the line of a refusal.
-fn finish<D: Desk>(alloc: Global, words: &[String], desk: &mut D, queues: Queues) -> u8
-    ensures { Runs (map (λ w. string_bytes w) words.now) (D.seen desk.old) (D.seen desk.new) result }
+fn finish<R: Threads + Sync, D: Desk, M: Meter>(
+    rt: &R,
+    alloc: Global,
+    words: &[String],
+    desk: &mut D,
+    queues: Queues,
+    meter: &mut M,
+) -> u8
+    requires free { IsFree (meter_seen M.count M.parts_out M.is_part meter.old) }
+    ensures meter { Meters (map (λ w. string_bytes w) words.now) (D.seen desk.old).filed.told (meter_seen M.count M.parts_out M.is_part meter.old) (meter_seen M.count M.parts_out M.is_part meter.new) result }
+    ensures runs { Runs (map (λ w. string_bytes w) words.now) (D.seen desk.old) (D.seen desk.new) result }
 {
-    match work(alloc, words, desk, queues) {
+    match work(rt, alloc, words, desk, queues, meter) {
         Ok(()) => 0,
         Err(refusal) => {
             // A line that cannot be shown leaves the status as it is.
@@ -84,16 +99,18 @@ fn finish<D: Desk>(alloc: Global, words: &[String], desk: &mut D, queues: Queues
 ///
 /// With 0 there was one fetch for each input, one store for each output and no show. Else there was at most one
 /// fetch for each input, no store but those of the outputs as far as one that failed, and one show.
-pub fn run<R: Threads + Sync, D: Desk>(
+pub fn run<R: Threads + Sync, D: Desk, M: Meter>(
     rt: &R,
     alloc: Global,
     words: &[String],
     desk: &mut D,
     queues: Queues,
+    meter: &mut M,
 ) -> u8
+    requires free { IsFree (meter_seen M.count M.parts_out M.is_part meter.old) }
+    ensures meter { Meters (map (λ w. string_bytes w) words.now) (D.seen desk.old).filed.told (meter_seen M.count M.parts_out M.is_part meter.old) (meter_seen M.count M.parts_out M.is_part meter.new) result }
     ensures runs { Runs (map (λ w. string_bytes w) words.now) (D.seen desk.old) (D.seen desk.new) result }
     ensures completes { Completes (map (λ w. string_bytes w) words.now) (D.seen desk.old) (D.seen desk.new) result }
 {
-    let _ = rt;
-    finish(alloc, words, desk, queues)
+    finish(rt, alloc, words, desk, queues, meter)
 }

@@ -1,14 +1,15 @@
 //! The one choice of a type of weights, and the work that is done with it.
 
-ghost use Rattle.std.specs.Prelude.{◌≡◌, IsSome, length, map, true};
+ghost use Rattle.std.specs.Prelude.{◌≡◌, ◌≤◌, IsSome, length, map, true};
 ghost use Rattle.std.specs.Result.{result_map_both};
 ghost use Rattle.fst_any.specs.Typed.{typed};
 ghost use Rattle.fst_words.specs.Inputs.{has_codex, machine_count};
 ghost use Rattle.fst_words.specs.PlanLaws.{IsWhole};
-ghost use Rattle.fst_command.specs.Given.{kind_of};
+ghost use Rattle.fst_command.specs.Given.{kind_of, read_limit};
+ghost use Rattle.fst_command.specs.Metering.{IsFree, meter_seen};
 ghost use Rattle.fst_command.specs.Plans.{is_built};
 ghost use Rattle.fst_command.specs.Seeing.{bytes_seen, held_seen};
-ghost use Rattle.fst_command.specs.Steps.{Decides};
+ghost use Rattle.fst_command.specs.Steps.{Decides, MetersWork};
 
 use crate::commands::made;
 use crate::given::{Given, Held, alike};
@@ -16,29 +17,38 @@ use crate::made::{Bytes, bytes_of};
 use crate::queues::Queues;
 use crate::refusal::Refusal;
 use fst_any::Kinded;
+use fst_delayed::Meter;
 use fst_semiring::{ArcType, Boolean, Lexicographic, MinMax, Tropical};
 use fst_words::Plan;
 use std::alloc::Global;
+use std::thread::Threads;
 
 /// The bytes of what a command makes of what was read, whose arc type is that of the weights.
-fn worked_as<W: Kinded>(
+fn worked_as<R: Threads + Sync, W: Kinded + Send + Sync, M: Meter>(
+    rt: &R,
     alloc: Global,
     plan: &Plan,
     held: Held,
     queues: Queues,
+    meter: &mut M,
 ) -> Result<Bytes, Refusal>
+where
+    W::Wide: Send + Sync,
     requires built { is_built plan.now.command ≡ true }
     requires whole { IsWhole plan.now }
     requires kind { kind_of plan.now.options (map typed held.machines.items) ≡ W.KIND }
     requires machines { length held.machines.items ≡ machine_count plan.now }
     requires codex { has_codex plan.now ≡ true → IsSome held.codex }
-    ensures { Decides plan.now (held_seen held) (result_map_both bytes_seen (λ e. e) result) }
+    requires lines { length held.lines.items ≤ read_limit }
+    requires free { IsFree (meter_seen M.count M.parts_out M.is_part meter.old) }
+    ensures decides { Decides plan.now (held_seen held) (result_map_both bytes_seen (λ e. e) result) }
+    ensures meter { MetersWork plan.now (held_seen held) (meter_seen M.count M.parts_out M.is_part meter.old) (meter_seen M.count M.parts_out M.is_part meter.new) (result_map_both bytes_seen (λ e. e) result) }
 {
     let given: Given<W> = match alike(alloc, held) {
         Ok(given) => given,
         Err(refusal) => return Err(refusal),
     };
-    let made = match made(alloc, plan, given, queues) {
+    let made = match made(rt, alloc, plan, given, queues, meter) {
         Ok(made) => made,
         Err(refusal) => return Err(refusal),
     };
@@ -49,22 +59,29 @@ fn worked_as<W: Kinded>(
 }
 
 /// The bytes of what a command makes of what was read.
-pub(crate) fn worked(
+pub(crate) fn worked<R: Threads + Sync, M: Meter>(
+    rt: &R,
     alloc: Global,
     plan: &Plan,
     held: Held,
     queues: Queues,
+    meter: &mut M,
 ) -> Result<Bytes, Refusal>
     requires built { is_built plan.now.command ≡ true }
     requires whole { IsWhole plan.now }
     requires machines { length held.machines.items ≡ machine_count plan.now }
     requires codex { has_codex plan.now ≡ true → IsSome held.codex }
-    ensures { Decides plan.now (held_seen held) (result_map_both bytes_seen (λ e. e) result) }
+    requires lines { length held.lines.items ≤ read_limit }
+    requires free { IsFree (meter_seen M.count M.parts_out M.is_part meter.old) }
+    ensures decides { Decides plan.now (held_seen held) (result_map_both bytes_seen (λ e. e) result) }
+    ensures meter { MetersWork plan.now (held_seen held) (meter_seen M.count M.parts_out M.is_part meter.old) (meter_seen M.count M.parts_out M.is_part meter.new) (result_map_both bytes_seen (λ e. e) result) }
 {
     match held.kind(&plan.options) {
-        ArcType::Boolean => worked_as::<Boolean>(alloc, plan, held, queues),
-        ArcType::Tropical => worked_as::<Tropical>(alloc, plan, held, queues),
-        ArcType::MinMax => worked_as::<MinMax>(alloc, plan, held, queues),
-        ArcType::Lexicographic => worked_as::<Lexicographic>(alloc, plan, held, queues),
+        ArcType::Boolean => worked_as::<R, Boolean, M>(rt, alloc, plan, held, queues, meter),
+        ArcType::Tropical => worked_as::<R, Tropical, M>(rt, alloc, plan, held, queues, meter),
+        ArcType::MinMax => worked_as::<R, MinMax, M>(rt, alloc, plan, held, queues, meter),
+        ArcType::Lexicographic => worked_as::<R, Lexicographic, M>(
+            rt, alloc, plan, held, queues, meter,
+        ),
     }
 }

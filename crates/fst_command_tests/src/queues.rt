@@ -2,6 +2,7 @@
 
 use crate::session::{ends, split};
 use fst_command::{Queues, run};
+use fst_delayed::CountMeter;
 use fst_desk::MemoryDesk;
 use fst_queue::{BestFirst, Fifo, Lifo, StateQueue};
 use fst_semiring::Key;
@@ -86,7 +87,9 @@ fn takes<R: Threads + Sync + Abort>(
         )?,
     };
     let words = split(alloc, line)?;
-    assert_eq!(rt; run(rt, alloc, words.as_slice(), desk, queues), 0, "{line}");
+    let mut meter = CountMeter::new();
+    let ended = run(rt, alloc, words.as_slice(), desk, queues, &mut meter);
+    assert_eq!(rt; ended, 0, "{line}");
     for (place, count) in counts.iter().enumerate() {
         assert!(rt; (count.get() > 0) == (place == wanted), "{line}");
     }

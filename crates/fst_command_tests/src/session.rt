@@ -65,7 +65,8 @@ pub(crate) fn ends<R: Threads + Sync + Abort>(
     let before = desk.shown_bytes().len();
     let words = split(alloc, line)?;
     let queues = queues(alloc)?;
-    let ended = run(rt, alloc, words.as_slice(), desk, queues);
+    let mut meter = CountMeter::new();
+    let ended = run(rt, alloc, words.as_slice(), desk, queues, &mut meter);
     assert_eq!(rt; ended, status, "{line}");
     let found = desk.shown_bytes().get(before..).unwrap_or(&[]);
     assert_eq!(rt; found, shown, "{line}");

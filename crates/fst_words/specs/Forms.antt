@@ -7,7 +7,7 @@ use Rattle.fst_words.specs.declared.form.Shape.TheVariants.{NoInput, Text, One, 
 use Rattle.fst_words.specs.declared.form.Role.{Role}
 use Rattle.fst_words.specs.declared.form.Role.TheVariants as roles
 use Rattle.fst_words.specs.declared.verb.Verb.{Verb}
-use Rattle.fst_words.specs.declared.verb.Verb.TheVariants.{Compile, Print, Info, Invert, Reverse, Connect, Union, Concat, Closure, Project, Replace, Relabel, Arcsort, Compose, Rmepsilon, Shortestdistance, Shortestpath, Push, Encode, Determinize, Minimize, Batch, Make}
+use Rattle.fst_words.specs.declared.verb.Verb.TheVariants as verbs
 
 pub record Form : Type 0 where
   pub name : List ℕ
@@ -16,44 +16,44 @@ pub record Form : Type 0 where
   pub shape : Shape
 
 abbrev pub form_of : Verb → Form
-form_of Compile = record {
+form_of verbs.Compile = record {
   name = codes "compile";
   options = codes "arc_type" ∷ codes "isymbols" ∷ codes "osymbols" ∷ [];
   flags = codes "acceptor" ∷ codes "keep_state_numbering" ∷ [];
   shape = Text;
 }
-form_of Print = record {
+form_of verbs.Print = record {
   name = codes "print";
   options = codes "isymbols" ∷ codes "osymbols" ∷ [];
   flags = codes "acceptor" ∷ codes "show_weight_one" ∷ [];
   shape = One;
 }
-form_of Info = record { name = codes "info"; options = []; flags = []; shape = One }
-form_of Invert = record { name = codes "invert"; options = []; flags = []; shape = One }
-form_of Reverse = record { name = codes "reverse"; options = []; flags = []; shape = One }
-form_of Connect = record { name = codes "connect"; options = []; flags = []; shape = One }
-form_of Union = record { name = codes "union"; options = []; flags = []; shape = Two }
-form_of Concat = record { name = codes "concat"; options = []; flags = []; shape = Two }
-form_of Closure = record { name = codes "closure"; options = []; flags = codes "closure_plus" ∷ []; shape = One }
-form_of Project = record { name = codes "project"; options = []; flags = codes "project_output" ∷ []; shape = One }
-form_of Replace = record { name = codes "replace"; options = []; flags = []; shape = Rules }
-form_of Relabel = record { name = codes "relabel"; options = codes "relabel_ipairs" ∷ codes "relabel_opairs" ∷ []; flags = []; shape = One }
-form_of Arcsort = record { name = codes "arcsort"; options = codes "sort_type" ∷ []; flags = []; shape = One }
-form_of Compose = record { name = codes "compose"; options = codes "connect" ∷ codes "max_states" ∷ []; flags = []; shape = Two }
-form_of Rmepsilon = record { name = codes "rmepsilon"; options = codes "connect" ∷ codes "queue_type" ∷ []; flags = []; shape = One }
-form_of Shortestdistance = record { name = codes "shortestdistance"; options = codes "queue_type" ∷ []; flags = codes "reverse" ∷ []; shape = One }
-form_of Shortestpath = record { name = codes "shortestpath"; options = codes "nshortest" ∷ []; flags = []; shape = One }
-form_of Push = record { name = codes "push"; options = codes "queue_type" ∷ []; flags = codes "push_weights" ∷ codes "remove_total_weight" ∷ []; shape = One }
-form_of Encode = record { name = codes "encode"; options = []; flags = codes "encode_labels" ∷ codes "encode_weights" ∷ codes "decode" ∷ []; shape = Codex }
-form_of Determinize = record { name = codes "determinize"; options = codes "max_states" ∷ []; flags = []; shape = One }
-form_of Minimize = record { name = codes "minimize"; options = codes "queue_type" ∷ []; flags = []; shape = One }
-form_of Batch = record {
+form_of verbs.Info = record { name = codes "info"; options = []; flags = []; shape = One }
+form_of verbs.Invert = record { name = codes "invert"; options = []; flags = []; shape = One }
+form_of verbs.Reverse = record { name = codes "reverse"; options = []; flags = []; shape = One }
+form_of verbs.Connect = record { name = codes "connect"; options = []; flags = []; shape = One }
+form_of verbs.Union = record { name = codes "union"; options = []; flags = []; shape = Two }
+form_of verbs.Concat = record { name = codes "concat"; options = []; flags = []; shape = Two }
+form_of verbs.Closure = record { name = codes "closure"; options = []; flags = codes "closure_plus" ∷ []; shape = One }
+form_of verbs.Project = record { name = codes "project"; options = []; flags = codes "project_output" ∷ []; shape = One }
+form_of verbs.Replace = record { name = codes "replace"; options = []; flags = []; shape = Rules }
+form_of verbs.Relabel = record { name = codes "relabel"; options = codes "relabel_ipairs" ∷ codes "relabel_opairs" ∷ []; flags = []; shape = One }
+form_of verbs.Arcsort = record { name = codes "arcsort"; options = codes "sort_type" ∷ []; flags = []; shape = One }
+form_of verbs.Compose = record { name = codes "compose"; options = codes "connect" ∷ codes "max_states" ∷ []; flags = []; shape = Two }
+form_of verbs.Rmepsilon = record { name = codes "rmepsilon"; options = codes "connect" ∷ codes "queue_type" ∷ []; flags = []; shape = One }
+form_of verbs.Shortestdistance = record { name = codes "shortestdistance"; options = codes "queue_type" ∷ []; flags = codes "reverse" ∷ []; shape = One }
+form_of verbs.Shortestpath = record { name = codes "shortestpath"; options = codes "nshortest" ∷ []; flags = []; shape = One }
+form_of verbs.Push = record { name = codes "push"; options = codes "queue_type" ∷ []; flags = codes "push_weights" ∷ codes "remove_total_weight" ∷ []; shape = One }
+form_of verbs.Encode = record { name = codes "encode"; options = []; flags = codes "encode_labels" ∷ codes "encode_weights" ∷ codes "decode" ∷ []; shape = Codex }
+form_of verbs.Determinize = record { name = codes "determinize"; options = codes "max_states" ∷ []; flags = []; shape = One }
+form_of verbs.Minimize = record { name = codes "minimize"; options = codes "queue_type" ∷ []; flags = []; shape = One }
+form_of verbs.Batch = record {
   name = codes "batch";
   options = codes "nshortest" ∷ codes "workers" ∷ codes "max_states" ∷ [];
   flags = codes "summary" ∷ [];
   shape = Three;
 }
-form_of Make = record {
+form_of verbs.Make = record {
   name = codes "make";
   options = codes "seed" ∷ codes "lines" ∷ codes "nshortest" ∷ codes "workers" ∷ codes "max_states" ∷ [];
   flags = [];

@@ -96,11 +96,24 @@ stored_by Three decode = 1
 stored_by Rules decode = 1
 stored_by Codex decode = if decode then 1 else 2
 
+-- whether a command runs lines through a cascade, and expands its states
+abbrev pub expands_by : Shape → Bool
+expands_by NoInput = true
+expands_by Text = false
+expands_by One = false
+expands_by Two = false
+expands_by Three = true
+expands_by Rules = false
+expands_by Codex = false
+
 abbrev pub machine_count : Plan → ℕ
 machine_count plan = machines_by (form_of plan.command).shape (length plan.names)
 
 abbrev pub has_codex : Plan → Bool
 has_codex plan = codex_by (form_of plan.command).shape plan.options.decode
+
+abbrev pub expands : Plan → Bool
+expands plan = expands_by (form_of plan.command).shape
 
 abbrev pub stored_count : Plan → ℕ
 stored_count plan = stored_by (form_of plan.command).shape plan.options.decode

@@ -3,7 +3,7 @@ use Rattle.std.specs.Prelude.{ℕ, List, [], ◌∷◌, drop, find, nat_eq, Opti
 use Rattle.std.specs.List.{starts_with}
 use Rattle.std.specs.Str.{bytes_eq}
 use Rattle.fst_words.specs.declared.verb.Verb.{Verb}
-use Rattle.fst_words.specs.declared.verb.Verb.TheVariants.{Compile, Print, Info, Invert, Reverse, Connect, Union, Concat, Closure, Project, Replace, Relabel, Arcsort, Compose, Rmepsilon, Shortestdistance, Shortestpath, Push, Encode, Determinize, Minimize, Batch, Make}
+use Rattle.fst_words.specs.declared.verb.Verb.TheVariants as verbs
 use Rattle.fst_words.specs.Forms.{form_of}
 
 -- the name of a command
@@ -13,8 +13,29 @@ name_of verb = (form_of verb).name
 -- the commands
 abbrev pub all_verbs : List Verb
 all_verbs =
-    Compile ∷ Print ∷ Info ∷ Invert ∷ Reverse ∷ Connect ∷ Union ∷ Concat ∷ Closure ∷ Project ∷ Replace ∷ Relabel ∷ Arcsort ∷ Compose ∷ Rmepsilon
-    ∷ Shortestdistance ∷ Shortestpath ∷ Push ∷ Encode ∷ Determinize ∷ Minimize ∷ Batch ∷ Make ∷ []
+    verbs.Compile ∷
+    verbs.Print ∷
+    verbs.Info ∷
+    verbs.Invert ∷
+    verbs.Reverse ∷
+    verbs.Connect ∷
+    verbs.Union ∷
+    verbs.Concat ∷
+    verbs.Closure ∷
+    verbs.Project ∷
+    verbs.Replace ∷
+    verbs.Relabel ∷
+    verbs.Arcsort ∷
+    verbs.Compose ∷
+    verbs.Rmepsilon ∷
+    verbs.Shortestdistance ∷
+    verbs.Shortestpath ∷
+    verbs.Push ∷
+    verbs.Encode ∷
+    verbs.Determinize ∷
+    verbs.Minimize ∷
+    verbs.Batch ∷
+    verbs.Make ∷ []
 
 -- the command that has this name
 unfoldable pub verb_named : List ℕ → Option Verb

@@ -39,6 +39,26 @@ pub(crate) struct Form {
     pub(crate) shape: Shape,
 }
 
+/// A row of the table.
+fn row(
+    name: &'static str,
+    options: &'static [&'static str],
+    flags: &'static [&'static str],
+    shape: Shape,
+) -> Form
+    ensures name { result.name.now ≡ name.now }
+    ensures options { map (λ s. s.now) result.options.now ≡ map (λ s. s.now) options.now }
+    ensures flags { map (λ s. s.now) result.flags.now ≡ map (λ s. s.now) flags.now }
+    ensures shape { result.shape ≡ shape }
+{
+    Form {
+        name,
+        options,
+        flags,
+        shape,
+    }
+}
+
 /// What each command takes.
 pub(crate) fn form_of(verb: Verb) -> Form
     ensures name { result.name.now ≡ name_of verb }
@@ -47,144 +67,69 @@ pub(crate) fn form_of(verb: Verb) -> Form
     ensures shape { result.shape ≡ (form_of verb).shape }
 {
     match verb {
-        Verb::Compile => Form {
-            name: "compile",
-            options: &["arc_type", "isymbols", "osymbols"],
-            flags: &["acceptor", "keep_state_numbering"],
-            shape: Shape::Text,
-        },
-        Verb::Print => Form {
-            name: "print",
-            options: &["isymbols", "osymbols"],
-            flags: &["acceptor", "show_weight_one"],
-            shape: Shape::One,
-        },
-        Verb::Info => Form {
-            name: "info",
-            options: &[],
-            flags: &[],
-            shape: Shape::One,
-        },
-        Verb::Invert => Form {
-            name: "invert",
-            options: &[],
-            flags: &[],
-            shape: Shape::One,
-        },
-        Verb::Reverse => Form {
-            name: "reverse",
-            options: &[],
-            flags: &[],
-            shape: Shape::One,
-        },
-        Verb::Connect => Form {
-            name: "connect",
-            options: &[],
-            flags: &[],
-            shape: Shape::One,
-        },
-        Verb::Union => Form {
-            name: "union",
-            options: &[],
-            flags: &[],
-            shape: Shape::Two,
-        },
-        Verb::Concat => Form {
-            name: "concat",
-            options: &[],
-            flags: &[],
-            shape: Shape::Two,
-        },
-        Verb::Closure => Form {
-            name: "closure",
-            options: &[],
-            flags: &["closure_plus"],
-            shape: Shape::One,
-        },
-        Verb::Project => Form {
-            name: "project",
-            options: &[],
-            flags: &["project_output"],
-            shape: Shape::One,
-        },
-        Verb::Replace => Form {
-            name: "replace",
-            options: &[],
-            flags: &[],
-            shape: Shape::Rules,
-        },
-        Verb::Relabel => Form {
-            name: "relabel",
-            options: &["relabel_ipairs", "relabel_opairs"],
-            flags: &[],
-            shape: Shape::One,
-        },
-        Verb::Arcsort => Form {
-            name: "arcsort",
-            options: &["sort_type"],
-            flags: &[],
-            shape: Shape::One,
-        },
-        Verb::Compose => Form {
-            name: "compose",
-            options: &["connect", "max_states"],
-            flags: &[],
-            shape: Shape::Two,
-        },
-        Verb::Rmepsilon => Form {
-            name: "rmepsilon",
-            options: &["connect", "queue_type"],
-            flags: &[],
-            shape: Shape::One,
-        },
-        Verb::Shortestdistance => Form {
-            name: "shortestdistance",
-            options: &["queue_type"],
-            flags: &["reverse"],
-            shape: Shape::One,
-        },
-        Verb::Shortestpath => Form {
-            name: "shortestpath",
-            options: &["nshortest"],
-            flags: &[],
-            shape: Shape::One,
-        },
-        Verb::Push => Form {
-            name: "push",
-            options: &["queue_type"],
-            flags: &["push_weights", "remove_total_weight"],
-            shape: Shape::One,
-        },
-        Verb::Encode => Form {
-            name: "encode",
-            options: &[],
-            flags: &["encode_labels", "encode_weights", "decode"],
-            shape: Shape::Codex,
-        },
-        Verb::Determinize => Form {
-            name: "determinize",
-            options: &["max_states"],
-            flags: &[],
-            shape: Shape::One,
-        },
-        Verb::Minimize => Form {
-            name: "minimize",
-            options: &["queue_type"],
-            flags: &[],
-            shape: Shape::One,
-        },
-        Verb::Batch => Form {
-            name: "batch",
-            options: &["nshortest", "workers", "max_states"],
-            flags: &["summary"],
-            shape: Shape::Three,
-        },
-        Verb::Make => Form {
-            name: "make",
-            options: &["seed", "lines", "nshortest", "workers", "max_states"],
-            flags: &[],
-            shape: Shape::NoInput,
-        },
+        Verb::Compile => row(
+            "compile",
+            &["arc_type", "isymbols", "osymbols"],
+            &["acceptor", "keep_state_numbering"],
+            Shape::Text,
+        ),
+        Verb::Print => row(
+            "print",
+            &["isymbols", "osymbols"],
+            &["acceptor", "show_weight_one"],
+            Shape::One,
+        ),
+        Verb::Info => row("info", &[], &[], Shape::One),
+        Verb::Invert => row("invert", &[], &[], Shape::One),
+        Verb::Reverse => row("reverse", &[], &[], Shape::One),
+        Verb::Connect => row("connect", &[], &[], Shape::One),
+        Verb::Union => row("union", &[], &[], Shape::Two),
+        Verb::Concat => row("concat", &[], &[], Shape::Two),
+        Verb::Closure => row("closure", &[], &["closure_plus"], Shape::One),
+        Verb::Project => row("project", &[], &["project_output"], Shape::One),
+        Verb::Replace => row("replace", &[], &[], Shape::Rules),
+        Verb::Relabel => row(
+            "relabel",
+            &["relabel_ipairs", "relabel_opairs"],
+            &[],
+            Shape::One,
+        ),
+        Verb::Arcsort => row("arcsort", &["sort_type"], &[], Shape::One),
+        Verb::Compose => row("compose", &["connect", "max_states"], &[], Shape::Two),
+        Verb::Rmepsilon => row("rmepsilon", &["connect", "queue_type"], &[], Shape::One),
+        Verb::Shortestdistance => row(
+            "shortestdistance",
+            &["queue_type"],
+            &["reverse"],
+            Shape::One,
+        ),
+        Verb::Shortestpath => row("shortestpath", &["nshortest"], &[], Shape::One),
+        Verb::Push => row(
+            "push",
+            &["queue_type"],
+            &["push_weights", "remove_total_weight"],
+            Shape::One,
+        ),
+        Verb::Encode => row(
+            "encode",
+            &[],
+            &["encode_labels", "encode_weights", "decode"],
+            Shape::Codex,
+        ),
+        Verb::Determinize => row("determinize", &["max_states"], &[], Shape::One),
+        Verb::Minimize => row("minimize", &["queue_type"], &[], Shape::One),
+        Verb::Batch => row(
+            "batch",
+            &["nshortest", "workers", "max_states"],
+            &["summary"],
+            Shape::Three,
+        ),
+        Verb::Make => row(
+            "make",
+            &["seed", "lines", "nshortest", "workers", "max_states"],
+            &[],
+            Shape::NoInput,
+        ),
     }
 }
 

@@ -1,11 +1,14 @@
 use Rattle.std.proofs.Common.{◌≡◌, true, sym, ap, ◌∙◌, subst, arith}
 use Rattle.std.specs.Result.{result_map_both}
 use Rattle.fst_words.specs.declared.verb.Verb.{Verb}
+use Rattle.fst_words.specs.Forms.{form_of}
+use Rattle.fst_words.specs.Inputs.{expands_by}
 use Rattle.fst_words.specs.Plans.{is_replace, rule_labels}
 use Rattle.fst_words.proofs.Counts.{labels_all, rules_some}
 use Rattle.fst_command.specs.Commands.{meaning_by}
 use Rattle.fst_command.specs.Meaning.{Settles}
 use Rattle.fst_command.specs.Seeing.{given_seen, made_seen}
+use Rattle.fst_command.proofs.Meters.{raises_nothing}
 use Rattle.fst_command.proofs.commands.made.Goals as goal
 
 pub replaced-requires-clause-some : goal.replaced-requires-clause-some
@@ -20,8 +23,11 @@ replaced-requires-clause-all g c =
     let rules : is_replace plan.command ≡ true = ap is_replace c.in-Replace.is in
     c.requires.machines ∙ sym (labels_all plan c.requires.whole rules)
 
-pub returns-in-Replace : goal.returns-in-Replace
-returns-in-Replace g c =
+pub returns-in-Replace-clause-meter : goal.returns-in-Replace-clause-meter
+returns-in-Replace-clause-meter g c = raises_nothing c.args.plan.now _ _ (ap (λ (v : Verb). expands_by (form_of v).shape) c.in-Replace.is)
+
+pub returns-in-Replace-clause-settles : goal.returns-in-Replace-clause-settles
+returns-in-Replace-clause-settles g c =
     let plan = c.args.plan.now in
     let kind = g.W.Weight.KIND in
     let value = g.W.Weight.value in

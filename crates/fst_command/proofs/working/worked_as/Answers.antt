@@ -1,20 +1,27 @@
-use Rattle.std.proofs.Common.{sym, ◌∙◌}
+use Rattle.std.proofs.Common.{ℕ, ◌≤◌, List, length, sym, ◌∙◌, subst}
 use Rattle.std.proofs.lemmas.List.{length-map}
 use Rattle.fst_machine.specs.Machine.{valued}
 use Rattle.fst_codex.specs.Table.{valued_table}
 use Rattle.fst_any.specs.Typed.{typed, typed_codex}
+use Rattle.fst_command.specs.Given.{read_limit}
 use Rattle.fst_command.specs.Seeing.{given_seen, held_seen}
-use Rattle.fst_command.proofs.Counted.{given_codex, given_machines, some_seen}
+use Rattle.fst_command.proofs.Counted.{given_codex, given_lines, given_machines, some_seen}
 use Rattle.fst_command.proofs.working.worked_as.Goals as goal
 
 pub made-requires-clause-machines : goal.made-requires-clause-machines
-made-requires-clause-machines g c =
+made-requires-clause-machines g c lives within =
     let value = g.W.Weight.value in
     let given = c.in-Ok.given in
     sym (length-map given.machines.items (valued value)) ∙ given_machines g.W.Weight.KIND (held_seen c.args.held) (given_seen g.W.Weight.KIND value given) c.in-Ok.ensures ∙ length-map c.args.held.machines.items typed ∙ c.requires.machines
 
 pub made-requires-clause-codex : goal.made-requires-clause-codex
-made-requires-clause-codex g c has =
+made-requires-clause-codex g c lives within has =
     let value = g.W.Weight.value in
     let given = c.in-Ok.given in
     sym (some_seen (valued_table value) given.codex) ∙ given_codex g.W.Weight.KIND (held_seen c.args.held) (given_seen g.W.Weight.KIND value given) c.in-Ok.ensures (some_seen typed_codex c.args.held.codex ∙ c.requires.codex has)
+
+pub made-requires-clause-lines : goal.made-requires-clause-lines
+made-requires-clause-lines g c lives within =
+    let value = g.W.Weight.value in
+    let given = given_seen g.W.Weight.KIND value c.in-Ok.given in
+    subst (λ (lines : List ℕ). length lines ≤ read_limit) (sym (given_lines g.W.Weight.KIND (held_seen c.args.held) given c.in-Ok.ensures)) c.requires.lines
