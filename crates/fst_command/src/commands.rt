@@ -72,10 +72,7 @@ where
         Verb::Encode => coding::coded(alloc, &plan.options, given),
         Verb::Rmepsilon => removing::removed(alloc, &plan.options, given, queues),
         Verb::Shortestdistance => measuring::measured(alloc, &plan.options, given, queues),
-        Verb::Shortestpath
-        | Verb::Push
-        | Verb::Minimize
-        | Verb::Batch
-        | Verb::Make => unreachable!(),
+        Verb::Shortestpath | Verb::Push | Verb::Minimize | Verb::Batch | Verb::Make =>
+            unreachable!(),
     }
 }

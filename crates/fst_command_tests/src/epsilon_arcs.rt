@@ -18,8 +18,14 @@ static REMOVED: [Row; 34] = [
     Machine("m", "tropical", TWO_WAYS),
     Makes("rmepsilon m r", b"0\t1\t5\t6\t6\n1\n"),
     Makes("rmepsilon --queue_type=lifo m r", b"0\t1\t5\t6\t6\n1\n"),
-    Makes("fstrmepsilon --queue_type=shortest m r", b"0\t1\t5\t6\t6\n1\n"),
-    Makes("rmepsilon --queue_type=auto --connect=true m r", b"0\t1\t5\t6\t6\n1\n"),
+    Makes(
+        "fstrmepsilon --queue_type=shortest m r",
+        b"0\t1\t5\t6\t6\n1\n",
+    ),
+    Makes(
+        "rmepsilon --queue_type=auto --connect=true m r",
+        b"0\t1\t5\t6\t6\n1\n",
+    ),
     Makes(
         "rmepsilon --connect=false m r",
         b"0\t3\t5\t6\t6\n1\t3\t5\t6\t4\n2\t3\t5\t6\t5\n3\n",
@@ -40,9 +46,17 @@ static REMOVED: [Row; 34] = [
         "rmepsilon --connect=false m r",
         b"0\t1\t1\t1\n0\n1\t1\t1\t1\n1\n2\t0\n",
     ),
-    Machine("m", "minmax", b"0 1 0 0 5\n0 2 0 0 3\n2 1 0 0 4\n1 2 1 1 1\n2\n1 7\n"),
+    Machine(
+        "m",
+        "minmax",
+        b"0 1 0 0 5\n0 2 0 0 3\n2 1 0 0 4\n1 2 1 1 1\n2\n1 7\n",
+    ),
     Makes("rmepsilon m r", b"0\t1\t1\t1\t4\n0\t3\n1\t1\t1\t1\t4\n1\n"),
-    Machine("m", "lexicographic", b"0 1 0 0 1,2\n0 2 0 0 1,1\n1 3 1 1 0,0\n2 3 1 1 0,0\n3 2,2\n"),
+    Machine(
+        "m",
+        "lexicographic",
+        b"0 1 0 0 1,2\n0 2 0 0 1,1\n1 3 1 1 0,0\n2 3 1 1 0,0\n3 2,2\n",
+    ),
     Makes("rmepsilon m r", b"0\t1\t1\t1\t1,1\n1\t2,2\n"),
     // No start.
     Machine("m", "tropical", b""),
@@ -50,8 +64,16 @@ static REMOVED: [Row; 34] = [
     Makes("rmepsilon --connect=false m r", b""),
     Machine("m", "tropical", BETTERED),
     Refuse("rmepsilon m o", 1, b"fst: improving cycle\n"),
-    Refuse("rmepsilon --queue_type=lifo m o", 1, b"fst: improving cycle\n"),
-    Refuse("rmepsilon --queue_type=shortest --connect=false m o", 1, b"fst: improving cycle\n"),
+    Refuse(
+        "rmepsilon --queue_type=lifo m o",
+        1,
+        b"fst: improving cycle\n",
+    ),
+    Refuse(
+        "rmepsilon --queue_type=shortest --connect=false m o",
+        1,
+        b"fst: improving cycle\n",
+    ),
     // One label of it is not epsilon.
     Machine("m", "tropical", b"0 0 0 1 -1\n0\n"),
     Makes("rmepsilon m r", b"0\t0\t0\t1\t-1\n0\n"),
@@ -65,14 +87,14 @@ static REMOVED: [Row; 34] = [
         b"0 1 1 1\n1 2 0 0 900000000000000000\n2 3 1 1 900000000000000000\n0\n",
     ),
     Refuse("rmepsilon m o", 1, b"fst: number too large at state 1\n"),
-    Machine(
-        "m",
-        "tropical",
-        b"0 1 0 0 1000000000000000000\n1 1\n",
-    ),
+    Machine("m", "tropical", b"0 1 0 0 1000000000000000000\n1 1\n"),
     Refuse("rmepsilon m o", 1, b"fst: number too large at state 0\n"),
     Lacks("o"),
-    Refuse("rmepsilon --connect=maybe m o", 1, b"fst: bad command line\n"),
+    Refuse(
+        "rmepsilon --connect=maybe m o",
+        1,
+        b"fst: bad command line\n",
+    ),
     Lacks("o"),
 ];
 

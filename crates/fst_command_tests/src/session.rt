@@ -1,6 +1,7 @@
 //! Rows of tests, played one after the other over a desk in memory.
 
 use fst_command::{Queues, run};
+use fst_delayed::CountMeter;
 use fst_desk::MemoryDesk;
 use fst_queue::{BestFirst, Fifo, Lifo};
 use std::alloc::{AllocError, Global};

@@ -79,7 +79,12 @@ fn leaves<W: Weight>(
     let fst: Fst<W> = machine(alloc, text)?;
     is_left(rt, alloc, &left(alloc, &fst, Fifo::new(alloc))?, wanted)?;
     is_left(rt, alloc, &left(alloc, &fst, Lifo::new(alloc))?, wanted)?;
-    is_left(rt, alloc, &left(alloc, &fst, BestFirst::new(alloc))?, wanted)?;
+    is_left(
+        rt,
+        alloc,
+        &left(alloc, &fst, BestFirst::new(alloc))?,
+        wanted,
+    )?;
     let worst = WorstFirst {
         inner: BestFirst::new(alloc),
     };
@@ -127,10 +132,7 @@ enum Refused {
 /// Machines, and what is refused: a cycle of epsilon arcs that is better than One; nothing where one label is not epsilon,
 /// and where the start does not reach it; and the first state with too large a number.
 static REFUSED: [(&[u8], Refused); 4] = [
-    (
-        b"0 1 1 1\n1 2 0 0 1\n2 1 0 0 -2\n2\n",
-        Refused::Cycle,
-    ),
+    (b"0 1 1 1\n1 2 0 0 1\n2 1 0 0 -2\n2\n", Refused::Cycle),
     (b"0 0 1 0 -1\n0\n", Refused::Nothing),
     (b"0\n1 1 0 0 -1\n1\n", Refused::Nothing),
     (
