@@ -24,8 +24,10 @@ mod DecidingCoding
 mod DecidingComposing
 mod DecidingDeterminizing
 mod DecidingListing
+mod DecidingRemoving
 mod OneOutcome
 mod Exactly
 mod Determinized
 mod Measured
+mod Removed
 mod Meters

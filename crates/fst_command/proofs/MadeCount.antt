@@ -83,7 +83,7 @@ made_count Replace labels o given made is = one_machine given.kind _ made is
 made_count Relabel labels o given made is = one_of given.machines given.kind _ made is
 made_count Arcsort labels o given made is = one_of given.machines given.kind _ made is
 made_count Compose labels o given made is = two_of given.machines given.kind _ made is
-made_count Rmepsilon labels o given made is = absurd is
+made_count Rmepsilon labels o given made is = one_of given.machines given.kind _ made is
 made_count Shortestdistance labels o given made is =
     of_one given.machines (λ m x. (ds : List Cost) × AreDistances (direction_of o) given.kind m ds × (x ≡ text (distance_lines given.kind 0 ds))) made (λ m h. ap (λ x. length (bytes_of x)) h.2) is
 made_count Shortestpath labels o given made is = one_of given.machines given.kind _ made is

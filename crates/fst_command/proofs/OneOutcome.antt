@@ -27,6 +27,7 @@ use Rattle.fst_command.proofs.DecidingCoding.{one_coding_makes, one_coding_stops
 use Rattle.fst_command.proofs.DecidingComposing.{one_composed}
 use Rattle.fst_command.proofs.DecidingDeterminizing.{one_determinized, one_undetermined}
 use Rattle.fst_command.proofs.DecidingListing.{one_listed, one_unlisted}
+use Rattle.fst_command.proofs.DecidingRemoving.{one_removed_machine, one_unremoved}
 use Rattle.fst_command.proofs.DecidingSizes.{one_cause, one_too_large}
 use Rattle.fst_command.proofs.Measured.{one_distances, one_unmeasured}
 
@@ -62,7 +63,10 @@ one_meaning Compose labels o given = record {
   made = one_for_two _ (λ a b. one_made given.kind _ (one_composed o given.kind a b)) given.machines;
 }
 one_meaning Encode labels o given = record { stopped = one_coding_stops o.decode given; made = one_coding_makes o.decode o.encode_weights given }
-one_meaning Rmepsilon labels o given = record { stopped = one_never; made = λ x y one two. absurd one }
+one_meaning Rmepsilon labels o given = record {
+  stopped = one_for_one _ (λ m. one_unremoved given.kind m) given.machines;
+  made = one_for_one _ (λ m. one_made given.kind _ (one_removed_machine o given.kind m)) given.machines;
+}
 one_meaning Shortestdistance labels o given = record {
   stopped = one_for_one _ (λ m. one_told _ _ (one_unmeasured given.kind m (direction_of o))) given.machines;
   made = one_for_one _ (λ m. one_told _ _ (one_distances given.kind m (direction_of o))) given.machines;

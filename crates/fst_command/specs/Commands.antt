@@ -13,6 +13,7 @@ use Rattle.fst_command.specs.Describing.{info_meaning}
 use Rattle.fst_command.specs.Listing.{listing_meaning}
 use Rattle.fst_command.specs.Measuring.{measure_meaning}
 use Rattle.fst_command.specs.Rational.{closure_meaning, concat_meaning, invert_meaning, project_meaning, relabel_meaning, reverse_meaning, union_meaning}
+use Rattle.fst_command.specs.Removing.{rmepsilon_meaning}
 use Rattle.fst_command.specs.Replacing.{replace_meaning}
 use Rattle.fst_command.specs.Texts.{compile_meaning, print_meaning}
 use Rattle.fst_command.specs.Trimming.{arcsort_meaning, connect_meaning}
@@ -37,7 +38,7 @@ meaning_by Replace labels o = replace_meaning labels
 meaning_by Relabel labels o = relabel_meaning
 meaning_by Arcsort labels o = arcsort_meaning o
 meaning_by Compose labels o = compose_meaning o
-meaning_by Rmepsilon labels o = unbuilt
+meaning_by Rmepsilon labels o = rmepsilon_meaning o
 meaning_by Shortestdistance labels o = measure_meaning o
 meaning_by Shortestpath labels o = listing_meaning o
 meaning_by Push labels o = unbuilt

@@ -23,7 +23,7 @@ use Rattle.fst_command.specs.Meaning.{IsMachine, Meaning, for_two}
 abbrev pub state_limit : Options → ℕ
 state_limit options = unwrap_or options.max_states 1000000
 
--- whether a composition is connected: the word is `true`, or there is none
+-- whether what is made is connected: the word is `true`, or there is none
 abbrev pub connects : Options → Bool
 connects options = option_map_or (λ word. bytes_eq word (codes "true")) options.connect true
 

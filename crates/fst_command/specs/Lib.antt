@@ -15,6 +15,7 @@ pub mod Composing
 pub mod Determinizing
 pub mod Measuring
 pub mod Listing
+pub mod Removing
 pub mod Coding
 pub mod Commands
 pub mod Plans

@@ -18,6 +18,7 @@ mod determinizing;
 mod listing;
 mod measuring;
 mod rational;
+mod removing;
 mod replacing;
 mod texts;
 mod trimming;
@@ -70,8 +71,9 @@ where
         Verb::Compose => composing::composed(alloc, &plan.options, given),
         Verb::Determinize => determinizing::determinized(alloc, &plan.options, given),
         Verb::Encode => coding::coded(alloc, &plan.options, given),
+        Verb::Rmepsilon => removing::removed(alloc, &plan.options, given, queues),
         Verb::Shortestdistance => measuring::measured(alloc, &plan.options, given, queues),
         Verb::Shortestpath => listing::listed(alloc, &plan.options, given),
-        Verb::Rmepsilon | Verb::Push | Verb::Minimize | Verb::Batch | Verb::Make => unreachable!(),
+        Verb::Push | Verb::Minimize | Verb::Batch | Verb::Make => unreachable!(),
     }
 }

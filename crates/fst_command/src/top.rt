@@ -37,6 +37,7 @@ fn is_ready(verb: Verb) -> bool
             | Verb::Replace
             | Verb::Compose
             | Verb::Determinize
+            | Verb::Rmepsilon
             | Verb::Shortestdistance
             | Verb::Shortestpath
     )

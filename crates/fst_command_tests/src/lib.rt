@@ -16,6 +16,8 @@ mod desks;
 #[cfg(test)]
 mod distances;
 #[cfg(test)]
+mod epsilon_arcs;
+#[cfg(test)]
 mod faults;
 #[cfg(test)]
 mod forms;
@@ -25,6 +27,8 @@ mod operations;
 mod paths;
 #[cfg(test)]
 mod plans;
+#[cfg(test)]
+mod queues;
 #[cfg(test)]
 mod replacement;
 #[cfg(test)]

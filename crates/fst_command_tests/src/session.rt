@@ -1,6 +1,7 @@
 //! Rows of tests, played one after the other over a desk in memory.
 
 use fst_command::{Queues, run};
+use fst_delayed::CountMeter;
 use fst_desk::MemoryDesk;
 use fst_queue::{BestFirst, Fifo, Lifo};
 use std::alloc::{AllocError, Global};
@@ -36,7 +37,7 @@ pub(crate) enum Row {
 }
 
 /// The words of a line, one by one.
-fn split(alloc: Global, line: &str) -> Result<Vec<String>, AllocError> {
+pub(crate) fn split(alloc: Global, line: &str) -> Result<Vec<String>, AllocError> {
     let mut words = Vec::new(alloc);
     for word in line.split_whitespace() {
         words.push(String::from_str(alloc, word)?)?;

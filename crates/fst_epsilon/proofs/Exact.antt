@@ -100,7 +100,7 @@ module _ (kind : ArcType) (g : Graph ℕ) where
   keeps_left : (a b c : Cost) → NoWorse a b → NoWorse (times kind a c) (times kind b c)
   keeps_left a b c e = subst (λ z. plus z (times kind b c) ≡ z) (times_comm kind c a) (subst (λ z. plus (times kind c a) z ≡ times kind c a) (times_comm kind c b) (times_keeps kind c a b e))
 
-  least_reached : (q p : ℕ) (d : Cost) → (d ≡ infinite → ⊥) → IsDistance kind g EpsilonArc q p d → Reaches kind g EpsilonArc q p d
+  pub least_reached : (q p : ℕ) (d : Cost) → (d ≡ infinite → ⊥) → IsDistance kind g EpsilonArc q p d → Reaches kind g EpsilonArc q p d
   least_reached q p d finite (inl none) = absurd (finite none.1)
   least_reached q p d finite (inr one) = one.0
 
@@ -119,7 +119,7 @@ module _ (kind : ArcType) (g : Graph ℕ) where
       by (inr e) = e
 
   module _ (q : ℕ) (closure : List (ℕ × Cost)) (l : IsClosureList kind g q closure) where
-    arc_from : (b : Arc Cost ℕ) → Has (merged [] (collected kind g closure)) b → IsBehind kind g q b
+    pub arc_from : (b : Arc Cost ℕ) → Has (merged [] (collected kind g closure)) b → IsBehind kind g q b
     arc_from b h = behind (merged_from [] (collected kind g closure) b h)
       where
         placed : (f : From (collected kind g closure) b) (e : ℕ × Cost) → Has closure e → (a : Arc Cost ℕ) → Has (g.arcs e.0) a → is_silent a ≡ false → behind_arc kind e.1 a ≡ f.arc → IsBehind kind g q b

@@ -1,3 +1,11 @@
 pub mod Theorem
 pub mod Merging
 pub mod Exact
+pub mod Putting
+pub mod Closures
+pub mod Gathered
+pub mod Growing
+pub mod Fair
+pub mod Finished
+pub mod OneAnswer
+pub mod Whole

@@ -37,7 +37,7 @@ module _ {N : Type 0} (kind : ArcType) (g : Graph N) where
   silent_output [] all = refl
   silent_output (t ∷ path) all = ap (λ (l : ℕ). before l (output (letters path))) all.0.1 ∙ silent_output path all.1
 
-  AllArcs-append : (Class : Arc Cost N → Type 0) (path rest : List (Transition N)) → AllArcs Class path → AllArcs Class rest → AllArcs Class (path ++ rest)
+  pub AllArcs-append : (Class : Arc Cost N → Type 0) (path rest : List (Transition N)) → AllArcs Class path → AllArcs Class rest → AllArcs Class (path ++ rest)
   AllArcs-append Class [] rest one two = two
   AllArcs-append Class (t ∷ path) rest one two = (one.0, AllArcs-append Class path rest one.1 two)
 

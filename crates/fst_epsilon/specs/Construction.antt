@@ -6,7 +6,7 @@ use Rattle.std.specs.Prelude.{◌≡◌, ℕ, ◌<◌, ◌&&◌, Bool, cond, nat
 use Rattle.std.specs.List.{flat_map}
 use Rattle.fst_semiring.specs.Cost.{Cost, infinite, plus}
 use Rattle.fst_semiring.specs.declared.arc_type.ArcType.{ArcType}
-use Rattle.fst_semiring.specs.Semiring.{times}
+use Rattle.fst_semiring.specs.Semiring.{times, IsCost}
 use Rattle.fst_machine.specs.BreadthFirst.{Has}
 use Rattle.fst_machine.specs.Cycles.{IsAccessible}
 use Rattle.fst_machine.specs.Distance.{EpsilonArc, IsDistance, Reaches}
@@ -53,9 +53,11 @@ pub record IsClosureList (kind : ArcType) (g : Graph ℕ) (q : ℕ) (closure : L
   pub own : Cost
   pub others : List (ℕ × Cost)
   pub first : closure ≡ (q, own) ∷ others
+  pub apart : (c : Cost) → Has others (q, c) → ⊥
   pub ascending : (i j p r : ℕ) (c d : Cost) → i < j → slice_get others i ≡ Some (p, c) → slice_get others j ≡ Some (r, d) → p < r
   pub distances : (p : ℕ) (c : Cost) → Has closure (p, c) → IsDistance kind g EpsilonArc q p c
   pub finite : (p : ℕ) (c : Cost) → Has closure (p, c) → c ≡ infinite → ⊥
+  pub kinds : (p : ℕ) (c : Cost) → Has closure (p, c) → IsCost kind c
   pub all : (p : ℕ) (c : Cost) → Reaches kind g EpsilonArc q p c → (d : Cost) × Has closure (p, d)
 
 -- h is g without epsilon arcs.

@@ -1,15 +1,18 @@
-//! The law of the removal of epsilon arcs. It stands on the contract of a function with nothing to do, so that it is
-//! proved; the statement is in `specs/Removal.antt`, over graphs of plain values with any kind of name.
+//! The laws of the removal of epsilon arcs. Each stands on the contract of a function with nothing to do, so that it is
+//! proved; the statements are in `specs`, over graphs and machines of plain values.
 
 ghost use Rattle.std.specs.Prelude.{◌≡◌, ◌↔◌, ℕ, List, Some, slice_get};
 ghost use Rattle.fst_semiring.specs.Cost.{Cost, infinite};
 ghost use Rattle.fst_semiring.specs.declared.arc_type.ArcType.{ArcType};
 ghost use Rattle.fst_machine.specs.Cycles.{IsAccessible};
 ghost use Rattle.fst_machine.specs.Graph.{Graph};
-ghost use Rattle.fst_machine.specs.Machine.{Arc};
+ghost use Rattle.fst_machine.specs.Machine.{Arc, Machine};
 ghost use Rattle.fst_machine.specs.Relation.{IsWeight};
+ghost use Rattle.fst_epsilon.specs.Answers.{IsFine, IsRemovedMachine, Stops};
 ghost use Rattle.fst_epsilon.specs.Construction.{IsRemoved};
+ghost use Rattle.fst_epsilon.specs.Faults.{epsilon_text};
 ghost use Rattle.fst_epsilon.specs.Removal.{Removes};
+ghost use Rattle.fst_epsilon.specs.declared.fault.EpsilonFault.{EpsilonFault};
 
 /// Names of one kind, of which some are meant. The law speaks of every such choice.
 pub trait Meant {
@@ -26,4 +29,12 @@ pub fn removal_laws<N: Meant>()
 /// it had.
 pub fn construction_laws()
     ensures { (kind : ArcType) (g h : Graph ℕ) → ((n k : ℕ) (a : Arc Cost ℕ) → slice_get (g.arcs n) k ≡ Some a → a.weight ≡ infinite → ⊥) → IsRemoved kind g h → Removes kind g h (IsAccessible g) × ((x y : List ℕ) (w : Cost) → IsWeight kind g x y w ↔ IsWeight kind h x y w) }
+{}
+
+/// There is one answer: a machine has one machine without epsilon arcs, what stands against it is told by one text, and
+/// nothing does where that machine is fine.
+pub fn one_answer()
+    ensures removed { (kind : ArcType) (m h k : Machine Cost) → IsRemovedMachine kind m h → IsRemovedMachine kind m k → h ≡ k }
+    ensures told { (kind : ArcType) (m : Machine Cost) (f h : EpsilonFault) → Stops kind m f → Stops kind m h → epsilon_text f ≡ epsilon_text h }
+    ensures apart { (kind : ArcType) (m h : Machine Cost) (f : EpsilonFault) → IsFine kind m h → Stops kind m f → ⊥ }
 {}

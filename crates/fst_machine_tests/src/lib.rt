@@ -23,6 +23,8 @@ mod description;
 #[cfg(test)]
 mod distances;
 #[cfg(test)]
+mod epsilon_removal;
+#[cfg(test)]
 mod links;
 #[cfg(test)]
 mod machines;

@@ -33,8 +33,8 @@ pub(super) fn limit_of(options: &Options) -> u32
     }
 }
 
-/// Whether a composition is connected, as it is without the option.
-fn is_connected(options: &Options) -> bool
+/// Whether what is made is connected, as it is without the option.
+pub(super) fn is_connected(options: &Options) -> bool
     ensures { result ≡ connects options.now }
 {
     match &options.connect {

@@ -1,0 +1,93 @@
+-- Arcs are put beside what makes them alike.
+use Rattle.std.proofs.Common.{◌≡◌, ℕ, ◌+◌, ◌&&◌, ◌||◌, Bool, true, false, true≢false, cond, if◌then◌else◌, zero, suc, List, [], ◌∷◌, ◌++◌, eqb, eqb-true, eq-eqb, map, set, get_or, refl, sym, ap, ◌∙◌, subst, arith}
+use Rattle.std.specs.Prelude.{not}
+use Rattle.std.specs.List.{list_any, position_or_len}
+use Rattle.std.proofs.lemmas.Bool.{and_from, and_parts}
+use Rattle.indexmap.specs.IndexSet.{insert_key}
+use Rattle.std.proofs.lemmas.List.{map-append}
+use Rattle.fst_semiring.specs.Cost.{Cost, plus}
+use Rattle.fst_machine.specs.Machine.{Arc, valued_arc}
+use Rattle.fst_epsilon.specs.Construction.{is_alike, put_arc}
+use Rattle.fst_epsilon.specs.Merging.{ArePaired, key_of}
+use Rattle.fst_epsilon.specs.declared.merged.ArcKey.{ArcKey}
+
+-- what `==` answers of keys
+abbrev pub same_key : ArcKey → ArcKey → Bool
+same_key a b = eqb a.ilabel b.ilabel && (eqb a.olabel b.olabel && eqb a.next b.next)
+
+-- two tests that say yes to the same say the same
+same_test : (s t : Bool) → (s ≡ true → t ≡ true) → (t ≡ true → s ≡ true) → s ≡ t
+same_test true t there back = sym (there refl)
+same_test false true there back = back refl
+same_test false false there back = refl
+
+three : (a b c : Bool) → (a && (b && c)) ≡ true → (a ≡ true) × (b ≡ true) × (c ≡ true)
+three a b c e = let one = and_parts a (b && c) e in let two = and_parts b c one.1 in (one.0, two.0, two.1)
+
+three_from : (a b c : Bool) → a ≡ true → b ≡ true → c ≡ true → (a && (b && c)) ≡ true
+three_from a b c one two last = and_from a (b && c) one (and_from b c two last)
+
+turned : (m n : ℕ) → eqb m n ≡ true → eqb n m ≡ true
+turned m n e = eq-eqb n m (sym (eqb-true m n e))
+
+module _ {V : Type 0} (value : V → Cost) (b : Arc V ℕ) where
+  like : (a : Arc V ℕ) → same_key (key_of b) (key_of a) ≡ is_alike (valued_arc value a) (valued_arc value b)
+  like a = same_test _ _
+      (λ e. let p = three _ _ _ e in three_from _ _ _ (turned b.ilabel a.ilabel p.0) (turned b.olabel a.olabel p.1) (turned b.next a.next p.2))
+      (λ e. let p = three _ _ _ e in three_from _ _ _ (turned a.ilabel b.ilabel p.0) (turned a.olabel b.olabel p.1) (turned a.next b.next p.2))
+
+  abbrev Put : List (Arc V ℕ) → List (Arc Cost ℕ)
+  Put arcs = put_arc (map (valued_arc value) arcs) (valued_arc value b)
+
+  abbrev met : List (Arc V ℕ) → Bool
+  met arcs = list_any (same_key (key_of b)) (map key_of arcs)
+
+  -- one that is like none of them stands after the others
+  pub put_new : (arcs : List (Arc V ℕ)) → met arcs ≡ false → Put arcs ≡ map (valued_arc value) (arcs ++ b ∷ [])
+  put_new [] e = refl
+  put_new (a ∷ arcs) e = by (same_key (key_of b) (key_of a)) (like a) e (put_new arcs)
+    where
+      by : (t : Bool) → t ≡ is_alike (valued_arc value a) (valued_arc value b) → (t || met arcs) ≡ false → (met arcs ≡ false → Put arcs ≡ map (valued_arc value) (arcs ++ b ∷ [])) → Put (a ∷ arcs) ≡ map (valued_arc value) (a ∷ (arcs ++ b ∷ []))
+      by true same e rest = absurd (true≢false e)
+      by false same e rest = ap (λ (t : Bool). cond t (record (valued_arc value a) { weight = plus (value a.weight) (value b.weight) } ∷ map (valued_arc value) arcs) (valued_arc value a ∷ Put arcs)) (sym same)
+          ∙ ap (λ (zs : List (Arc Cost ℕ)). valued_arc value a ∷ zs) (rest e)
+
+  abbrev found : List (Arc V ℕ) → ℕ
+  found arcs = position_or_len (same_key (key_of b)) (map key_of arcs)
+
+  abbrev Better : Arc V ℕ → Arc V ℕ → List (Arc V ℕ) → ℕ → Type 0
+  Better d c arcs place = valued_arc value c ≡ record (valued_arc value (get_or arcs place d)) { weight = plus (value (get_or arcs place d).weight) (value b.weight) }
+
+  -- else the first that it is like has the better weight
+  pub put_old : (arcs : List (Arc V ℕ)) (place : ℕ) (d c : Arc V ℕ) → met arcs ≡ true → place ≡ found arcs → Better d c arcs place → Put arcs ≡ map (valued_arc value) (set arcs place c)
+  put_old [] place d c e at is = absurd (true≢false (sym e))
+  put_old (a ∷ arcs) place d c e at is = by (same_key (key_of b) (key_of a)) (like a) e at (λ known. put_old arcs (found arcs) d c known refl)
+    where
+      by : (t : Bool) → t ≡ is_alike (valued_arc value a) (valued_arc value b) → (t || met arcs) ≡ true → place ≡ cond (not t) (1 + found arcs) 0
+          → (met arcs ≡ true → Better d c arcs (found arcs) → Put arcs ≡ map (valued_arc value) (set arcs (found arcs) c)) → Put (a ∷ arcs) ≡ map (valued_arc value) (set (a ∷ arcs) place c)
+      by true same e at rest =
+          let here : Better d c (a ∷ arcs) 0 = subst (Better d c (a ∷ arcs)) at is in
+          ap (λ (t : Bool). cond t (record (valued_arc value a) { weight = plus (value a.weight) (value b.weight) } ∷ map (valued_arc value) arcs) (valued_arc value a ∷ Put arcs)) (sym same)
+          ∙ (ap (λ (z : Arc Cost ℕ). z ∷ map (valued_arc value) arcs) (sym here) ∙ ap (λ (k : ℕ). map (valued_arc value) (set (a ∷ arcs) k c)) (sym at))
+      by false same e at rest =
+          let on : place ≡ suc (found arcs) = omega (arith, at) in
+          let later : Better d c (a ∷ arcs) (suc (found arcs)) = subst (Better d c (a ∷ arcs)) on is in
+          ap (λ (t : Bool). cond t (record (valued_arc value a) { weight = plus (value a.weight) (value b.weight) } ∷ map (valued_arc value) arcs) (valued_arc value a ∷ Put arcs)) (sym same)
+          ∙ (ap (λ (zs : List (Arc Cost ℕ)). valued_arc value a ∷ zs) (rest e later) ∙ ap (λ (k : ℕ). map (valued_arc value) (set (a ∷ arcs) k c)) (sym on))
+
+  -- the keys stay those of the arcs
+  pub paired_new : (keys new : List ArcKey) (arcs : List (Arc V ℕ)) → ArePaired keys arcs → list_any (same_key (key_of b)) keys ≡ false → new ≡ insert_key same_key keys (key_of b) → ArePaired new (arcs ++ b ∷ [])
+  paired_new keys new arcs paired e put =
+      put ∙ (ap (λ (t : Bool). if t then keys else keys ++ key_of b ∷ []) e ∙ (ap (λ (ks : List ArcKey). ks ++ key_of b ∷ []) paired ∙ sym (map-append key_of arcs (b ∷ []))))
+
+  pub paired_old : (keys new : List ArcKey) (arcs : List (Arc V ℕ)) (place : ℕ) (d c : Arc V ℕ) → ArePaired keys arcs → list_any (same_key (key_of b)) keys ≡ true → new ≡ insert_key same_key keys (key_of b) → key_of c ≡ key_of (get_or arcs place d) → ArePaired new (set arcs place c)
+  paired_old keys new arcs place d c paired e put is = put ∙ (ap (λ (t : Bool). if t then keys else keys ++ key_of b ∷ []) e ∙ (paired ∙ sym (kept arcs place is)))
+    where
+      kept : (zs : List (Arc V ℕ)) (k : ℕ) → key_of c ≡ key_of (get_or zs k d) → map key_of (set zs k c) ≡ map key_of zs
+      kept [] k is = refl
+      kept (z ∷ zs) zero is = ap (λ (x : ArcKey). x ∷ map key_of zs) is
+      kept (z ∷ zs) (suc k) is = ap (λ (xs : List ArcKey). key_of z ∷ xs) (kept zs k is)
+
+  -- an arc with the key of another and the better weight
+  pub bettered : (a c : Arc V ℕ) → key_of c ≡ key_of a → value c.weight ≡ plus (value a.weight) (value b.weight) → valued_arc value c ≡ record (valued_arc value a) { weight = plus (value a.weight) (value b.weight) }
+  bettered a c same weight i = record { ilabel = (same i).ilabel; olabel = (same i).olabel; weight = weight i; next = (same i).next }

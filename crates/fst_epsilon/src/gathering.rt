@@ -1,0 +1,62 @@
+//! What a state gets from those that epsilon arcs reach from it.
+
+ghost use Rattle.std.specs.Prelude.{◌≡◌, ◌<◌, [], All, IfOk, OnOk, length, map};
+ghost use Rattle.fst_semiring.specs.Semiring.{IsWide};
+ghost use Rattle.fst_machine.specs.Graph.{graph_of};
+ghost use Rattle.fst_machine.specs.Machine.{valued, valued_arc};
+ghost use Rattle.fst_distance.specs.Closure.{Reached as ReachedValue};
+ghost use Rattle.fst_epsilon.specs.Construction.{best_final, collected, merged, spoken};
+ghost use Rattle.fst_epsilon.specs.Gathering.{pairs_of};
+ghost use Rattle.fst_epsilon.specs.Merging.{ArePaired};
+
+use crate::merged::Merged;
+use fst_distance::Reached;
+use fst_machine::{Fst, FstArc, WideArc};
+use fst_semiring::Weight;
+use std::alloc::AllocError;
+
+/// Puts those of these arcs that are not epsilon, each with a distance before its weight.
+fn put_arcs<W: Weight>(
+    out: &mut Merged<W>,
+    arcs: &[FstArc<W>],
+    distance: W::Wide,
+) -> Result<(), AllocError>
+    requires wide { IsWide (W.wide_value distance) }
+    requires paired { ArePaired out.old.keys.keys out.old.arcs.items }
+    ensures paired { OnOk result (ArePaired out.new.keys.keys out.new.arcs.items) }
+    ensures arcs { OnOk result (map (valued_arc W.wide_value) out.new.arcs.items ≡ merged (map (valued_arc W.wide_value) out.old.arcs.items) (spoken W.KIND (W.wide_value distance) (map (valued_arc W.value) arcs.now))) }
+{
+    for arc in arcs {
+        if arc.ilabel == 0 && arc.olabel == 0 {
+            continue;
+        }
+        out.put(WideArc::<W> {
+            ilabel: arc.ilabel,
+            olabel: arc.olabel,
+            weight: W::wide_times(distance, arc.weight.widen()),
+            next: arc.next,
+        })?;
+    }
+    Ok(())
+}
+
+/// The arcs of a state by its closure, in order and merged, and its final weight.
+pub(crate) fn gather<W: Weight>(
+    out: &mut Merged<W>,
+    fst: &Fst<W>,
+    closure: &[Reached<W::Wide>],
+) -> Result<W::Wide, AllocError>
+    requires states { All (λ (r : ReachedValue W.Wide). r.state < length fst.now.states) closure.now }
+    requires wide { All (λ (r : ReachedValue W.Wide). IsWide (W.wide_value r.distance)) closure.now }
+    ensures arcs { OnOk result (map (valued_arc W.wide_value) out.new.arcs.items ≡ merged [] (collected W.KIND (graph_of (valued W.value fst.now)) (pairs_of W.wide_value closure.now))) }
+    ensures ends { IfOk result (λ last. W.wide_value last ≡ best_final W.KIND (graph_of (valued W.value fst.now)) (pairs_of W.wide_value closure.now)) }
+{
+    out.clear();
+    let mut last = W::zero().widen();
+    for item in closure {
+        put_arcs(out, fst.arcs(item.state), item.distance)?;
+        let ends = W::wide_times(item.distance, fst.final_weight(item.state).widen());
+        last = W::wide_plus(last, ends);
+    }
+    Ok(last)
+}

@@ -1,0 +1,214 @@
+//! Machines without their epsilon arcs: what is left by every queue, what is refused, and the weights of the pairs beside
+//! those that the slow programs compute.
+
+ghost use Rattle.std.specs.Prelude.{◌≡◌, []};
+
+use crate::machines::{is_text, machine};
+use crate::relation::{ARCS, Triple, relation};
+use fst_epsilon::{EpsilonFault, rmepsilon};
+use fst_machine::Fst;
+use fst_plain::pair_weight;
+use fst_queue::{BestFirst, Fifo, Lifo, StateQueue};
+use fst_semiring::{Boolean, Key, Lexicographic, MinMax, Tropical, Weight};
+use std::alloc::{AllocError, Global};
+use std::process::Abort;
+use std::test::Fail;
+
+/// A queue that gives a state with the worst key first, which is a bad order.
+#[derive(Drop)]
+struct WorstFirst {
+    inner: BestFirst,
+}
+
+impl StateQueue for WorstFirst {
+    ghost use Rattle.fst_queue.specs.Heap.{states_of};
+
+    ghost members = { λ q. states_of q.inner };
+
+    fn put(&mut self, state: u32, key: Key) -> Result<(), AllocError> {
+        let turned = Key {
+            class: key.class,
+            first: 0i128.wrapping_sub(key.first),
+            second: 0i128.wrapping_sub(key.second),
+        };
+        self.inner.put(state, turned)
+    }
+
+    fn take(&mut self) -> Option<u32> {
+        self.inner.take()
+    }
+
+    fn is_empty(&self) -> bool {
+        self.inner.is_empty()
+    }
+}
+
+/// What is left of a machine by a queue, or the fault.
+fn left<W: Weight, Q: StateQueue + 'static>(
+    alloc: Global,
+    fst: &Fst<W>,
+    queue: Q,
+) -> Result<Result<Fst<W>, EpsilonFault>, AllocError>
+    requires { Q.members queue ≡ [] }
+{
+    let mut boxed: Box<dyn StateQueue> = Box::new(alloc, queue)?;
+    Ok(rmepsilon(alloc, fst, &mut boxed))
+}
+
+/// Asks that this is the machine of a text.
+fn is_left<W: Weight>(
+    rt: &impl Abort,
+    alloc: Global,
+    made: &Result<Fst<W>, EpsilonFault>,
+    wanted: &[u8],
+) -> Result<(), Fail> {
+    match made {
+        Ok(made) => is_text(rt, alloc, made, wanted)?,
+        Err(_) => assert!(rt; false, "no machine"),
+    }
+    Ok(())
+}
+
+/// Asks what is left of a machine by each queue.
+fn leaves<W: Weight>(
+    rt: &impl Abort,
+    alloc: Global,
+    text: &[u8],
+    wanted: &[u8],
+) -> Result<(), Fail> {
+    let fst: Fst<W> = machine(alloc, text)?;
+    is_left(rt, alloc, &left(alloc, &fst, Fifo::new(alloc))?, wanted)?;
+    is_left(rt, alloc, &left(alloc, &fst, Lifo::new(alloc))?, wanted)?;
+    is_left(
+        rt,
+        alloc,
+        &left(alloc, &fst, BestFirst::new(alloc))?,
+        wanted,
+    )?;
+    let worst = WorstFirst {
+        inner: BestFirst::new(alloc),
+    };
+    is_left(rt, alloc, &left(alloc, &fst, worst)?, wanted)
+}
+
+/// Tropical machines, and what is left of them. In the first two ways of epsilon arcs lead to state 1, and their best has
+/// weight 2. In the second equal arcs come from three states: their best weight stands in the place of the first. In the
+/// third the start reaches neither state 1 nor state 3.
+static TROPICAL: [(&[u8], &[u8]); 4] = [
+    (
+        b"0 1 0 0 3\n0 2 0 0 1\n2 1 0 0 1\n1 1 0 0 0\n1 3 5 6 4\n3\n",
+        b"0 3 5 6 6\n1 3 5 6 4\n2 3 5 6 5\n3\n",
+    ),
+    (
+        b"0 3 7 7 9\n0 3 8 8 1\n0 2 0 0 1\n0 1 0 0 2\n2 3 7 7 1\n1 3 7 7 1\n1 3 9 9\n2 5\n1 3\n3\n",
+        b"0 3 7 7 2\n0 3 8 8 1\n0 3 9 9 2\n0 5\n1 3 7 7 1\n1 3 9 9\n1 3\n2 3 7 7 1\n2 5\n3\n",
+    ),
+    (
+        b"2 0 0 0 4\n1 3 0 0 1\n3 1 1 1\n0 2\n3\n",
+        b"2 6\n1 Infinity\n3 Infinity\n0 2\n",
+    ),
+    (b"", b""),
+];
+
+#[test]
+fn what_is_left_of_tropical_machines(rt: HostRuntime) -> Result<(), Fail> {
+    let alloc = rt.alloc();
+    for (text, wanted) in &TROPICAL {
+        leaves::<Tropical>(&rt, alloc, text, wanted)?;
+    }
+    Ok(())
+}
+
+/// What is refused.
+#[derive(Clone, Copy, Debug, PartialEq, Eq)]
+enum Refused {
+    Nothing,
+    Cycle,
+    Arcs,
+    Number(u32),
+    Memory,
+}
+
+/// Machines, and what is refused: a cycle of epsilon arcs that is better than One; nothing where one label is not epsilon,
+/// and where the start does not reach it; and the first state with too large a number.
+static REFUSED: [(&[u8], Refused); 4] = [
+    (b"0 1 1 1\n1 2 0 0 1\n2 1 0 0 -2\n2\n", Refused::Cycle),
+    (b"0 0 1 0 -1\n0\n", Refused::Nothing),
+    (b"0\n1 1 0 0 -1\n1\n", Refused::Nothing),
+    (
+        b"0 1 1 1\n1 2 0 0 900000000000000000\n2 3 1 1 900000000000000000\n3\n",
+        Refused::Number(1),
+    ),
+];
+
+/// What is refused of a machine.
+fn refused<W: Weight>(alloc: Global, text: &[u8]) -> Result<Refused, Fail> {
+    let fst: Fst<W> = machine(alloc, text)?;
+    Ok(match left(alloc, &fst, Fifo::new(alloc))? {
+        Err(EpsilonFault::ImprovingCycle { cycle: _ }) => Refused::Cycle,
+        Err(EpsilonFault::TooManyArcs) => Refused::Arcs,
+        Err(EpsilonFault::Overflow { state }) => Refused::Number(state),
+        Err(EpsilonFault::Memory) => Refused::Memory,
+        Ok(_) => Refused::Nothing,
+    })
+}
+
+#[test]
+fn what_is_refused(rt: HostRuntime) -> Result<(), Fail> {
+    let alloc = rt.alloc();
+    for (text, wanted) in &REFUSED {
+        assert_eq!(rt; refused::<Tropical>(alloc, text)?, *wanted);
+    }
+    Ok(())
+}
+
+/// Asks that two machines give each of these pairs one weight, by the slow program.
+fn weigh_alike<W: Weight>(rt: &impl Abort, a: &Fst<W>, b: &Fst<W>, pairs: &[Triple]) {
+    let (Some(first), Some(second)) = (a.start(), b.start()) else {
+        return;
+    };
+    for pair in pairs {
+        let input = pair.input.as_slice();
+        let output = pair.output.as_slice();
+        let one = pair_weight(a, ARCS, first, input, output);
+        let two = pair_weight(b, ARCS, second, input, output);
+        assert!(rt; one == two, "{pair:?} has two weights");
+    }
+}
+
+/// Asks that a machine without its epsilon arcs gives the same pairs the same weights. All its paths have few arcs.
+fn keeps<W: Weight>(rt: &impl Abort, alloc: Global, text: &[u8], count: usize) -> Result<(), Fail> {
+    let fst: Fst<W> = machine(alloc, text)?;
+    let before = relation(alloc, &fst)?;
+    assert_eq!(rt; before.len(), count);
+    match left(alloc, &fst, Fifo::new(alloc))? {
+        Ok(made) => {
+            let after = relation(alloc, &made)?;
+            weigh_alike(rt, &fst, &made, before.as_slice());
+            weigh_alike(rt, &fst, &made, after.as_slice());
+        }
+        Err(_) => assert!(rt; false, "no machine"),
+    }
+    Ok(())
+}
+
+/// Paths of three states with epsilon arcs before, between and behind their labels.
+const BARE: &[u8] =
+    b"0 1 0 0\n0 2 1 1\n1 2 1 1\n1 2 1 2\n2 3 0 0\n2 4 0 0\n3 4 0 0\n3 5 2 0\n4 5 2 0\n5 6 0 0\n4\n6\n";
+
+/// The same with numbers.
+const NUMBERS: &[u8] =
+    b"0 1 0 0 2\n0 2 1 1 9\n1 2 1 1 1\n1 2 1 2 -4\n2 3 0 0 5\n2 4 0 0 3\n3 4 0 0 -7\n3 5 2 0 1\n4 5 2 0 8\n5 6 0 0 1\n4 6\n6 2\n";
+
+/// The same with pairs.
+const PAIRS: &[u8] =
+    b"0 1 0 0 2,1\n0 2 1 1 3,4\n1 2 1 1 1,3\n1 2 1 2 -4,0\n2 3 0 0 5,5\n2 4 0 0 3,1\n3 4 0 0 -2,-7\n3 5 2 0 1,1\n4 5 2 0 1,9\n5 6 0 0 1,0\n4 6,6\n6 2,0\n";
+
+#[test]
+fn the_slow_program_gives_the_same_weights(rt: HostRuntime) -> Result<(), Fail> {
+    let alloc = rt.alloc();
+    keeps::<Boolean>(&rt, alloc, BARE, 10)?;
+    keeps::<Tropical>(&rt, alloc, NUMBERS, 15)?;
+    keeps::<MinMax>(&rt, alloc, NUMBERS, 14)?;
+    keeps::<Lexicographic>(&rt, alloc, PAIRS, 15)
+}
