@@ -23,7 +23,9 @@ mod DecidingSizes
 mod DecidingCoding
 mod DecidingComposing
 mod DecidingDeterminizing
+mod DecidingMinimizing
 mod OneOutcome
 mod Exactly
 mod Determinized
+mod Minimized
 mod Measured

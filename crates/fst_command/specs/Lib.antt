@@ -12,6 +12,7 @@ pub mod Texts
 pub mod Replacing
 pub mod Composing
 pub mod Determinizing
+pub mod Minimizing
 pub mod Measuring
 pub mod Coding
 pub mod Commands

@@ -14,6 +14,7 @@ mod composing;
 mod describing;
 mod determinizing;
 mod measuring;
+mod minimizing;
 mod rational;
 mod replacing;
 mod texts;
@@ -56,13 +57,10 @@ pub(crate) fn made<W: Weight>(
         Verb::Arcsort => trimming::sorted(alloc, &plan.options, given),
         Verb::Compose => composing::composed(alloc, &plan.options, given),
         Verb::Determinize => determinizing::determinized(alloc, &plan.options, given),
+        Verb::Minimize => minimizing::minimized(alloc, &plan.options, given, queues),
         Verb::Encode => coding::coded(alloc, &plan.options, given),
         Verb::Shortestdistance => measuring::measured(alloc, &plan.options, given, queues),
-        Verb::Rmepsilon
-        | Verb::Shortestpath
-        | Verb::Push
-        | Verb::Minimize
-        | Verb::Batch
-        | Verb::Make => unreachable!(),
+        Verb::Rmepsilon | Verb::Shortestpath | Verb::Push | Verb::Batch | Verb::Make =>
+            unreachable!(),
     }
 }

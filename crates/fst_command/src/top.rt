@@ -35,6 +35,7 @@ fn is_ready(verb: Verb) -> bool
             | Verb::Replace
             | Verb::Compose
             | Verb::Determinize
+            | Verb::Minimize
             | Verb::Shortestdistance
     )
 }
