@@ -14,9 +14,12 @@ one_never f h one two = absurd one
 pub one_equal : {X : Type 0} (it : X) (Q : X → Type 0) → One (λ x. (x ≡ it) × Q x)
 one_equal it Q x y one two = one.0 ∙ sym two.0
 
--- what tells one thing
+-- what tells things of which one line is told, and what tells one thing
+pub one_line : {W Y : Type 0} (P : W → Type 0) (tell : W → Y) → ((w v : W) → P w → P v → tell w ≡ tell v) → One (λ y. (w : W) × P w × (y ≡ tell w))
+one_line P tell same x y one two = one.2 ∙ (same one.0 two.0 one.1 two.1 ∙ sym two.2)
+
 pub one_told : {W Y : Type 0} (P : W → Type 0) (tell : W → Y) → One P → One (λ y. (w : W) × P w × (y ≡ tell w))
-one_told P tell only x y one two = one.2 ∙ (ap tell (only one.0 two.0 one.1 two.1) ∙ sym two.2)
+one_told P tell only = one_line P tell (λ w v one two. ap tell (only w v one two))
 
 module _ {X : Type 0} where
   -- what is said with the one machine, and with the two

@@ -25,9 +25,11 @@ mod DecidingComposing
 mod DecidingDeterminizing
 mod DecidingListing
 mod DecidingRemoving
+mod DecidingMinimizing
 mod OneOutcome
 mod Exactly
 mod Determinized
+mod Minimized
 mod Measured
 mod Removed
 mod Meters

@@ -90,7 +90,7 @@ made_count Shortestpath labels o given made is = one_of given.machines given.kin
 made_count Push labels o given made is = absurd is
 made_count Encode labels o given made is = of_coding o.decode o.encode_weights given made is
 made_count Determinize labels o given made is = one_of given.machines given.kind _ made is
-made_count Minimize labels o given made is = absurd is
+made_count Minimize labels o given made is = one_of given.machines given.kind _ made is
 made_count Batch labels o given made is = absurd is
 made_count Make labels o given made is = absurd is
 

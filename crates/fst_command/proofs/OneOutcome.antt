@@ -12,7 +12,7 @@ use Rattle.fst_words.specs.declared.verb.Verb.{Verb}
 use Rattle.fst_words.specs.declared.verb.Verb.TheVariants.{Compile, Print, Info, Invert, Reverse, Connect, Union, Concat, Closure, Project, Replace, Relabel, Arcsort, Compose, Rmepsilon, Shortestdistance, Shortestpath, Push, Encode, Determinize, Minimize, Batch, Make}
 use Rattle.fst_words.specs.Inputs.{Input, plan_inputs}
 use Rattle.fst_words.specs.Plans.{outputs_of, rule_labels}
-use Rattle.fst_command.specs.Causes.{Cause, Fault, faulty}
+use Rattle.fst_command.specs.Causes.{Cause, Fault, faulty, unmade}
 use Rattle.fst_command.specs.Commands.{meaning_by, meaning_for}
 use Rattle.fst_command.specs.Composing.{state_limit}
 use Rattle.fst_command.specs.Given.{Given, choices_by, given_of}
@@ -22,12 +22,13 @@ use Rattle.fst_command.specs.Measuring.{direction_of}
 use Rattle.fst_command.specs.OneOutcome.{HasOneOutcome, One, OneOutcome}
 use Rattle.fst_command.specs.Outcome.{Agrees, AreNamed, IsCause, Makes, Output, Prescribes, Refuses}
 use Rattle.fst_command.specs.Trimming.{side_of}
-use Rattle.fst_command.proofs.Deciding.{one_equal, one_for_one, one_for_two, one_made, one_never, one_told}
+use Rattle.fst_command.proofs.Deciding.{one_equal, one_for_one, one_for_two, one_line, one_made, one_never, one_told}
 use Rattle.fst_command.proofs.DecidingCoding.{one_coding_makes, one_coding_stops}
 use Rattle.fst_command.proofs.DecidingComposing.{one_composed}
 use Rattle.fst_command.proofs.DecidingDeterminizing.{one_determinized, one_undetermined}
 use Rattle.fst_command.proofs.DecidingListing.{one_listed, one_unlisted}
 use Rattle.fst_command.proofs.DecidingRemoving.{one_removed_machine, one_unremoved}
+use Rattle.fst_command.proofs.DecidingMinimizing.{one_minimizing, one_unminimized}
 use Rattle.fst_command.proofs.DecidingSizes.{one_cause, one_too_large}
 use Rattle.fst_command.proofs.Measured.{one_distances, one_unmeasured}
 
@@ -80,7 +81,10 @@ one_meaning Determinize labels o given = record {
   stopped = one_for_one _ (λ m. one_told _ _ (one_undetermined given.kind (state_limit o) m)) given.machines;
   made = one_for_one _ (λ m. one_made given.kind _ (one_determinized given.kind (state_limit o) m)) given.machines;
 }
-one_meaning Minimize labels o given = record { stopped = one_never; made = λ x y one two. absurd one }
+one_meaning Minimize labels o given = record {
+  stopped = one_for_one _ (λ m. one_line _ _ (λ f h one two. ap unmade (one_unminimized given.kind m f h one two))) given.machines;
+  made = one_for_one _ (λ m. one_made given.kind _ (one_minimizing given.kind m)) given.machines;
+}
 one_meaning Batch labels o given = record { stopped = one_never; made = λ x y one two. absurd one }
 one_meaning Make labels o given = record { stopped = one_never; made = λ x y one two. absurd one }
 

@@ -12,6 +12,7 @@ use Rattle.fst_command.specs.Determinizing.{determinize_meaning}
 use Rattle.fst_command.specs.Describing.{info_meaning}
 use Rattle.fst_command.specs.Listing.{listing_meaning}
 use Rattle.fst_command.specs.Measuring.{measure_meaning}
+use Rattle.fst_command.specs.Minimizing.{minimize_meaning}
 use Rattle.fst_command.specs.Rational.{closure_meaning, concat_meaning, invert_meaning, project_meaning, relabel_meaning, reverse_meaning, union_meaning}
 use Rattle.fst_command.specs.Removing.{rmepsilon_meaning}
 use Rattle.fst_command.specs.Replacing.{replace_meaning}
@@ -44,7 +45,7 @@ meaning_by Shortestpath labels o = listing_meaning o
 meaning_by Push labels o = unbuilt
 meaning_by Encode labels o = encode_meaning o
 meaning_by Determinize labels o = determinize_meaning o
-meaning_by Minimize labels o = unbuilt
+meaning_by Minimize labels o = minimize_meaning
 meaning_by Batch labels o = unbuilt
 meaning_by Make labels o = unbuilt
 

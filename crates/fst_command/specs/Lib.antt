@@ -13,6 +13,7 @@ pub mod Texts
 pub mod Replacing
 pub mod Composing
 pub mod Determinizing
+pub mod Minimizing
 pub mod Measuring
 pub mod Listing
 pub mod Removing

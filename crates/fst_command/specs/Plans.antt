@@ -27,7 +27,7 @@ is_built Shortestpath = true
 is_built Push = false
 is_built Encode = true
 is_built Determinize = true
-is_built Minimize = false
+is_built Minimize = true
 is_built Batch = false
 is_built Make = false
 

@@ -17,6 +17,7 @@ mod describing;
 mod determinizing;
 mod listing;
 mod measuring;
+mod minimizing;
 mod rational;
 mod removing;
 mod replacing;
@@ -70,10 +71,11 @@ where
         Verb::Arcsort => trimming::sorted(alloc, &plan.options, given),
         Verb::Compose => composing::composed(alloc, &plan.options, given),
         Verb::Determinize => determinizing::determinized(alloc, &plan.options, given),
+        Verb::Minimize => minimizing::minimized(alloc, &plan.options, given, queues),
         Verb::Encode => coding::coded(alloc, &plan.options, given),
         Verb::Rmepsilon => removing::removed(alloc, &plan.options, given, queues),
         Verb::Shortestdistance => measuring::measured(alloc, &plan.options, given, queues),
         Verb::Shortestpath => listing::listed(alloc, &plan.options, given),
-        Verb::Push | Verb::Minimize | Verb::Batch | Verb::Make => unreachable!(),
+        Verb::Push | Verb::Batch | Verb::Make => unreachable!(),
     }
 }
