@@ -1,10 +1,13 @@
 -- `shortestpath` has one outcome.
-use Rattle.std.proofs.Common.{◌≡◌, ◌<◌, ◌+◌, ℕ, List, map, refl, sym, ap, subst, ◌∙◌}
+use Rattle.std.proofs.Common.{◌≡◌, ◌<◌, ◌+◌, ℕ, List, [], ◌∷◌, Result, Ok, Err, IsErrOf, length, map, refl, sym, ap, ap₂, subst, ◌∙◌}
+use Rattle.std.proofs.lemmas.List.{length-map}
+use Rattle.std.proofs.lemmas.List.Sums.{sum_by-cons}
 use Rattle.fst_semiring.specs.declared.arc_type.ArcType.{ArcType}
 use Rattle.fst_semiring.specs.Cost.{Cost}
 use Rattle.fst_machine.specs.Graph.{graph_of}
 use Rattle.fst_machine.specs.Cycles.{IsUseful}
 use Rattle.fst_machine.specs.Machine.{Machine, most_states}
+use Rattle.fst_machine.specs.Steps.{written}
 use Rattle.fst_machine.specs.declared.path.Step.{Step}
 use Rattle.fst_machine.specs.Paths.{places}
 use Rattle.fst_machine.specs.PathOrder.{WeightedPath}
@@ -13,6 +16,8 @@ use Rattle.fst_distance.specs.Distances.{NoneImproves}
 use Rattle.fst_nbest.specs.Chains.{IsChained, arcs_written, chain_of, chained}
 use Rattle.fst_nbest.specs.FirstPaths.{AreFirstPaths, IfImproving}
 use Rattle.fst_nbest.specs.Listing.{IsWritten}
+use Rattle.fst_nbest.specs.declared.chaining.ChainsFault.{ChainsFault}
+use Rattle.fst_nbest.specs.declared.chaining.ChainsFault.TheVariants as chain_faults
 use Rattle.fst_nbest.specs.declared.fault.NbestFault.{NbestFault}
 use Rattle.fst_nbest.specs.declared.fault.NbestFault.TheVariants as faults
 use Rattle.fst_command.specs.Listing.{ImprovesPaths, IsUnlisted, Lists}
@@ -35,6 +40,18 @@ module _ (kind : ArcType) (n : ℕ) (m : Machine Cost) where
 -- the cycle that a fault lists
 pub listed_cycle : (fault : NbestFault) (path : List Step) (P : List Step → Type 0) → fault ≡ faults.ImprovingCycle path → IfImproving fault P → P path
 listed_cycle fault path P e h = subst (λ (f : NbestFault). IfImproving f P) e h
+
+-- a machine that was made has not too many states
+pub not_full : {X : Type 0} (result : Result X ChainsFault) (made : X) → result ≡ Ok made → IsErrOf result chain_faults.TooManyStates → ⊥
+not_full (Ok x) made e full = absurd (cc)
+not_full (Err f) made e full = absurd (cc)
+
+-- paths as they are written down have as many arcs
+pub written_arcs : (paths : List (List Step)) → arcs_written (map written paths) ≡ arcs_written paths
+written_arcs [] = refl
+written_arcs (path ∷ paths) =
+    sum_by-cons (λ (walk : List (ℕ × ℕ)). length walk) (written path) (map written paths)
+    ∙ (ap₂ (λ (a b : ℕ). a + b) (length-map path (λ (s : Step). (s.state, s.place))) (written_arcs paths) ∙ sym (sum_by-cons (λ (p : List Step). length p) path paths))
 
 module _ (kind : ArcType) (n : ℕ) (m : Machine Cost) (walks : List (List (ℕ × ℕ))) (firsts : AreFirstPaths kind (graph_of m) n walks) (none : NoneImproves kind (graph_of m) (IsUseful (graph_of m))) where
   pub fine : ImprovesPaths kind m → ⊥
