@@ -14,3 +14,10 @@ pub mod Joining
 pub mod Gathering
 pub mod Rounds
 pub mod Places
+pub mod TwoWalks
+pub mod Needs
+pub mod Between
+pub mod Numbers
+pub mod Hired
+pub mod Opened
+pub mod Shares

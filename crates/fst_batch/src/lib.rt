@@ -6,10 +6,15 @@
 //! a number.
 #![tactic(auto)]
 
+mod answering;
+mod batching;
 mod cascade;
+mod dealing;
 mod drawing;
+mod ending;
 mod following;
 mod gate;
+mod hiring;
 mod job;
 pub mod laws;
 mod lines;
@@ -20,6 +25,8 @@ mod stage;
 mod state;
 mod worker;
 
+pub use answering::Answering;
+pub use batching::{BatchReport, run_lines};
 pub use cascade::{Cascade, make_cascade};
 pub use gate::{Gate, OpenGate};
 pub use job::Job;
