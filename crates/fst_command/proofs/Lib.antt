@@ -23,6 +23,7 @@ mod DecidingSizes
 mod DecidingCoding
 mod DecidingComposing
 mod DecidingDeterminizing
+mod DecidingPushing
 mod OneOutcome
 mod Exactly
 mod Determinized

@@ -25,6 +25,7 @@ use Rattle.fst_command.proofs.Deciding.{one_equal, one_for_one, one_for_two, one
 use Rattle.fst_command.proofs.DecidingCoding.{one_coding_makes, one_coding_stops}
 use Rattle.fst_command.proofs.DecidingComposing.{one_composed}
 use Rattle.fst_command.proofs.DecidingDeterminizing.{one_determinized, one_undetermined}
+use Rattle.fst_command.proofs.DecidingPushing.{one_pushing, one_unpushed}
 use Rattle.fst_command.proofs.DecidingSizes.{one_cause, one_too_large}
 use Rattle.fst_command.proofs.Measured.{one_distances, one_unmeasured}
 
@@ -66,7 +67,10 @@ one_meaning Shortestdistance labels o given = record {
   made = one_for_one _ (λ m. one_told _ _ (one_distances given.kind m (direction_of o))) given.machines;
 }
 one_meaning Shortestpath labels o given = record { stopped = one_never; made = λ x y one two. absurd one }
-one_meaning Push labels o given = record { stopped = one_never; made = λ x y one two. absurd one }
+one_meaning Push labels o given = record {
+  stopped = one_for_one _ (λ m. one_unpushed given.kind o.remove_total_weight m) given.machines;
+  made = one_for_one _ (λ m. one_made given.kind _ (one_pushing given.kind o.remove_total_weight m)) given.machines;
+}
 one_meaning Determinize labels o given = record {
   stopped = one_for_one _ (λ m. one_told _ _ (one_undetermined given.kind (state_limit o) m)) given.machines;
   made = one_for_one _ (λ m. one_made given.kind _ (one_determinized given.kind (state_limit o) m)) given.machines;

@@ -11,6 +11,7 @@ use Rattle.fst_command.specs.Composing.{compose_meaning}
 use Rattle.fst_command.specs.Determinizing.{determinize_meaning}
 use Rattle.fst_command.specs.Describing.{info_meaning}
 use Rattle.fst_command.specs.Measuring.{measure_meaning}
+use Rattle.fst_command.specs.Pushing.{push_meaning}
 use Rattle.fst_command.specs.Rational.{closure_meaning, concat_meaning, invert_meaning, project_meaning, relabel_meaning, reverse_meaning, union_meaning}
 use Rattle.fst_command.specs.Replacing.{replace_meaning}
 use Rattle.fst_command.specs.Texts.{compile_meaning, print_meaning}
@@ -39,7 +40,7 @@ meaning_by Compose labels o = compose_meaning o
 meaning_by Rmepsilon labels o = unbuilt
 meaning_by Shortestdistance labels o = measure_meaning o
 meaning_by Shortestpath labels o = unbuilt
-meaning_by Push labels o = unbuilt
+meaning_by Push labels o = push_meaning o
 meaning_by Encode labels o = encode_meaning o
 meaning_by Determinize labels o = determinize_meaning o
 meaning_by Minimize labels o = unbuilt

@@ -14,6 +14,7 @@ pub mod Replacing
 pub mod Composing
 pub mod Determinizing
 pub mod Measuring
+pub mod Pushing
 pub mod Coding
 pub mod Commands
 pub mod Plans

@@ -16,6 +16,7 @@ mod composing;
 mod describing;
 mod determinizing;
 mod measuring;
+mod pushing;
 mod rational;
 mod replacing;
 mod texts;
@@ -70,11 +71,8 @@ where
         Verb::Determinize => determinizing::determinized(alloc, &plan.options, given),
         Verb::Encode => coding::coded(alloc, &plan.options, given),
         Verb::Shortestdistance => measuring::measured(alloc, &plan.options, given, queues),
-        Verb::Rmepsilon
-        | Verb::Shortestpath
-        | Verb::Push
-        | Verb::Minimize
-        | Verb::Batch
-        | Verb::Make => unreachable!(),
+        Verb::Push => pushing::pushed(alloc, &plan.options, given, queues),
+        Verb::Rmepsilon | Verb::Shortestpath | Verb::Minimize | Verb::Batch | Verb::Make =>
+            unreachable!(),
     }
 }

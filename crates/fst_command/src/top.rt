@@ -38,6 +38,7 @@ fn is_ready(verb: Verb) -> bool
             | Verb::Compose
             | Verb::Determinize
             | Verb::Shortestdistance
+            | Verb::Push
     )
 }
 
