@@ -26,6 +26,7 @@ mod DecidingDeterminizing
 mod DecidingListing
 mod DecidingRemoving
 mod DecidingMinimizing
+mod DecidingPushing
 mod OneOutcome
 mod Exactly
 mod Determinized

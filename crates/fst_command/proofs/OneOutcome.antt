@@ -29,6 +29,7 @@ use Rattle.fst_command.proofs.DecidingDeterminizing.{one_determinized, one_undet
 use Rattle.fst_command.proofs.DecidingListing.{one_listed, one_unlisted}
 use Rattle.fst_command.proofs.DecidingRemoving.{one_removed_machine, one_unremoved}
 use Rattle.fst_command.proofs.DecidingMinimizing.{one_minimizing, one_unminimized}
+use Rattle.fst_command.proofs.DecidingPushing.{one_pushing, one_unpushed}
 use Rattle.fst_command.proofs.DecidingSizes.{one_cause, one_too_large}
 use Rattle.fst_command.proofs.Measured.{one_distances, one_unmeasured}
 
@@ -77,6 +78,11 @@ one_meaning Shortestpath labels o given = record {
   made = one_for_one _ (λ m. one_made given.kind _ (one_listed given.kind (path_count o) m)) given.machines;
 }
 one_meaning Push labels o given = record { stopped = one_never; made = λ x y one two. absurd one }
+one_meaning Shortestpath labels o given = record { stopped = one_never; made = λ x y one two. absurd one }
+one_meaning Push labels o given = record {
+  stopped = one_for_one _ (λ m. one_unpushed given.kind o.remove_total_weight m) given.machines;
+  made = one_for_one _ (λ m. one_made given.kind _ (one_pushing given.kind o.remove_total_weight m)) given.machines;
+}
 one_meaning Determinize labels o given = record {
   stopped = one_for_one _ (λ m. one_told _ _ (one_undetermined given.kind (state_limit o) m)) given.machines;
   made = one_for_one _ (λ m. one_made given.kind _ (one_determinized given.kind (state_limit o) m)) given.machines;

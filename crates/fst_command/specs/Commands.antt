@@ -13,6 +13,7 @@ use Rattle.fst_command.specs.Describing.{info_meaning}
 use Rattle.fst_command.specs.Listing.{listing_meaning}
 use Rattle.fst_command.specs.Measuring.{measure_meaning}
 use Rattle.fst_command.specs.Minimizing.{minimize_meaning}
+use Rattle.fst_command.specs.Pushing.{push_meaning}
 use Rattle.fst_command.specs.Rational.{closure_meaning, concat_meaning, invert_meaning, project_meaning, relabel_meaning, reverse_meaning, union_meaning}
 use Rattle.fst_command.specs.Removing.{rmepsilon_meaning}
 use Rattle.fst_command.specs.Replacing.{replace_meaning}
@@ -43,6 +44,8 @@ meaning_by Rmepsilon labels o = rmepsilon_meaning o
 meaning_by Shortestdistance labels o = measure_meaning o
 meaning_by Shortestpath labels o = listing_meaning o
 meaning_by Push labels o = unbuilt
+meaning_by Shortestpath labels o = unbuilt
+meaning_by Push labels o = push_meaning o
 meaning_by Encode labels o = encode_meaning o
 meaning_by Determinize labels o = determinize_meaning o
 meaning_by Minimize labels o = minimize_meaning

@@ -17,6 +17,7 @@ pub mod Minimizing
 pub mod Measuring
 pub mod Listing
 pub mod Removing
+pub mod Pushing
 pub mod Coding
 pub mod Commands
 pub mod Plans

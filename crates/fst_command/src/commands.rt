@@ -18,6 +18,7 @@ mod determinizing;
 mod listing;
 mod measuring;
 mod minimizing;
+mod pushing;
 mod rational;
 mod removing;
 mod replacing;
@@ -76,6 +77,7 @@ where
         Verb::Rmepsilon => removing::removed(alloc, &plan.options, given, queues),
         Verb::Shortestdistance => measuring::measured(alloc, &plan.options, given, queues),
         Verb::Shortestpath => listing::listed(alloc, &plan.options, given),
-        Verb::Push | Verb::Batch | Verb::Make => unreachable!(),
+        Verb::Push => pushing::pushed(alloc, &plan.options, given, queues),
+        Verb::Batch | Verb::Make => unreachable!(),
     }
 }
