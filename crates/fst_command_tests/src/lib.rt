@@ -24,6 +24,8 @@ mod operations;
 #[cfg(test)]
 mod plans;
 #[cfg(test)]
+mod pushing;
+#[cfg(test)]
 mod replacement;
 #[cfg(test)]
 mod session;
