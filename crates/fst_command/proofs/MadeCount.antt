@@ -87,8 +87,6 @@ made_count Rmepsilon labels o given made is = one_of given.machines given.kind _
 made_count Shortestdistance labels o given made is =
     of_one given.machines (λ m x. (ds : List Cost) × AreDistances (direction_of o) given.kind m ds × (x ≡ text (distance_lines given.kind 0 ds))) made (λ m h. ap (λ x. length (bytes_of x)) h.2) is
 made_count Shortestpath labels o given made is = one_of given.machines given.kind _ made is
-made_count Push labels o given made is = absurd is
-made_count Shortestpath labels o given made is = absurd is
 made_count Push labels o given made is = one_of given.machines given.kind _ made is
 made_count Encode labels o given made is = of_coding o.decode o.encode_weights given made is
 made_count Determinize labels o given made is = one_of given.machines given.kind _ made is

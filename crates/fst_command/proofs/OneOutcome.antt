@@ -77,8 +77,6 @@ one_meaning Shortestpath labels o given = record {
   stopped = one_for_one _ (λ m. one_told _ _ (one_unlisted given.kind (path_count o) m)) given.machines;
   made = one_for_one _ (λ m. one_made given.kind _ (one_listed given.kind (path_count o) m)) given.machines;
 }
-one_meaning Push labels o given = record { stopped = one_never; made = λ x y one two. absurd one }
-one_meaning Shortestpath labels o given = record { stopped = one_never; made = λ x y one two. absurd one }
 one_meaning Push labels o given = record {
   stopped = one_for_one _ (λ m. one_unpushed given.kind o.remove_total_weight m) given.machines;
   made = one_for_one _ (λ m. one_made given.kind _ (one_pushing given.kind o.remove_total_weight m)) given.machines;

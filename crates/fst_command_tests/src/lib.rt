@@ -29,6 +29,7 @@ mod paths;
 mod plans;
 #[cfg(test)]
 mod queues;
+mod pushing;
 #[cfg(test)]
 mod replacement;
 #[cfg(test)]

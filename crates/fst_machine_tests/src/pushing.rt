@@ -1,0 +1,94 @@
+//! Pushed machines beside what the plain programs compute, for each arc type.
+
+use crate::machines::{is_text, machine, machines};
+use crate::relation::{ARCS, add_arcs, one, relation, says};
+use fst_machine::{Fst, narrow_all};
+use fst_plain::distances_to_final;
+use fst_pushing::{PushFault, push, push_wide};
+use fst_queue::{BestFirst, Fifo, Lifo};
+use fst_semiring::{Boolean, Lexicographic, MinMax, Tropical, Weight};
+use std::alloc::Global;
+use std::process::Abort;
+use std::test::Fail;
+
+/// Asks that by the plain programs each state of a machine has distance One to the final states, by paths of at most
+/// `ARCS` arcs.
+fn is_normal<W: Weight>(rt: &impl Abort, alloc: Global, fst: &Fst<W>) -> Result<(), Fail> {
+    for distance in &distances_to_final(alloc, fst, ARCS)? {
+        assert!(rt; *distance == one(W::KIND));
+    }
+    Ok(())
+}
+
+/// Asks of one machine: pushed, it relates the same; with its total removed, each state has distance One. Gives whether
+/// it has a pushed machine, and not an improving cycle.
+fn compare_pushed<W: Weight>(rt: &impl Abort, alloc: Global, fst: &Fst<W>) -> Result<bool, Fail> {
+    match push(alloc, fst, false, &mut Fifo::new(alloc)) {
+        Ok(made) => says(rt, alloc, &made, relation(alloc, fst)?.as_slice())?,
+        Err(PushFault::ImprovingCycle { cycle: _ }) => return Ok(false),
+        Err(_) => assert!(rt; false, "no pushed machine"),
+    }
+    match push(alloc, fst, true, &mut Lifo::new(alloc)) {
+        Ok(made) => is_normal(rt, alloc, &made)?,
+        Err(_) => assert!(rt; false, "no pushed machine without its total"),
+    }
+    Ok(true)
+}
+
+/// Asks of the machines of an arc type, so many of which have a pushed machine.
+fn compare<W: Weight>(rt: &impl Abort, alloc: Global, wanted: usize) -> Result<(), Fail> {
+    let mut count = 0;
+    for fst in &machines::<W>(rt, alloc)? {
+        if compare_pushed(rt, alloc, fst)? {
+            count = add_arcs(rt, count, 1);
+        }
+    }
+    assert_eq!(rt; count, wanted);
+    Ok(())
+}
+
+#[test]
+fn pushed_machines_relate_the_same(rt: HostRuntime) -> Result<(), Fail> {
+    let alloc = rt.alloc();
+    compare::<Boolean>(&rt, alloc, 4)?;
+    compare::<Tropical>(&rt, alloc, 3)?;
+    compare::<MinMax>(&rt, alloc, 4)?;
+    compare::<Lexicographic>(&rt, alloc, 3)
+}
+
+/// Machines, each with its pushed machine without the total, and the total.
+static WIDE: [(&[u8], &[u8], i128); 3] = [
+    (
+        b"0 1 1 1\n0 2 2 2\n1 3 3 3 5\n2 3 3 3 2\n3\n",
+        b"0 1 1 1 3\n0 2 2 2\n1 3 3 3\n2 3 3 3\n3\n",
+        2,
+    ),
+    // The total is no weight of a machine.
+    (
+        b"0 1 1 1 1000000000000000000\n1 1\n",
+        b"0 1 1 1\n1\n",
+        1_000_000_000_000_000_001,
+    ),
+    // State 1 leads nowhere.
+    (
+        b"0 1 1 1\n0 2 2 2 -3\n2 0 1 1 4\n2 -1\n",
+        b"0 1 2 2\n1 0 1 1 1\n1\n",
+        -4,
+    ),
+];
+
+#[test]
+fn wide_weights_stand_beside_their_total(rt: HostRuntime) -> Result<(), Fail> {
+    let alloc = rt.alloc();
+    for (text, wanted, total) in &WIDE {
+        let fst: Fst<Tropical> = machine(alloc, text)?;
+        match push_wide(alloc, &fst, &mut BestFirst::new(alloc)) {
+            Ok(pushed) => {
+                is_text(&rt, alloc, &narrow_all(alloc, &pushed.fst)?, wanted)?;
+                assert!(rt; Tropical::key(pushed.total).first == *total, "{text:?}");
+            }
+            Err(_) => assert!(rt; false, "{text:?}"),
+        }
+    }
+    Ok(())
+}
