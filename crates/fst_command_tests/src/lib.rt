@@ -28,8 +28,9 @@ mod paths;
 #[cfg(test)]
 mod plans;
 #[cfg(test)]
-mod queues;
 mod pushing;
+#[cfg(test)]
+mod queues;
 #[cfg(test)]
 mod replacement;
 #[cfg(test)]
