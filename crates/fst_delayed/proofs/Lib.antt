@@ -3,3 +3,4 @@ pub mod Keys
 pub mod Held
 pub mod Handed
 pub mod Inside
+pub mod Ranged

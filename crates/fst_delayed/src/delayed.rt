@@ -25,7 +25,9 @@ pub struct Delayed<'m, W: Weight, M: Meter> {
 
 impl<'m, W: Weight, M: Meter> Model for Delayed<'m, W, M> {
     ghost use Rattle.std.specs.Prelude.{◌≡◌, true, false};
-    ghost use Rattle.fst_machine.specs.Machine.{Machine};
+    ghost use Rattle.fst_machine.specs.Graph.{graph_of};
+    ghost use Rattle.fst_machine.specs.Machine.{Machine, valued};
+    ghost use Rattle.fst_delayed.specs.Graphs.{IsRanged};
     ghost use Rattle.fst_trim.specs.Sides.{IsSortedOn};
     ghost use Rattle.fst_trim.specs.declared.side.Side.TheVariants as sides;
 
@@ -33,5 +35,5 @@ impl<'m, W: Weight, M: Meter> Model for Delayed<'m, W, M> {
 
     ghost view = { λ d. (d.a.now, d.b.now) };
 
-    ghost invariant = { λ d. (d.by_output ≡ true → IsSortedOn sides.Output d.a.now) × (d.by_output ≡ false → IsSortedOn sides.Input d.b.now) };
+    ghost invariant = { λ d. (d.by_output ≡ true → IsSortedOn sides.Output d.a.now) × (d.by_output ≡ false → IsSortedOn sides.Input d.b.now) × IsRanged (graph_of (valued W.value d.a.now)) × IsRanged (graph_of (valued W.value d.b.now)) };
 }

@@ -14,6 +14,7 @@ mod codes;
 mod delayed;
 pub mod laws;
 mod meter;
+mod ranging;
 
 pub use cache::Cache;
 pub use codes::code;

@@ -9,10 +9,11 @@ ghost use Rattle.fst_walk.specs.Names.{key_arc};
 ghost use Rattle.fst_compose.specs.Answers.{IsSorted};
 ghost use Rattle.fst_claims.specs.Passes.{won};
 ghost use Rattle.fst_delayed.specs.Coding.{code_of};
-ghost use Rattle.fst_delayed.specs.Graphs.{IsKeyOf, delayed_graph};
+ghost use Rattle.fst_delayed.specs.Graphs.{HasSmallArcs, IsKeyOf, delayed_graph};
 
 use super::{Delayed, NotSorted};
 use crate::meter::Meter;
+use crate::ranging::range_over;
 use fst_claims::Pass;
 use fst_compose::{ComposeKey, KeyArc, expand, key_final};
 use fst_machine::Fst;
@@ -33,6 +34,8 @@ impl<'m, W: Weight, M: Meter> Delayed<'m, W, M> {
         if !by_output && !is_sorted(b, Side::Input) {
             return Err(NotSorted);
         }
+        range_over(a);
+        range_over(b);
         Ok(Delayed {
             a,
             b,
@@ -66,6 +69,14 @@ impl<'m, W: Weight, M: Meter> Delayed<'m, W, M> {
         ensures range { Within 2000000000000000000 (W.wide_value result) }
     {
         key_final(self.a, self.b, key)
+    }
+
+    /// What is known of the arcs of each name of states of the machines: their labels are in range, their weights are not Zero,
+    /// and the numbers of these have absolute value at most 2 times 10 to the 18. Does nothing.
+    pub fn small_arcs(&self)
+        ensures { HasSmallArcs W.KIND W.value self.now }
+    {
+        let _states = (self.a.states(), self.b.states());
     }
 
     /// Whether the states of a name are states of the machines, and its filter is 0 or 1. Takes no memory.
