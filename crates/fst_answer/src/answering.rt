@@ -19,7 +19,7 @@ use crate::building::lattice_machine;
 use crate::fault::LineFault;
 use crate::listing::list_paths;
 use fst_batch::{Job, Points, Stage};
-use fst_delayed::{Cache, Delayed, Meter};
+use fst_delayed::{Cache, Composed};
 use fst_fields::List;
 use fst_machine::{Paths, Steps, WideFst};
 use fst_nbest::{NbestFault, nbest_wide};
@@ -50,9 +50,9 @@ fn best_paths<W: Weight, L: Ledger>(
 }
 
 /// The answer of a line without a byte 0 whose lattice has these names, where they are not too many.
-fn answer_lattice<W: Weight, M: Meter>(
+fn answer_lattice<W: Weight, D: Composed<W>>(
     alloc: Global,
-    delayed: &Delayed<'_, W, M>,
+    delayed: &D,
     line: &[u8],
     cache: &Cache<W>,
     points: &Points,
@@ -60,10 +60,10 @@ fn answer_lattice<W: Weight, M: Meter>(
 ) -> Result<LineAnswer<W>, AllocError>
     requires some { 1 ≤ n }
     requires few { n ≤ 100000 }
-    requires entries { IsTrueOf W.wide_value (delayed_graph W.KIND W.value delayed.now) cache.now }
-    requires whole { IsWhole W.KIND W.value delayed.now line.now (keys cache.now) points.now }
+    requires entries { IsTrueOf W.wide_value (delayed_graph W.KIND W.value (D.machines delayed.now)) cache.now }
+    requires whole { IsWhole W.KIND W.value (D.machines delayed.now) line.now (keys cache.now) points.now }
     requires found { 0 < length points.now }
-    ensures { IfOk result (λ answer. AnswersWhole W.KIND W.value delayed.now n line.now points.now answer) }
+    ensures { IfOk result (λ answer. AnswersWhole W.KIND W.value (D.machines delayed.now) n line.now points.now answer) }
 {
     let Some(fst) = lattice_machine(alloc, delayed, line, cache, points)? else {
         return Ok(LineAnswer::Refused(LineFault::TooManyArcs));
@@ -79,9 +79,9 @@ fn answer_lattice<W: Weight, M: Meter>(
 
 /// The answer of a line whose walk is over: the first fault that stands against it, or its `n` best paths with their weights and
 /// texts. The cache has the arcs of all names that the walk has taken.
-pub fn answer_line<W: Weight, M: Meter>(
+pub fn answer_line<W: Weight, D: Composed<W>>(
     alloc: Global,
-    delayed: &Delayed<'_, W, M>,
+    delayed: &D,
     line: &[u8],
     cache: &Cache<W>,
     job: &Job,
@@ -89,11 +89,11 @@ pub fn answer_line<W: Weight, M: Meter>(
 ) -> Result<LineAnswer<W>, AllocError>
     requires some { 1 ≤ n }
     requires few { n ≤ 100000 }
-    requires entries { IsTrueOf W.wide_value (delayed_graph W.KIND W.value delayed.now) cache.now }
-    requires job { IsJob W.KIND W.value delayed.now line.now (keys cache.now) job.now }
+    requires entries { IsTrueOf W.wide_value (delayed_graph W.KIND W.value (D.machines delayed.now)) cache.now }
+    requires job { IsJob W.KIND W.value (D.machines delayed.now) line.now (keys cache.now) job.now }
     requires limit { job.now.limit ≤ most_states }
     requires over { IsOver job.now }
-    ensures { IfOk result (IsAnswer W.KIND (delayed_graph W.KIND W.value delayed.now) n job.now.limit line.now W.value) }
+    ensures { IfOk result (IsAnswer W.KIND (delayed_graph W.KIND W.value (D.machines delayed.now)) n job.now.limit line.now W.value) }
 {
     match job.stage() {
         Stage::Bad => return Ok(LineAnswer::Refused(LineFault::BadByte)),

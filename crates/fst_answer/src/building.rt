@@ -13,48 +13,48 @@ ghost use Rattle.fst_answer.specs.Filling.{AreSmall, IsFilling, IsMadeOf};
 use crate::filling::{blank_machine, fill_state};
 use crate::numbering::number_point;
 use fst_batch::Points;
-use fst_delayed::{Cache, ComposeKey, Delayed, Meter};
+use fst_delayed::{Cache, ComposeKey, Composed};
 use fst_machine::{MOST_ARCS, WideArc, WideFst};
 use fst_semiring::Weight;
 use std::alloc::{AllocError, Global};
 
 /// The final weight of a name of the lattice of a line.
-fn last_weight<W: Weight, M: Meter>(
-    delayed: &Delayed<'_, W, M>,
+fn last_weight<W: Weight, D: Composed<W>>(
+    delayed: &D,
     line: &[u8],
     position: u64,
     name: ComposeKey,
 ) -> W::Wide
-    requires { IsKeyOf delayed.now name }
+    requires { IsKeyOf (D.machines delayed.now) name }
     ensures range { Within 2000000000000000000 (W.wide_value result) }
-    ensures value { W.wide_value result ≡ (lattice line.now (delayed_graph W.KIND W.value delayed.now)).final (point position name) }
+    ensures value { W.wide_value result ≡ (lattice line.now (delayed_graph W.KIND W.value (D.machines delayed.now))).final (point position name) }
 {
     if position == line.len() as u64 {
-        delayed.final_weight(name)
+        delayed.last_weight(name)
     } else {
         W::zero().widen()
     }
 }
 
 /// Fills the state of the name in a place. False where there are then too many arcs. The list `made` is for the arcs of a name.
-fn put_point<W: Weight, M: Meter>(
+fn put_point<W: Weight, D: Composed<W>>(
     fst: &mut WideFst<W>,
     made: &mut Vec<WideArc<W>>,
-    delayed: &Delayed<'_, W, M>,
+    delayed: &D,
     line: &[u8],
     cache: &Cache<W>,
     points: &Points,
     place: usize,
 ) -> Result<bool, AllocError>
-    requires entries { IsTrueOf W.wide_value (delayed_graph W.KIND W.value delayed.now) cache.now }
-    requires whole { IsWhole W.KIND W.value delayed.now line.now (keys cache.now) points.now }
+    requires entries { IsTrueOf W.wide_value (delayed_graph W.KIND W.value (D.machines delayed.now)) cache.now }
+    requires whole { IsWhole W.KIND W.value (D.machines delayed.now) line.now (keys cache.now) points.now }
     requires place { place < length points.now }
-    requires filling { IsFilling (lattice line.now (delayed_graph W.KIND W.value delayed.now)) points.now place (valued W.wide_value fst.old) }
+    requires filling { IsFilling (lattice line.now (delayed_graph W.KIND W.value (D.machines delayed.now))) points.now place (valued W.wide_value fst.old) }
     requires small { AreSmall (valued W.wide_value fst.old) }
     ensures small { OnOk result (AreSmall (valued W.wide_value fst.new)) }
-    ensures filling { IfOk result (λ fits. MatchBool fits (IsFilling (lattice line.now (delayed_graph W.KIND W.value delayed.now)) points.now (place + 1) (valued W.wide_value fst.new)) (most_arcs < arcs_of (lattice line.now (delayed_graph W.KIND W.value delayed.now)) points.now)) }
+    ensures filling { IfOk result (λ fits. MatchBool fits (IsFilling (lattice line.now (delayed_graph W.KIND W.value (D.machines delayed.now))) points.now (place + 1) (valued W.wide_value fst.new)) (most_arcs < arcs_of (lattice line.now (delayed_graph W.KIND W.value (D.machines delayed.now))) points.now)) }
 {
-    delayed.small_arcs();
+    delayed.arcs_are_small();
     let (position, name) = points.item(place);
     let Some(arcs) = cache.get(name) else {
         unreachable!()
@@ -71,17 +71,17 @@ fn put_point<W: Weight, M: Meter>(
 
 /// The machine of the lattice of a line, whose names these are, numbered in their order; `None` exactly where it has too many arcs.
 /// The cache has the arcs of all their names in the composition.
-pub(crate) fn lattice_machine<W: Weight, M: Meter>(
+pub(crate) fn lattice_machine<W: Weight, D: Composed<W>>(
     alloc: Global,
-    delayed: &Delayed<'_, W, M>,
+    delayed: &D,
     line: &[u8],
     cache: &Cache<W>,
     points: &Points,
 ) -> Result<Option<WideFst<W>>, AllocError>
-    requires entries { IsTrueOf W.wide_value (delayed_graph W.KIND W.value delayed.now) cache.now }
-    requires whole { IsWhole W.KIND W.value delayed.now line.now (keys cache.now) points.now }
+    requires entries { IsTrueOf W.wide_value (delayed_graph W.KIND W.value (D.machines delayed.now)) cache.now }
+    requires whole { IsWhole W.KIND W.value (D.machines delayed.now) line.now (keys cache.now) points.now }
     requires some { 0 < length points.now }
-    ensures { IfOk result (λ made. MatchOption made (most_arcs < arcs_of (lattice line.now (delayed_graph W.KIND W.value delayed.now)) points.now) (λ fst. IsMadeOf (lattice line.now (delayed_graph W.KIND W.value delayed.now)) points.now (valued W.wide_value fst))) }
+    ensures { IfOk result (λ made. MatchOption made (most_arcs < arcs_of (lattice line.now (delayed_graph W.KIND W.value (D.machines delayed.now))) points.now) (λ fst. IsMadeOf (lattice line.now (delayed_graph W.KIND W.value (D.machines delayed.now))) points.now (valued W.wide_value fst))) }
 {
     let mut fst = blank_machine(alloc, points.len())?;
     let mut made = Vec::new(alloc);

@@ -11,6 +11,7 @@
 
 mod cache;
 mod codes;
+mod composed;
 mod delayed;
 pub mod laws;
 mod meter;
@@ -18,6 +19,7 @@ mod ranging;
 
 pub use cache::Cache;
 pub use codes::code;
+pub use composed::Composed;
 pub use delayed::{Delayed, NotSorted};
 pub use fst_claims::{Claim, Claims, Pass};
 pub use fst_compose::{ComposeKey, KeyArc, KeyList};

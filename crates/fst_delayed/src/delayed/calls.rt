@@ -12,6 +12,7 @@ ghost use Rattle.fst_delayed.specs.Coding.{code_of};
 ghost use Rattle.fst_delayed.specs.Graphs.{HasSmallArcs, IsKeyOf, delayed_graph};
 
 use super::{Delayed, NotSorted};
+use crate::composed::Composed;
 use crate::meter::Meter;
 use crate::ranging::range_over;
 use fst_claims::Pass;
@@ -107,5 +108,17 @@ impl<'m, W: Weight, M: Meter> Delayed<'m, W, M> {
         let _pass = pass;
         meter.raise();
         expand(alloc, self.a, self.b, key)
+    }
+}
+
+impl<'m, W: Weight, M: Meter> Composed<W> for Delayed<'m, W, M> {
+    ghost machines = { λ d. d };
+
+    fn last_weight(&self, key: ComposeKey) -> W::Wide {
+        key_final(self.a, self.b, key)
+    }
+
+    fn arcs_are_small(&self) {
+        let _states = (self.a.states(), self.b.states());
     }
 }

@@ -14,13 +14,13 @@ use Rattle.fst_answer.proofs.answering.answer_lattice.Goals as goal
 pub returns-in_default : goal.returns-in_default
 returns-in_default g c =
     let many = rw c.in_default.is at c.in_ok-fst.ensures in
-    λ limit clear reached. many_answer g.W.Weight.KIND g.W.Weight.value (delayed_graph g.W.Weight.KIND g.W.Weight.value c.args.delayed.now) c.args.n limit c.args.line.now clear c.args.points.now reached many
+    λ limit clear reached. many_answer g.W.Weight.KIND g.W.Weight.value (delayed_graph g.W.Weight.KIND g.W.Weight.value (g.D.Composed.machines c.args.delayed.now)) c.args.n limit c.args.line.now clear c.args.points.now reached many
 
 pub returns-in-Err-ImprovingCycle : goal.returns-in-Err-ImprovingCycle
 returns-in-Err-ImprovingCycle g c =
     let value = g.W.Weight.value in
     let made = rw c.in-Some.is at c.in_ok-fst.ensures in
-    whole_cycle g.W.Weight.KIND value c.args.delayed.now c.args.n c.args.line.now c.args.points.now c.requires.whole.start c.requires.whole.listed (valued g.W.Weight.wide_value c.in-Some.fst) made c.in-Err-ImprovingCycle.field-0-0 (rw c.in-Err-ImprovingCycle.field-0-is at c.in-Err-ImprovingCycle.ensures.cycle)
+    whole_cycle g.W.Weight.KIND value (g.D.Composed.machines c.args.delayed.now) c.args.n c.args.line.now c.args.points.now c.requires.whole.start c.requires.whole.listed (valued g.W.Weight.wide_value c.in-Some.fst) made c.in-Err-ImprovingCycle.field-0-0 (rw c.in-Err-ImprovingCycle.field-0-is at c.in-Err-ImprovingCycle.ensures.cycle)
 
 pub list_paths-requires-clause-steps : goal.list_paths-requires-clause-steps
 list_paths-requires-clause-steps g c = first_steps g.W.Weight.KIND (graph_of (valued g.W.Weight.wide_value c.in-Some.fst)) c.args.n (map written c.in-Ok.paths) c.in-Ok.ensures.first
@@ -31,6 +31,6 @@ returns-in-Ok g c =
     let value = g.W.Weight.value in
     let m = valued g.W.Weight.wide_value c.in-Some.fst in
     let made = rw c.in-Some.is at c.in_ok-fst.ensures in
-    IfOk-weaker c.list_paths.result (Tells kind value (map (chain_of (graph_of m)) (map written c.in-Ok.paths))) (AnswersWhole kind value c.args.delayed.now c.args.n c.args.line.now c.args.points.now)
-    (λ a tells. whole_told kind value c.args.delayed.now c.args.n c.args.line.now c.args.points.now c.requires.whole.start c.requires.whole.listed m made (map written c.in-Ok.paths) c.in-Ok.ensures.first c.in-Ok.ensures.none a tells)
+    IfOk-weaker c.list_paths.result (Tells kind value (map (chain_of (graph_of m)) (map written c.in-Ok.paths))) (AnswersWhole kind value (g.D.Composed.machines c.args.delayed.now) c.args.n c.args.line.now c.args.points.now)
+    (λ a tells. whole_told kind value (g.D.Composed.machines c.args.delayed.now) c.args.n c.args.line.now c.args.points.now c.requires.whole.start c.requires.whole.listed m made (map written c.in-Ok.paths) c.in-Ok.ensures.first c.in-Ok.ensures.none a tells)
     c.list_paths.ensures

@@ -11,7 +11,7 @@ use Rattle.fst_answer.proofs.building.lattice_machine.Goals as goal
 pub loop-place-init : goal.loop-place-init
 loop-place-init g c =
     let value = g.W.Weight.wide_value in
-    let L = lattice c.args.line.now (delayed_graph g.W.Weight.KIND g.W.Weight.value c.args.delayed.now) in
+    let L = lattice c.args.line.now (delayed_graph g.W.Weight.KIND g.W.Weight.value (g.D.Composed.machines c.args.delayed.now)) in
     let fst = c.in_ok-fst.fst in
     let long = length-map fst.states (valued_state value) in
     let size = c.in_ok-fst.ensures.size in
@@ -24,7 +24,7 @@ loop-place-init g c =
 pub returns : goal.returns
 returns g c =
     let value = g.W.Weight.wide_value in
-    let L = lattice c.args.line.now (delayed_graph g.W.Weight.KIND g.W.Weight.value c.args.delayed.now) in
+    let L = lattice c.args.line.now (delayed_graph g.W.Weight.KIND g.W.Weight.value (g.D.Composed.machines c.args.delayed.now)) in
     let whole = c.requires.whole in
     let fst = c.loop-place.fst in
     let filling = c.loop-place.invariant.filling in

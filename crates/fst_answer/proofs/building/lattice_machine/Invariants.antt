@@ -7,6 +7,6 @@ use Rattle.fst_answer.proofs.building.lattice_machine.Given as goal
 -- the states of the names so far are filled
 abbrev pub invariant-loop-place : goal.invariant-loop-place
 invariant-loop-place g l = record {
-  filling : IsFilling (lattice l.line (delayed_graph g.W.Weight.KIND g.W.Weight.value l.delayed)) l.points l.place (valued g.W.Weight.wide_value l.fst);
+  filling : IsFilling (lattice l.line (delayed_graph g.W.Weight.KIND g.W.Weight.value (g.D.Composed.machines l.delayed))) l.points l.place (valued g.W.Weight.wide_value l.fst);
   small : AreSmall (valued g.W.Weight.wide_value l.fst);
 }
