@@ -22,6 +22,8 @@ mod faults;
 #[cfg(test)]
 mod forms;
 #[cfg(test)]
+mod minimal;
+#[cfg(test)]
 mod operations;
 #[cfg(test)]
 mod paths;

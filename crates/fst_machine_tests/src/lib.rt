@@ -2,8 +2,8 @@
 //!
 //! The crate has nothing but tests, and no other crate stands on it. It has two kinds. Tables of arc types, weights and
 //! small machines, written as texts, with what the definitions make of them, worked out by hand: `arc_types`, `weights`,
-//! `building`, `results`, `replacement`, `composition`, `description`, `distances`, `epsilon_removal`, `links`, `plain`,
-//! `pushing`, `queues`, `runs`, `shortest_paths` and `walks`. And
+//! `building`, `results`, `replacement`, `composition`, `description`, `determinization`, `distances`,
+//! `epsilon_removal`, `links`, `minimization`, `plain`, `pushing`, `queues`, `runs`, `shortest_paths` and `walks`. And
 //! `comparisons`: a test lists the relation of the operands by `fst_plain`, computes from this list by the definition of
 //! the operation what the relation of the result must be, and compares that with what `fst_plain` says of the machine
 //! that the operation made. The contracts of the operations say the same of all machines, and those of the plain
@@ -21,6 +21,8 @@ mod composition;
 #[cfg(test)]
 mod description;
 #[cfg(test)]
+mod determinization;
+#[cfg(test)]
 mod distances;
 #[cfg(test)]
 mod epsilon_removal;
@@ -28,6 +30,8 @@ mod epsilon_removal;
 mod links;
 #[cfg(test)]
 mod machines;
+#[cfg(test)]
+mod minimization;
 #[cfg(test)]
 mod operations;
 #[cfg(test)]
