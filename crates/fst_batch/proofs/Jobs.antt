@@ -32,6 +32,14 @@ All-Has P xs each k d low = each (get_or xs k d) (at_Has xs k (get_or xs k d) (s
 pub Has-All : {X : Type 0} (P : X → Type 0) (xs : List X) (x : X) → All P xs → Has xs x → P x
 Has-All P xs x all h = let at = Has_at xs x h in subst P (get_or_from_slice_get xs at.0 x x at.1) (all at.0 x at.2)
 
+-- what arcs of the graph keep, arcs of the lattice keep of the names in it
+pub lattice_keeps : (line : List ℕ) (G : Graph (Name ℕ ℕ)) (P : Name ℕ ℕ → Type 0) → Keeps P G → Keeps (λ (p : Point (Name ℕ ℕ)). P p.name) (lattice line G)
+lattice_keeps line G P keeps at k a own here = by (arc_is_step line G at k a here)
+  where
+    by : (u : Transition (Name ℕ ℕ)) × (slice_get (moves_at line G at) k ≡ Some u) × Leaves G at.name u × IsStep line G at u a → P a.next.name
+    by (u, place, leaves, reads_byte byte is) = subst P (ap (λ (b : Arc Cost (Point (Name ℕ ℕ))). b.next.name) (sym is)) (keeps at.name u.place u.arc own leaves.1)
+    by (u, place, leaves, stays silent is) = subst P (ap (λ (b : Arc Cost (Point (Name ℕ ℕ))). b.next.name) (sym is)) (keeps at.name u.place u.arc own leaves.1)
+
 module _ (line : List ℕ) (G : Graph (Name ℕ ℕ)) (limit : ℕ) (points : List (Point (Name ℕ ℕ))) (taken : ℕ) (at : Point (Name ℕ ℕ)) (there : slice_get points taken ≡ Some at) where
   -- a name is left to take, so the lattice has a start
   pub walk_at : IsAt line G limit points taken Going → IsWalkOf (lattice line G) limit points taken
@@ -79,13 +87,6 @@ module _ (line : List ℕ) (G : Graph (Name ℕ ℕ)) (limit : ℕ) (points : Li
       own : P at.name
       own = Has-All (λ (p : Point (Name ℕ ℕ)). P p.name) points at all (at_Has points taken at there)
 
-      next_of : (a : Arc Cost (Point (Name ℕ ℕ))) (k : ℕ) → slice_get ((lattice line G).arcs at) k ≡ Some a → P a.next.name
-      next_of a k here = by (arc_is_step line G at k a here)
-        where
-          by : (u : Transition (Name ℕ ℕ)) × (slice_get (moves_at line G at) k ≡ Some u) × Leaves G at.name u × IsStep line G at u a → P a.next.name
-          by (u, place, leaves, reads_byte byte is) = subst P (ap (λ (b : Arc Cost (Point (Name ℕ ℕ))). b.next.name) (sym is)) (keeps at.name u.place u.arc own leaves.1)
-          by (u, place, leaves, stays silent is) = subst P (ap (λ (b : Arc Cost (Point (Name ℕ ℕ))). b.next.name) (sym is)) (keeps at.name u.place u.arc own leaves.1)
-
       each : (z : Point (Name ℕ ℕ)) → Has new z → P z.name
       each z h = by (Grows-only (nexts ((lattice line G).arcs at)) points new z grown h)
         where
@@ -94,7 +95,7 @@ module _ (line : List ℕ) (G : Graph (Name ℕ ℕ)) (limit : ℕ) (points : Li
           by (inr found) =
               let place = Has_at (nexts ((lattice line G).arcs at)) z found in
               let arc = mapped_at (λ (a : Arc Cost (Point (Name ℕ ℕ))). a.next) ((lattice line G).arcs at) place.0 z place.1 in
-              subst (λ (p : Point (Name ℕ ℕ)). P p.name) arc.2 (next_of arc.0 place.0 arc.1)
+              subst (λ (p : Point (Name ℕ ℕ)). P p.name) arc.2 (lattice_keeps line G P keeps at place.0 arc.0 own arc.1)
 
 -- a job takes the name at its head
 module _ {V : Type 0} (kind : ArcType) (value : V → Cost) (d : Machine V × Machine V) (left : IsMachine value d.0) (right : IsMachine value d.1) (line : List ℕ) (known : List (Name ℕ ℕ))

@@ -13,3 +13,10 @@ pub mod Turns
 pub mod Joining
 pub mod Gathering
 pub mod Rounds
+pub mod TwoWalks
+pub mod Needs
+pub mod Between
+pub mod Numbers
+pub mod Hired
+pub mod Opened
+pub mod Shares

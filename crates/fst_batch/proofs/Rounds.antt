@@ -1,7 +1,7 @@
 -- A phase, from what its parts do.
 use Rattle.std.proofs.Common.{◌≡◌, ◌≢◌, ◌⊎◌, inl, inr, ⊎_elim, ℕ, zero, suc, ◌+◌, ◌<◌, ◌≤◌, Bool, true, List, [], ◌∷◌, ◌++◌, Option, Some, None, length, map, slice_get, refl, sym, ap, ◌∙◌, subst, arith}
 use Rattle.std.specs.List.{All, Contains, flat_map}
-use Rattle.std.proofs.lemmas.List.{map-append}
+use Rattle.std.proofs.lemmas.List.{length-map, map-append}
 use Rattle.std.proofs.lemmas.List.Elements.{All-append, All-nil}
 use Rattle.fst_semiring.specs.Cost.{Cost}
 use Rattle.fst_semiring.specs.declared.arc_type.ArcType.{ArcType}
@@ -122,5 +122,6 @@ module _ {W V M : Type 0} (kind : ArcType) (weight : W → Cost) (value : V → 
           (All-append (λ (e : Name ℕ ℕ × List (Arc V (Name ℕ ℕ))). map (key_arc value) e.1 ≡ (delayed_graph kind weight d).arcs e.0) old (all_own ms) real
           (All-own (λ (e : Name ℕ ℕ × List (Arc V (Name ℕ ℕ))). map (key_arc value) e.1 ≡ (delayed_graph kind weight d).arcs e.0) ms (λ k m at. (ran k m at).3.own.entries)));
       size = gathered.emptied.size ∙ (run.size ∙ handed.size);
+      few = length-map ms (λ (m : Laborer V M). m.own) ∙ sym gathered.emptied.size;
       each = ended;
     }

@@ -5,5 +5,7 @@ pub mod Walks
 pub mod Points
 pub mod Serving
 pub mod Phases
+pub mod Expansions
+pub mod Runs
 pub mod Draws
 pub mod Cascade

@@ -163,4 +163,5 @@ module _ {W V M : Type 0} (kind : ArcType) (weight : W → Cost) (value : V → 
     pub apart : AreApart old (flat_map (λ es. es) owns)
     pub true_arcs : IsTrueOf value (delayed_graph kind weight d) new
     pub size : length ws ≡ length vs
+    pub few : length owns ≡ length ws
     pub each : (k : ℕ) (w : Laborer V M) → slice_get ws k ≡ Some w → (v : Laborer V M) × (own : Entries V (Name ℕ ℕ)) × (slice_get vs k ≡ Some v) × (slice_get owns k ≡ Some own) × HasEnded v w own

@@ -6,10 +6,15 @@
 //! a number.
 #![tactic(auto)]
 
+mod answering;
+mod batching;
 mod cascade;
+mod dealing;
 mod drawing;
+mod ending;
 mod following;
 mod gate;
+mod hiring;
 mod job;
 pub mod laws;
 mod lines;
@@ -20,11 +25,13 @@ mod stage;
 mod state;
 mod worker;
 
+pub use answering::Answering;
 pub use cascade::{Cascade, make_cascade};
 pub use gate::{Gate, OpenGate};
 pub use job::Job;
 pub use lines::Lines;
 pub use phasing::{PhaseReport, phase};
 pub use stage::Stage;
+pub use batching::{BatchReport, run_lines};
 pub use state::JobState;
 pub use worker::Worker;

@@ -57,6 +57,21 @@ impl<W: Weight, M: Meter> Worker<W, M> {
         Ok(())
     }
 
+    /// Takes its jobs away.
+    pub(crate) fn clear(&mut self)
+        ensures jobs { self.new.jobs ≡ [] }
+        ensures rest { (self.new.own ≡ self.old.own) × (self.new.meter ≡ self.old.meter) × (self.new.pass ≡ self.old.pass) }
+    {
+        self.jobs.clear();
+    }
+
+    /// Its meter; the rest of it is dropped.
+    pub(crate) fn into_meter(self) -> M
+        ensures { result ≡ self.meter }
+    {
+        self.meter
+    }
+
     /// The number of its jobs. Takes no memory.
     pub fn len(&self) -> usize
         ensures { result ≡ length self.now.jobs }

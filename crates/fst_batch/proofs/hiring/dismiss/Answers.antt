@@ -1,0 +1,25 @@
+use Rattle.std.proofs.Common.{◌≡◌, ◌+◌, ◌++◌, ◌∷◌, [], ℕ, Some, length, slice_get, sym, ap, ◌∙◌, arith}
+use Rattle.std.specs.Prelude.{sum_by}
+use Rattle.std.proofs.lemmas.List.{length-append}
+use Rattle.std.proofs.lemmas.List.Sums.{sum_by_push}
+use Rattle.fst_machine.proofs.Arcs.{at_append_left}
+use Rattle.fst_batch.specs.Phases.{Laborer}
+use Rattle.fst_batch.proofs.hiring.dismiss.Goals as goal
+
+pub loop-worker-preserved : goal.loop-worker-preserved
+loop-worker-preserved g c =
+    let inv = c.loop-worker.invariant in
+    let w = c.in-Some.worker in
+    let rest = c.pop.new.self.items in
+    let grown : c.loop-worker.left.items ≡ rest ++ w ∷ [] = c.in-Some.ensures.items in
+    let total = ap (sum_by (λ (v : Laborer g.row.W-Wide.Denot g.row.M.Denot). g.M.Meter.count v.meter)) grown ∙ sum_by_push (λ (v : Laborer g.row.W-Wide.Denot g.row.M.Denot). g.M.Meter.count v.meter) rest w in
+    let long = ap length grown ∙ length-append rest (w ∷ []) in
+    let meter = ap g.M.Meter.count c.into_meter.ensures in
+    record {
+      sum = omega (arith, inv.sum, c.join.ensures.count, total, meter);
+      few = inv.few;
+      parts = λ k v at. inv.parts k v (ap (λ vs. slice_get vs k) grown ∙ at_append_left rest (w ∷ []) k v at);
+      out = omega (arith, inv.out, c.join.ensures.parts, long);
+      room = inv.room;
+      whole = c.join.ensures.part ∙ inv.whole;
+    }
