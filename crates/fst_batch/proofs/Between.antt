@@ -159,8 +159,8 @@ module _ {W V M : Type 0} (kind : ArcType) (weight : W → Cost) (value : V → 
         let e = ended k w at in
         let l = (e.4.jobs i j there).2 in
         let won_some : 0 < length (won pass) = ⊎_elim (λ (over : IsOver j). absurd (let all = over going in omega (arith, all, left)))
-            (λ (waits : (at : Point (Name ℕ ℕ)) × IsHead j at × (Has (keys old ++ keys e.1) at.name → ⊥) × (Contains (won pass) (code_of at.name) ⊎ (length (won pass) ≡ t.places))).
-            ⊎_elim (λ (c : Contains (won pass) (code_of waits.0.name)). holds_some (won pass) (code_of waits.0.name) c) (λ (full : length (won pass) ≡ t.places). omega (arith, full, some)) waits.3) l.left in
+        (λ (waits : (at : Point (Name ℕ ℕ)) × IsHead j at × (Has (keys old ++ keys e.1) at.name → ⊥) × (Contains (won pass) (code_of at.name) ⊎ (length (won pass) ≡ t.places))).
+        ⊎_elim (λ (c : Contains (won pass) (code_of waits.0.name)). holds_some (won pass) (code_of waits.0.name) c) (λ (full : length (won pass) ≡ t.places). omega (arith, full, some)) waits.3) l.left in
         let long : length (won pass) ≡ length added = ap length p.won_codes ∙ length-map added (λ (x : Name ℕ ℕ × List (Arc V (Name ℕ ℕ))). code_of x.0) in
         let whole : length new ≡ length old + length added = ap length p.entries ∙ length-append old added in
         omega (arith, won_some, long, whole)

@@ -84,9 +84,9 @@ few_names states others few few' names apart below =
     apart_of : (ns : List (Name ℕ ℕ)) → Apart ns → ((n : Name ℕ ℕ) → Has ns n → Has names n) → Apart (map code_of ns)
     apart_of [] a inside = tt
     apart_of (m ∷ ns) a inside = (
-        (λ h. let n = back ns (code_of m) h in a.0 (subst (Has ns) (codes_differ states others few few' n.0 m (below n.0 (inside n.0 (inr n.1))) (below m (inside m (inl refl))) n.2) n.1)),
-        apart_of ns a.1 (λ n h. inside n (inr h)),
-      )
+      (λ h. let n = back ns (code_of m) h in a.0 (subst (Has ns) (codes_differ states others few few' n.0 m (below n.0 (inside n.0 (inr n.1))) (below m (inside m (inl refl))) n.2) n.1)),
+      apart_of ns a.1 (λ n h. inside n (inr h)),
+    )
 
     codes_apart : Apart (map code_of names)
     codes_apart = apart_of names apart (λ n h. h)

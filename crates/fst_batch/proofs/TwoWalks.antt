@@ -83,7 +83,7 @@ module _ {N : Type 0} (g : Graph N) (start : N) where
           let here : slice_get ys a ≡ Some n = ap (λ ns. slice_get ns a) front.1 ∙ at_append_left xs front.0 a n at in
           let f = found_by ys b v (suc a) (omega (arith, less)) in
           let more : arrivals g (take (suc a) ys) ≡ arrivals g (take a ys) ++ nexts (g.arcs n) =
-              ap (arrivals g) (take_one ys a n here) ∙ (flat_map-append (λ y. nexts (g.arcs y)) (take a ys) (n ∷ []) ∙ ap (λ zs. arrivals g (take a ys) ++ zs) (append-nil (nexts (g.arcs n)))) in
+          ap (arrivals g) (take_one ys a n here) ∙ (flat_map-append (λ y. nexts (g.arcs y)) (take a ys) (n ∷ []) ∙ ap (λ zs. arrivals g (take a ys) ++ zs) (append-nil (nexts (g.arcs n)))) in
           let cut = Grows-append (arrivals g (take a ys)) (nexts (g.arcs n)) (start ∷ []) f.0 (subst (λ zs. Grows (start ∷ []) zs f.0) more f.2) in
           let mid : cut.0 ≡ xs = Grows_once (arrivals g (take a xs)) (start ∷ []) cut.0 xs (subst (λ ns. Grows (start ∷ []) (arrivals g ns) cut.0) (sym (agree xs ys a b w v a (omega arith) (omega (arith, less)))) cut.1) w.grown in
           let onward : Grows xs (passes.front ++ passes.rest) f.0 = subst (λ zs. Grows xs zs f.0) passes.parts (subst (λ ns. Grows ns (nexts (g.arcs n)) f.0) mid cut.2) in

@@ -58,13 +58,7 @@ where
 }
 
 /// Walks the lines from one number up to another, and answers them.
-fn run_some<
-    R: Threads + Sync,
-    W: Weight + Send + Sync,
-    G: Gate,
-    M: Meter,
-    A: Answering<W, M>,
->(
+fn run_some<R: Threads + Sync, W: Weight + Send + Sync, G: Gate, M: Meter, A: Answering<W, M>>(
     rt: &R,
     alloc: Global,
     delayed: &Delayed<'_, W, M>,
@@ -99,13 +93,7 @@ where
 }
 
 /// Walks all lines, at most 4,096 at once, and answers them.
-fn run_all_lines<
-    R: Threads + Sync,
-    W: Weight + Send + Sync,
-    G: Gate,
-    M: Meter,
-    A: Answering<W, M>,
->(
+fn run_all_lines<R: Threads + Sync, W: Weight + Send + Sync, G: Gate, M: Meter, A: Answering<W, M>>(
     rt: &R,
     alloc: Global,
     delayed: &Delayed<'_, W, M>,
@@ -155,13 +143,7 @@ pub struct BatchReport<X: Drop, W: Weight> {
 /// Answers lines by 1 to 64 workers. At most 4,096 lines are open at once: these are dealt to the workers, walked in phases
 /// until all walks are over, and answered. Each name of the composition that the lines need is expanded once, whatever the
 /// number of workers.
-pub fn run_lines<
-    R: Threads + Sync,
-    W: Weight + Send + Sync,
-    G: Gate,
-    M: Meter,
-    A: Answering<W, M>,
->(
+pub fn run_lines<R: Threads + Sync, W: Weight + Send + Sync, G: Gate, M: Meter, A: Answering<W, M>>(
     rt: &R,
     alloc: Global,
     delayed: &Delayed<'_, W, M>,

@@ -26,12 +26,12 @@ mod state;
 mod worker;
 
 pub use answering::Answering;
+pub use batching::{BatchReport, run_lines};
 pub use cascade::{Cascade, make_cascade};
 pub use gate::{Gate, OpenGate};
 pub use job::Job;
 pub use lines::Lines;
 pub use phasing::{PhaseReport, phase};
 pub use stage::Stage;
-pub use batching::{BatchReport, run_lines};
 pub use state::JobState;
 pub use worker::Worker;

@@ -33,7 +33,7 @@ loop-place-preserved g c =
     let low : place < length c.args.worker.now.jobs = slice_get_within c.args.worker.now.jobs place job c.job-job.ensures in
     let here : get_or c.args.worker.now.jobs place job ≡ job = get_or_from_slice_get c.args.worker.now.jobs place job job c.job-job.ensures in
     let numbers : job_lines (take (place + 1) c.args.worker.now.jobs) ≡ job_lines (take place c.args.worker.now.jobs) ++ job.index ∷ [] =
-        map_more (λ (j : LineWalk). j.index) c.args.worker.now.jobs place job low ∙ ap (λ (j : LineWalk). job_lines (take place c.args.worker.now.jobs) ++ j.index ∷ []) here in
+    map_more (λ (j : LineWalk). j.index) c.args.worker.now.jobs place job low ∙ ap (λ (j : LineWalk). job_lines (take place c.args.worker.now.jobs) ++ j.index ∷ []) here in
     let answered : R job.index c.in_ok-answer.answer = record { line = c.line-line.result.now; there = ap (slice_get c.args.lines.now) (sym c.index.ensures) ∙ c.line-line.ensures; is = c.in_ok-answer.ensures } in
     subst (λ (ns : List ℕ). AllZip R ns c.push.new.self.items) (sym numbers)
     (subst (λ (xs : List g.row.A-Answer.Denot). AllZip R (job_lines (take place c.args.worker.now.jobs) ++ job.index ∷ []) xs) (sym c.in_ok-push.ensures.items)

@@ -34,9 +34,9 @@ loop-from-preserved g c =
           (cases_lt number c.loop-from.from);
       answers =
           let joined : run 0 to ≡ run 0 c.loop-from.from ++ run c.loop-from.from (to - c.loop-from.from) =
-              let a : 0 + c.loop-from.from ≡ c.loop-from.from = omega arith in
-              let b : c.min.result ≡ to - c.loop-from.from = omega arith in
-              run_more 0 c.loop-from.from c.min.result ∙ (ap (λ (f : ℕ). run 0 c.loop-from.from ++ run f c.min.result) a ∙ ap (λ (n : ℕ). run 0 c.loop-from.from ++ run c.loop-from.from n) b) in
+          let a : 0 + c.loop-from.from ≡ c.loop-from.from = omega arith in
+          let b : c.min.result ≡ to - c.loop-from.from = omega arith in
+          run_more 0 c.loop-from.from c.min.result ∙ (ap (λ (f : ℕ). run 0 c.loop-from.from ++ run f c.min.result) a ∙ ap (λ (n : ℕ). run 0 c.loop-from.from ++ run c.loop-from.from n) b) in
           subst (λ (ns : List ℕ). AllZip R ns c.run_some.new.answers.items) (sym joined)
           (subst (λ (xs : List g.row.A-Answer.Denot). AllZip R (run 0 c.loop-from.from ++ run c.loop-from.from (to - c.loop-from.from)) xs) (sym ran.answers.1)
           (zip_append R (run 0 c.loop-from.from) c.loop-from.answers.items (run c.loop-from.from (to - c.loop-from.from)) ran.answers.0 inv.answers ran.answers.2));

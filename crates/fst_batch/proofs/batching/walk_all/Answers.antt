@@ -35,8 +35,8 @@ loop-report-smaller g c =
     let few : length c.loop-report.cache < 2 ^ 46 = few_entries g.W.Weight.KIND g.W.Weight.value c.args.delayed.now start.machines.0 start.machines.1 first c.args.limit c.args.lines.now c.loop-report.cache c.len-expanded.ensures.apart c.loop-report.invariant.between.needed in
     let left = c.are_done.ensures.left c.if-are_done.false in
     let longer : length c.loop-report.cache < length c.phase.new.cache =
-        is_longer g.W.Weight.KIND g.W.Weight.value g.W.Weight.wide_value g.M.Meter.count g.M.Meter.parts_out g.M.Meter.is_part c.args.delayed.now c.args.lines.now c.args.limit c.loop-report.cache c.loop-report.workers c.loop-report.invariant.between
-        c.in_ok-_report._report.claims c.in_ok-_report._report.pass c.phase.new.cache c.phase.new.workers c.in_ok-_report.ensures.phase (let places = c.in_ok-_report.ensures.places in omega (arith, places)) left.0 left.1 left.2 left.3 left.4 left.5 left.6 left.7 in
+    is_longer g.W.Weight.KIND g.W.Weight.value g.W.Weight.wide_value g.M.Meter.count g.M.Meter.parts_out g.M.Meter.is_part c.args.delayed.now c.args.lines.now c.args.limit c.loop-report.cache c.loop-report.workers c.loop-report.invariant.between
+    c.in_ok-_report._report.claims c.in_ok-_report._report.pass c.phase.new.cache c.phase.new.workers c.in_ok-_report.ensures.phase (let places = c.in_ok-_report.ensures.places in omega (arith, places)) left.0 left.1 left.2 left.3 left.4 left.5 left.6 left.7 in
     omega (arith, few, longer)
 
 pub returns-then-are_done-clause-between : goal.returns-then-are_done-clause-between

@@ -40,9 +40,9 @@ pub returns-clause-lines : goal.returns-clause-lines
 returns-clause-lines g c =
     let inv = c.loop-worker.invariant in
     let enough : c.args.to - c.args.from ≤ c.div_ceil-share.result * length c.args.workers.now =
-        subst (λ (s : ℕ). c.args.to - c.args.from ≤ s * length c.args.workers.now) (sym c.div_ceil-share.ensures) (div_ceil_times (c.args.to - c.args.from) (length c.args.workers.now) c.requires.workers).0 in
+    subst (λ (s : ℕ). c.args.to - c.args.from ≤ s * length c.args.workers.now) (sym c.div_ceil-share.ensures) (div_ceil_times (c.args.to - c.args.from) (length c.args.workers.now) c.requires.workers).0 in
     let index : c.loop-worker.worker-index ≡ length c.args.workers.now = omega (arith, inv.turn.size) in
     let whole : take c.loop-worker.worker-index c.loop-worker.workers ≡ c.loop-worker.workers = take_all c.loop-worker.worker-index c.loop-worker.workers (omega arith) in
     let all : c.loop-worker.next ≡ c.args.to = all_far c.args.from c.args.to c.div_ceil-share.result (length c.args.workers.now) c.loop-worker.next enough c.requires.order inv.high
-        (subst (λ (i : ℕ). IsFar c.args.from c.args.to c.div_ceil-share.result i c.loop-worker.next) index inv.far) in
+    (subst (λ (i : ℕ). IsFar c.args.from c.args.to c.div_ceil-share.result i c.loop-worker.next) index inv.far) in
     sym (ap all_lines whole) ∙ (inv.lines ∙ ap (λ (n : ℕ). run c.args.from (n - c.args.from)) all)
