@@ -8,3 +8,5 @@
 mod cascade;
 #[cfg(test)]
 mod claims;
+#[cfg(test)]
+mod workers;
