@@ -7,6 +7,7 @@
 
 mod answer;
 mod answering;
+mod batch;
 mod building;
 mod fault;
 mod filling;
@@ -17,5 +18,6 @@ mod telling;
 
 pub use answer::{Answer, Answers, LineAnswer};
 pub use answering::answer_line;
+pub use batch::{BatchOptions, run_batch};
 pub use fault::LineFault;
 pub use telling::put_answer_lines;

@@ -19,6 +19,7 @@ mod Stored
 mod Decided
 mod Places
 mod Deciding
+mod DecidingBatching
 mod DecidingSizes
 mod DecidingCoding
 mod DecidingComposing
@@ -34,3 +35,4 @@ mod Minimized
 mod Measured
 mod Removed
 mod Meters
+mod Batched

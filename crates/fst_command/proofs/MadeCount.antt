@@ -14,6 +14,8 @@ use Rattle.fst_words.specs.Inputs.{stored_by}
 use Rattle.fst_words.specs.PlanLaws.{IsWhole}
 use Rattle.fst_words.specs.Plans.{outputs_of}
 use Rattle.fst_words.proofs.Counts.{stored_all}
+use Rattle.fst_fields.specs.Lines.{lines_of}
+use Rattle.fst_command.proofs.DecidingBatching.{batch_count}
 use Rattle.fst_command.specs.Coding.{Encodes, IsCoded, coding_makes, for_codex}
 use Rattle.fst_command.specs.Commands.{meaning_by}
 use Rattle.fst_trim.specs.Counted.{IsInfo}
@@ -91,7 +93,7 @@ made_count Push labels o given made is = one_of given.machines given.kind _ made
 made_count Encode labels o given made is = of_coding o.decode o.encode_weights given made is
 made_count Determinize labels o given made is = one_of given.machines given.kind _ made is
 made_count Minimize labels o given made is = one_of given.machines given.kind _ made is
-made_count Batch labels o given made is = absurd is
+made_count Batch labels o given made is = batch_count given.machines given.kind o (lines_of given.lines) made is
 made_count Make labels o given made is = absurd is
 
 -- the bytes of a command are as many as its outputs

@@ -22,6 +22,8 @@ use Rattle.fst_command.specs.Measuring.{direction_of}
 use Rattle.fst_command.specs.OneOutcome.{HasOneOutcome, One, OneOutcome}
 use Rattle.fst_command.specs.Outcome.{Agrees, AreNamed, IsCause, Makes, Output, Prescribes, Refuses}
 use Rattle.fst_command.specs.Trimming.{side_of}
+use Rattle.fst_fields.specs.Lines.{lines_of}
+use Rattle.fst_command.proofs.DecidingBatching.{one_batch}
 use Rattle.fst_command.proofs.Deciding.{one_equal, one_for_one, one_for_two, one_line, one_made, one_never, one_told}
 use Rattle.fst_command.proofs.DecidingCoding.{one_coding_makes, one_coding_stops}
 use Rattle.fst_command.proofs.DecidingComposing.{one_composed}
@@ -89,7 +91,10 @@ one_meaning Minimize labels o given = record {
   stopped = one_for_one _ (λ m. one_line _ _ (λ f h one two. ap unmade (one_unminimized given.kind m f h one two))) given.machines;
   made = one_for_one _ (λ m. one_made given.kind _ (one_minimizing given.kind m)) given.machines;
 }
-one_meaning Batch labels o given = record { stopped = one_never; made = λ x y one two. absurd one }
+one_meaning Batch labels o given = record {
+  stopped = one_for_two _ (λ a b x y one two. one.1 ∙ sym two.1) given.machines;
+  made = one_for_two _ (λ a b. one_batch given.kind a b o (lines_of given.lines)) given.machines;
+}
 one_meaning Make labels o given = record { stopped = one_never; made = λ x y one two. absurd one }
 
 -- ---- a run

@@ -6,6 +6,7 @@ use Rattle.fst_words.specs.declared.verb.Verb.{Verb}
 use Rattle.fst_words.specs.declared.verb.Verb.TheVariants.{Compile, Print, Info, Invert, Reverse, Connect, Union, Concat, Closure, Project, Replace, Relabel, Arcsort, Compose, Rmepsilon, Shortestdistance, Shortestpath, Push, Encode, Determinize, Minimize, Batch, Make}
 use Rattle.fst_words.specs.Plans.{rule_labels}
 use Rattle.fst_command.specs.Meaning.{Meaning, never}
+use Rattle.fst_command.specs.Batching.{batch_meaning}
 use Rattle.fst_command.specs.Coding.{encode_meaning}
 use Rattle.fst_command.specs.Composing.{compose_meaning}
 use Rattle.fst_command.specs.Determinizing.{determinize_meaning}
@@ -47,7 +48,7 @@ meaning_by Push labels o = push_meaning o
 meaning_by Encode labels o = encode_meaning o
 meaning_by Determinize labels o = determinize_meaning o
 meaning_by Minimize labels o = minimize_meaning
-meaning_by Batch labels o = unbuilt
+meaning_by Batch labels o = batch_meaning o
 meaning_by Make labels o = unbuilt
 
 -- what a plan means

@@ -16,6 +16,7 @@ pub mod Determinizing
 pub mod Minimizing
 pub mod Measuring
 pub mod Listing
+pub mod Batching
 pub mod Removing
 pub mod Pushing
 pub mod Coding

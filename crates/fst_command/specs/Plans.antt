@@ -28,7 +28,7 @@ is_built Push = true
 is_built Encode = true
 is_built Determinize = true
 is_built Minimize = true
-is_built Batch = false
+is_built Batch = true
 is_built Make = false
 
 -- the plan, where its command is built

@@ -11,6 +11,7 @@ ghost use Rattle.fst_command.specs.Metering.{IsFree, Raises, meter_seen};
 ghost use Rattle.fst_command.specs.Plans.{is_built};
 ghost use Rattle.fst_command.specs.Seeing.{given_seen, made_seen};
 
+mod batching;
 mod coding;
 mod composing;
 mod describing;
@@ -55,7 +56,6 @@ where
     ensures settles { Settles (meaning_for plan.now) (given_seen W.KIND W.value given) (result_map_both (made_seen W.KIND W.value) (λ e. e) result) }
     ensures meter { Raises (expands plan.now) (meter_seen M.count M.parts_out M.is_part meter.old) (meter_seen M.count M.parts_out M.is_part meter.new) (result_map_both (made_seen W.KIND W.value) (λ e. e) result) }
 {
-    let _ = rt;
     match plan.command {
         Verb::Compile => texts::compiled(given),
         Verb::Print => texts::printed(alloc, &plan.options, given),
@@ -78,6 +78,7 @@ where
         Verb::Shortestdistance => measuring::measured(alloc, &plan.options, given, queues),
         Verb::Shortestpath => listing::listed(alloc, &plan.options, given),
         Verb::Push => pushing::pushed(alloc, &plan.options, given, queues),
-        Verb::Batch | Verb::Make => unreachable!(),
+        Verb::Batch => batching::answered(rt, alloc, &plan.options, given, meter),
+        Verb::Make => unreachable!(),
     }
 }

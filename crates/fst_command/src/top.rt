@@ -41,6 +41,7 @@ fn is_ready(verb: Verb) -> bool
             | Verb::Minimize
             | Verb::Shortestdistance
             | Verb::Shortestpath
+            | Verb::Batch
             | Verb::Push
     )
 }

@@ -77,7 +77,7 @@ static WORDS: [Row; 32] = [
     Run("compile -- - -"),
     Holds("-", TICKET_FILE),
     // A command of the form that is not built yet.
-    Refuse("rmepsilon a c", 1, USAGE),
+    Refuse("make c", 1, USAGE),
 ];
 
 /// Names that begin with a dash.

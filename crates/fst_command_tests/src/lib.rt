@@ -8,6 +8,8 @@
 #[cfg(test)]
 mod acceptors;
 #[cfg(test)]
+mod batches;
+#[cfg(test)]
 mod codices;
 #[cfg(test)]
 mod composition;

@@ -68,21 +68,21 @@ fn takes<R: Threads + Sync + Abort>(
             alloc,
             Counting {
                 inner: Fifo::new(alloc),
-                puts: Rc::clone(&counts[0]),
+                puts: Rc::clone(&counts[0])?,
             },
         )?,
         lifo: Box::new(
             alloc,
             Counting {
                 inner: Lifo::new(alloc),
-                puts: Rc::clone(&counts[1]),
+                puts: Rc::clone(&counts[1])?,
             },
         )?,
         best: Box::new(
             alloc,
             Counting {
                 inner: BestFirst::new(alloc),
-                puts: Rc::clone(&counts[2]),
+                puts: Rc::clone(&counts[2])?,
             },
         )?,
     };

@@ -142,7 +142,7 @@ static REFUSED: [(&[u8], Refused); 4] = [
 ];
 
 /// What is refused of a machine.
-fn refused<W: Weight>(alloc: Global, text: &[u8]) -> Result<Refused, Fail> {
+fn stops_at<W: Weight>(alloc: Global, text: &[u8]) -> Result<Refused, Fail> {
     let fst: Fst<W> = machine(alloc, text)?;
     Ok(match left(alloc, &fst, Fifo::new(alloc))? {
         Err(EpsilonFault::ImprovingCycle { cycle: _ }) => Refused::Cycle,
@@ -154,10 +154,10 @@ fn refused<W: Weight>(alloc: Global, text: &[u8]) -> Result<Refused, Fail> {
 }
 
 #[test]
-fn what_is_refused(rt: HostRuntime) -> Result<(), Fail> {
+fn what_stops(rt: HostRuntime) -> Result<(), Fail> {
     let alloc = rt.alloc();
     for (text, wanted) in &REFUSED {
-        assert_eq!(rt; refused::<Tropical>(alloc, text)?, *wanted);
+        assert_eq!(rt; stops_at::<Tropical>(alloc, text)?, *wanted);
     }
     Ok(())
 }

@@ -4,13 +4,13 @@ ghost use Rattle.std.specs.Prelude.{[], Some};
 ghost use Rattle.std.proofs.lemmas.Bool.Decides.{Decides-eqb};
 
 use fst_semiring::{Tropical, Weight};
-use fst_walk::{NameArc, Names, Room, walk};
+use fst_walk::{Code, Coded, NameArc, Names, Room, walk};
 use std::alloc::{AllocError, Global};
 use std::marker::Model;
 use std::test::Fail;
 
 /// A name that can be moved and not copied.
-#[derive(PartialEq, Eq, Hash, Drop)]
+#[derive(PartialEq, Eq, Drop)]
 struct Mark {
     place: u32,
 }
@@ -23,6 +23,18 @@ impl Model for Mark {
     ghost view = { λ m. m.place };
 
     ghost inverse = { λ n. record { place = n } };
+}
+
+/// A name is found by its place.
+impl Coded for Mark {
+    ghost code = { λ n. n };
+
+    fn code(&self) -> Code {
+        Code {
+            number: u64::from(self.place),
+            is_alone: true,
+        }
+    }
 }
 
 /// The graph of one name without arcs.

@@ -44,7 +44,7 @@ pub(super) fn is_connected(options: &Options) -> bool
 }
 
 /// The machines have no composition.
-fn uncomposed(alloc: Global, fault: ComposeFault) -> Refusal
+pub(super) fn uncomposed(alloc: Global, fault: ComposeFault) -> Refusal
     ensures made { IsMade (refused (faulty (unmade (compose_text fault)))) result }
     ensures memory { fault ≡ ComposeFault.Memory → result ≡ Refusal.Memory }
 {

@@ -51,7 +51,7 @@ impl fmt::Display for Unlisted {
 }
 
 /// How many paths are listed at most: one without the option.
-fn count_of(options: &Options) -> u32
+pub(super) fn count_of(options: &Options) -> u32
     requires { HasNumbersInRange options.now }
     ensures value { result ≡ path_count options.now }
     ensures some { 1 ≤ result }
