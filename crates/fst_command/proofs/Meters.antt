@@ -32,6 +32,11 @@ pub work_refused : (b : Bool) (plan : Plan) (held : Held) (refusal other : Refus
 work_refused false plan held refusal other before after raises = raises
 work_refused true plan held refusal other before after raises = tt
 
+-- what is made is not spelled, for want of memory
+pub work_unspelled : (b : Bool) (plan : Plan) (held : Held) (made : Made) (other : Refusal) (before after : Metered) → Raises b before after (Ok made) → MetersWorkBy b plan held before after (Err other)
+work_unspelled false plan held made other before after raises = raises
+work_unspelled true plan held made other before after raises = tt
+
 -- a refusal before the work
 pub work_untouched : (b : Bool) (plan : Plan) (held : Held) (refusal : Refusal) (before : Metered) → MetersWorkBy b plan held before before (Err refusal)
 work_untouched false plan held refusal before = refl
