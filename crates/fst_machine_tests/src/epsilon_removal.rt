@@ -44,15 +44,15 @@ impl StateQueue for WorstFirst {
 }
 
 /// What is left of a machine by a queue, or the fault.
-fn left<W: Weight, Q: StateQueue + 'static>(
+fn left<W: Weight>(
     alloc: Global,
     fst: &Fst<W>,
-    queue: Q,
-) -> Result<Result<Fst<W>, EpsilonFault>, AllocError>
-    requires { Q.members queue ≡ [] }
+    queue: Box<dyn StateQueue>,
+) -> Result<Fst<W>, EpsilonFault>
+    requires { members queue ≡ [] }
 {
-    let mut boxed: Box<dyn StateQueue> = Box::new(alloc, queue)?;
-    Ok(rmepsilon(alloc, fst, &mut boxed))
+    let mut queue = queue;
+    rmepsilon(alloc, fst, &mut queue)
 }
 
 /// Asks that this is the machine of a text.
@@ -77,18 +77,17 @@ fn leaves<W: Weight>(
     wanted: &[u8],
 ) -> Result<(), Fail> {
     let fst: Fst<W> = machine(alloc, text)?;
-    is_left(rt, alloc, &left(alloc, &fst, Fifo::new(alloc))?, wanted)?;
-    is_left(rt, alloc, &left(alloc, &fst, Lifo::new(alloc))?, wanted)?;
-    is_left(
-        rt,
-        alloc,
-        &left(alloc, &fst, BestFirst::new(alloc))?,
-        wanted,
-    )?;
+    let fifo = Box::new(alloc, Fifo::new(alloc))?;
+    is_left(rt, alloc, &left(alloc, &fst, fifo), wanted)?;
+    let lifo = Box::new(alloc, Lifo::new(alloc))?;
+    is_left(rt, alloc, &left(alloc, &fst, lifo), wanted)?;
+    let best = Box::new(alloc, BestFirst::new(alloc))?;
+    is_left(rt, alloc, &left(alloc, &fst, best), wanted)?;
     let worst = WorstFirst {
         inner: BestFirst::new(alloc),
     };
-    is_left(rt, alloc, &left(alloc, &fst, worst)?, wanted)
+    let worst = Box::new(alloc, worst)?;
+    is_left(rt, alloc, &left(alloc, &fst, worst), wanted)
 }
 
 /// Tropical machines, and what is left of them. In the first two ways of epsilon arcs lead to state 1, and their best has
@@ -144,12 +143,13 @@ static REFUSED: [(&[u8], Refused); 4] = [
 /// What is refused of a machine.
 fn stops_at<W: Weight>(alloc: Global, text: &[u8]) -> Result<Refused, Fail> {
     let fst: Fst<W> = machine(alloc, text)?;
-    Ok(match left(alloc, &fst, Fifo::new(alloc))? {
-        Err(EpsilonFault::ImprovingCycle { cycle: _ }) => Refused::Cycle,
+    let fifo = Box::new(alloc, Fifo::new(alloc))?;
+    Ok(match left(alloc, &fst, fifo) {
+        Err(EpsilonFault::ImprovingCycle { cycle: _cycle }) => Refused::Cycle,
         Err(EpsilonFault::TooManyArcs) => Refused::Arcs,
         Err(EpsilonFault::Overflow { state }) => Refused::Number(state),
         Err(EpsilonFault::Memory) => Refused::Memory,
-        Ok(_) => Refused::Nothing,
+        Ok(_made) => Refused::Nothing,
     })
 }
 
@@ -181,13 +181,14 @@ fn keeps<W: Weight>(rt: &impl Abort, alloc: Global, text: &[u8], count: usize) -
     let fst: Fst<W> = machine(alloc, text)?;
     let before = relation(alloc, &fst)?;
     assert_eq!(rt; before.len(), count);
-    match left(alloc, &fst, Fifo::new(alloc))? {
+    let fifo = Box::new(alloc, Fifo::new(alloc))?;
+    match left(alloc, &fst, fifo) {
         Ok(made) => {
             let after = relation(alloc, &made)?;
             weigh_alike(rt, &fst, &made, before.as_slice());
             weigh_alike(rt, &fst, &made, after.as_slice());
         }
-        Err(_) => assert!(rt; false, "no machine"),
+        Err(_other) => assert!(rt; false, "no machine"),
     }
     Ok(())
 }

@@ -25,12 +25,12 @@ fn is_normal<W: Weight>(rt: &impl Abort, alloc: Global, fst: &Fst<W>) -> Result<
 fn compare_pushed<W: Weight>(rt: &impl Abort, alloc: Global, fst: &Fst<W>) -> Result<bool, Fail> {
     match push(alloc, fst, false, &mut Fifo::new(alloc)) {
         Ok(made) => says(rt, alloc, &made, relation(alloc, fst)?.as_slice())?,
-        Err(PushFault::ImprovingCycle { cycle: _ }) => return Ok(false),
-        Err(_) => assert!(rt; false, "no pushed machine"),
+        Err(PushFault::ImprovingCycle { cycle: _cycle }) => return Ok(false),
+        Err(_other) => assert!(rt; false, "no pushed machine"),
     }
     match push(alloc, fst, true, &mut Lifo::new(alloc)) {
         Ok(made) => is_normal(rt, alloc, &made)?,
-        Err(_) => assert!(rt; false, "no pushed machine without its total"),
+        Err(_other) => assert!(rt; false, "no pushed machine without its total"),
     }
     Ok(true)
 }
