@@ -133,7 +133,7 @@ class Operations(unittest.TestCase):
 
     @needs("batch")
     def test_batch(self):
-        first, second = fst.compile("0 1 97 300\n0 1 98 99 -2\n1\n"), fst.compile("0 1 300 300\n0 1 99 99\n1\n")
+        first, second = fst.compile("0 1 97 300\n0 1 98 99 -2\n1\n"), fst.compile("0 1 99 99\n0 1 300 300\n1\n")
         answers = fst.batch(first, second, ["a", b"b", "é", ""], nshortest=2, workers=2)
         self.assertEqual(answers, [(1, None, None, "label 300 is not text"), (2, -2, "c", None), (3, None, None, None), (4, None, None, None)])
 

@@ -1,6 +1,6 @@
 //! Batches of several workers: they expand the same names, whatever their number, and do so beside each other.
 
-ghost use Rattle.std.specs.Prelude.{◌≡◌, length};
+ghost use Rattle.std.specs.Prelude.{◌≡◌, ◌<◌, ◌≤◌, length};
 
 use fst_batch::{Answering, Gate, Job, Lines, OpenGate, make_cascade, run_lines};
 use fst_delayed::{Cache, CountMeter, Delayed};
@@ -22,6 +22,7 @@ impl Answering<Tropical, CountMeter> for Lengths {
     type Answer = u64;
 
     ghost limit = { λ a. a.limit };
+
     ghost answers = { λ a d line n. n ≡ length line };
 
     fn answer(
@@ -110,12 +111,11 @@ fn two_workers_meet(rt: HostRuntime) -> Result<(), Fail> {
 }
 
 /// The number of expansions of the lines of a cascade by so many workers.
-fn expansions<R: Threads + Sync + Abort>(
-    rt: &R,
-    alloc: Global,
-    workers: u32,
-) -> Result<u64, Fail> {
+fn expansions<R: Threads + Sync + Abort>(rt: &R, alloc: Global, workers: u32) -> Result<u64, Fail>
+    requires { (0 < workers) × (workers ≤ 64) }
+{
     let cascade = make_cascade(alloc, 1, 12)?;
+    assert!(rt; cascade.lines.count() == 12);
     let answering = Lengths { limit: 300 };
     let mut meter = CountMeter::new();
     let Ok(delayed) = Delayed::new(&cascade.first, &cascade.second) else {

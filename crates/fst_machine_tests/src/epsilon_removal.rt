@@ -55,6 +55,48 @@ fn left<W: Weight>(
     rmepsilon(alloc, fst, &mut queue)
 }
 
+/// What is left where states leave in the order in which they came.
+fn by_fifo<W: Weight>(
+    alloc: Global,
+    fst: &Fst<W>,
+) -> Result<Result<Fst<W>, EpsilonFault>, AllocError> {
+    let queue = Fifo::new(alloc);
+    let queue = Box::new(alloc, queue)?;
+    Ok(left(alloc, fst, queue))
+}
+
+/// What is left where the last state leaves first.
+fn by_lifo<W: Weight>(
+    alloc: Global,
+    fst: &Fst<W>,
+) -> Result<Result<Fst<W>, EpsilonFault>, AllocError> {
+    let queue = Lifo::new(alloc);
+    let queue = Box::new(alloc, queue)?;
+    Ok(left(alloc, fst, queue))
+}
+
+/// What is left where the best state leaves first.
+fn by_best<W: Weight>(
+    alloc: Global,
+    fst: &Fst<W>,
+) -> Result<Result<Fst<W>, EpsilonFault>, AllocError> {
+    let queue = BestFirst::new(alloc);
+    let queue = Box::new(alloc, queue)?;
+    Ok(left(alloc, fst, queue))
+}
+
+/// What is left where the worst state leaves first.
+fn by_worst<W: Weight>(
+    alloc: Global,
+    fst: &Fst<W>,
+) -> Result<Result<Fst<W>, EpsilonFault>, AllocError> {
+    let queue = WorstFirst {
+        inner: BestFirst::new(alloc),
+    };
+    let queue = Box::new(alloc, queue)?;
+    Ok(left(alloc, fst, queue))
+}
+
 /// Asks that this is the machine of a text.
 fn is_left<W: Weight>(
     rt: &impl Abort,
@@ -77,17 +119,10 @@ fn leaves<W: Weight>(
     wanted: &[u8],
 ) -> Result<(), Fail> {
     let fst: Fst<W> = machine(alloc, text)?;
-    let fifo = Box::new(alloc, Fifo::new(alloc))?;
-    is_left(rt, alloc, &left(alloc, &fst, fifo), wanted)?;
-    let lifo = Box::new(alloc, Lifo::new(alloc))?;
-    is_left(rt, alloc, &left(alloc, &fst, lifo), wanted)?;
-    let best = Box::new(alloc, BestFirst::new(alloc))?;
-    is_left(rt, alloc, &left(alloc, &fst, best), wanted)?;
-    let worst = WorstFirst {
-        inner: BestFirst::new(alloc),
-    };
-    let worst = Box::new(alloc, worst)?;
-    is_left(rt, alloc, &left(alloc, &fst, worst), wanted)
+    is_left(rt, alloc, &by_fifo(alloc, &fst)?, wanted)?;
+    is_left(rt, alloc, &by_lifo(alloc, &fst)?, wanted)?;
+    is_left(rt, alloc, &by_best(alloc, &fst)?, wanted)?;
+    is_left(rt, alloc, &by_worst(alloc, &fst)?, wanted)
 }
 
 /// Tropical machines, and what is left of them. In the first two ways of epsilon arcs lead to state 1, and their best has
@@ -143,8 +178,7 @@ static REFUSED: [(&[u8], Refused); 4] = [
 /// What is refused of a machine.
 fn stops_at<W: Weight>(alloc: Global, text: &[u8]) -> Result<Refused, Fail> {
     let fst: Fst<W> = machine(alloc, text)?;
-    let fifo = Box::new(alloc, Fifo::new(alloc))?;
-    Ok(match left(alloc, &fst, fifo) {
+    Ok(match by_fifo(alloc, &fst)? {
         Err(EpsilonFault::ImprovingCycle { cycle: _cycle }) => Refused::Cycle,
         Err(EpsilonFault::TooManyArcs) => Refused::Arcs,
         Err(EpsilonFault::Overflow { state }) => Refused::Number(state),
@@ -181,8 +215,7 @@ fn keeps<W: Weight>(rt: &impl Abort, alloc: Global, text: &[u8], count: usize) -
     let fst: Fst<W> = machine(alloc, text)?;
     let before = relation(alloc, &fst)?;
     assert_eq!(rt; before.len(), count);
-    let fifo = Box::new(alloc, Fifo::new(alloc))?;
-    match left(alloc, &fst, fifo) {
+    match by_fifo(alloc, &fst)? {
         Ok(made) => {
             let after = relation(alloc, &made)?;
             weigh_alike(rt, &fst, &made, before.as_slice());
