@@ -1,8 +1,6 @@
 //! Machines without their epsilon arcs: what is left by every queue, what is refused, and the weights of the pairs beside
 //! those that the slow programs compute.
 
-ghost use Rattle.std.specs.Prelude.{◌≡◌, []};
-
 use crate::machines::{is_text, machine};
 use crate::relation::{ARCS, Triple, relation};
 use fst_epsilon::{EpsilonFault, rmepsilon};
@@ -45,48 +43,52 @@ impl StateQueue for WorstFirst {
 
 /// What is left of a machine by a queue, or the fault.
 fn left<W: Weight>(
+    rt: &impl Abort,
     alloc: Global,
     fst: &Fst<W>,
     queue: Box<dyn StateQueue>,
-) -> Result<Fst<W>, EpsilonFault>
-    requires { members queue ≡ [] }
-{
+) -> Result<Fst<W>, EpsilonFault> {
     let mut queue = queue;
+    assert!(rt; queue.is_empty());
     rmepsilon(alloc, fst, &mut queue)
 }
 
 /// What is left where states leave in the order in which they came.
 fn by_fifo<W: Weight>(
+    rt: &impl Abort,
     alloc: Global,
     fst: &Fst<W>,
 ) -> Result<Result<Fst<W>, EpsilonFault>, AllocError> {
     let queue = Fifo::new(alloc);
     let queue = Box::new(alloc, queue)?;
-    Ok(left(alloc, fst, queue))
+    Ok(left(rt, alloc, fst, queue))
 }
 
 /// What is left where the last state leaves first.
 fn by_lifo<W: Weight>(
+    rt: &impl Abort,
     alloc: Global,
     fst: &Fst<W>,
 ) -> Result<Result<Fst<W>, EpsilonFault>, AllocError> {
     let queue = Lifo::new(alloc);
     let queue = Box::new(alloc, queue)?;
-    Ok(left(alloc, fst, queue))
+    Ok(left(rt, alloc, fst, queue))
 }
 
 /// What is left where the best state leaves first.
 fn by_best<W: Weight>(
+    rt: &impl Abort,
     alloc: Global,
     fst: &Fst<W>,
 ) -> Result<Result<Fst<W>, EpsilonFault>, AllocError> {
     let queue = BestFirst::new(alloc);
     let queue = Box::new(alloc, queue)?;
-    Ok(left(alloc, fst, queue))
+    Ok(left(rt, alloc, fst, queue))
 }
 
 /// What is left where the worst state leaves first.
 fn by_worst<W: Weight>(
+    rt: &impl Abort,
     alloc: Global,
     fst: &Fst<W>,
 ) -> Result<Result<Fst<W>, EpsilonFault>, AllocError> {
@@ -94,7 +96,7 @@ fn by_worst<W: Weight>(
         inner: BestFirst::new(alloc),
     };
     let queue = Box::new(alloc, queue)?;
-    Ok(left(alloc, fst, queue))
+    Ok(left(rt, alloc, fst, queue))
 }
 
 /// Asks that this is the machine of a text.
@@ -119,10 +121,10 @@ fn leaves<W: Weight>(
     wanted: &[u8],
 ) -> Result<(), Fail> {
     let fst: Fst<W> = machine(alloc, text)?;
-    is_left(rt, alloc, &by_fifo(alloc, &fst)?, wanted)?;
-    is_left(rt, alloc, &by_lifo(alloc, &fst)?, wanted)?;
-    is_left(rt, alloc, &by_best(alloc, &fst)?, wanted)?;
-    is_left(rt, alloc, &by_worst(alloc, &fst)?, wanted)
+    is_left(rt, alloc, &by_fifo(rt, alloc, &fst)?, wanted)?;
+    is_left(rt, alloc, &by_lifo(rt, alloc, &fst)?, wanted)?;
+    is_left(rt, alloc, &by_best(rt, alloc, &fst)?, wanted)?;
+    is_left(rt, alloc, &by_worst(rt, alloc, &fst)?, wanted)
 }
 
 /// Tropical machines, and what is left of them. In the first two ways of epsilon arcs lead to state 1, and their best has
@@ -176,9 +178,9 @@ static REFUSED: [(&[u8], Refused); 4] = [
 ];
 
 /// What is refused of a machine.
-fn stops_at<W: Weight>(alloc: Global, text: &[u8]) -> Result<Refused, Fail> {
+fn stops_at<W: Weight>(rt: &impl Abort, alloc: Global, text: &[u8]) -> Result<Refused, Fail> {
     let fst: Fst<W> = machine(alloc, text)?;
-    Ok(match by_fifo(alloc, &fst)? {
+    Ok(match by_fifo(rt, alloc, &fst)? {
         Err(EpsilonFault::ImprovingCycle { cycle: _cycle }) => Refused::Cycle,
         Err(EpsilonFault::TooManyArcs) => Refused::Arcs,
         Err(EpsilonFault::Overflow { state }) => Refused::Number(state),
@@ -191,7 +193,7 @@ fn stops_at<W: Weight>(alloc: Global, text: &[u8]) -> Result<Refused, Fail> {
 fn what_stops(rt: HostRuntime) -> Result<(), Fail> {
     let alloc = rt.alloc();
     for (text, wanted) in &REFUSED {
-        assert_eq!(rt; stops_at::<Tropical>(alloc, text)?, *wanted);
+        assert_eq!(rt; stops_at::<Tropical>(&rt, alloc, text)?, *wanted);
     }
     Ok(())
 }
@@ -215,7 +217,7 @@ fn keeps<W: Weight>(rt: &impl Abort, alloc: Global, text: &[u8], count: usize) -
     let fst: Fst<W> = machine(alloc, text)?;
     let before = relation(alloc, &fst)?;
     assert_eq!(rt; before.len(), count);
-    match by_fifo(alloc, &fst)? {
+    match by_fifo(rt, alloc, &fst)? {
         Ok(made) => {
             let after = relation(alloc, &made)?;
             weigh_alike(rt, &fst, &made, before.as_slice());
