@@ -1,11 +1,10 @@
-//! The n best paths of small machines: by hand, and beside the list of all paths of the plain program; and the machines
-//! of listed paths.
+//! The n best paths of small machines, beside the list of all paths of the plain program.
 
 ghost use Rattle.std.specs.Prelude.{◌≡◌, ◌<◌, ◌≤◌};
 
-use crate::machines::{is_text, machine};
+use crate::machines::machine;
 use fst_machine::{Fst, Path, Paths, Step, Steps};
-use fst_nbest::{NbestFault, chains, nbest};
+use fst_nbest::{NbestFault, nbest};
 use fst_plain::{PlainPath, successful_paths};
 use fst_semiring::{Boolean, Lexicographic, MinMax, Tropical, Weight};
 use std::alloc::Global;
@@ -13,44 +12,6 @@ use std::marker::Brand;
 use std::process::Abort;
 use std::sync::ledger::{Blank, Ledger};
 use std::test::Fail;
-
-/// Two arcs of weight 2 to a state with a loop that costs nothing.
-const LOOPED: &[u8] = b"0 1 1 1 2\n0 1 2 2 2\n1 1 3 3\n1\n";
-
-/// The same without the loop.
-const PAIR: &[u8] = b"0 1 1 1 2\n0 1 2 2 2\n1\n";
-
-/// A tropical machine, how many paths, and the machine of its first paths.
-static ROWS: [(&[u8], u32, &[u8]); 8] = [
-    (
-        LOOPED,
-        4,
-        b"0 1 1 1 2\n0 2 2 2 2\n0 3 1 1 2\n0 5 2 2 2\n1\n2\n3 4 3 3\n4\n5 6 3 3\n6\n",
-    ),
-    (PAIR, 9, b"0 1 1 1 2\n0 2 2 2 2\n1\n2\n"),
-    // The path without arcs.
-    (b"0 3\n", 1, b"0 3\n"),
-    (b"0 1 1 1\n", 1, b""),
-    (b"", 3, b""),
-    // A cycle that is better than One, but reaches no final state, and one that no path from the start reaches.
-    (
-        b"0 1 1 1 1\n0 2 2 2\n2 2 3 3 -1\n3 3 4 4 -1\n3 1 5 5\n1\n",
-        2,
-        b"0 1 1 1 1\n1\n",
-    ),
-    // Fewer arcs go before lesser places.
-    (
-        b"0 1 1 1 1\n0 2 2 2 2\n1 2 3 3 1\n2\n",
-        2,
-        b"0 1 2 2 2\n0 2 1 1 1\n1\n2 3 3 3 1\n3\n",
-    ),
-    // The path without arcs between others.
-    (
-        b"0 1 1 1 -1\n0 1 2 2 5\n0\n1\n",
-        3,
-        b"0 1 1 1 -1\n0 2 2 2 5\n0\n1\n2\n",
-    ),
-];
 
 /// The first paths of a machine.
 fn firsts<W: Weight, L: Ledger>(
@@ -132,38 +93,6 @@ fn lists_what_the_plain_program_lists(rt: HostRuntime) -> Result<(), Fail> {
     }
     for text in &ORDERED {
         compare::<Lexicographic>(&rt, rt.alloc(), text)?;
-    }
-    Ok(())
-}
-
-/// Asks that the machine of the first paths of a machine is that of a text.
-fn is_chained(
-    rt: &impl Abort,
-    alloc: Global,
-    text: &[u8],
-    n: u32,
-    wanted: &[u8],
-) -> Result<(), Fail>
-    requires some { 1 ≤ n }
-    requires few { n ≤ 100000 }
-{
-    let fst: Fst<Tropical> = machine(alloc, text)?;
-    let Ok(paths) = firsts::<Tropical, Brand>(alloc, &fst, n, Blank::new(1)) else {
-        assert!(rt; false, "{text:?}: no paths");
-        return Ok(());
-    };
-    match chains(alloc, &fst, &paths) {
-        Ok(made) => is_text(rt, alloc, &made, wanted)?,
-        Err(_) => assert!(rt; false, "{text:?}: no machine"),
-    }
-    Ok(())
-}
-
-#[test]
-fn makes_the_machine_of_the_first_paths(rt: HostRuntime) -> Result<(), Fail> {
-    for (text, n, wanted) in &ROWS {
-        assert!(rt; 1 <= *n && *n <= 100_000);
-        is_chained(&rt, rt.alloc(), text, *n, wanted)?;
     }
     Ok(())
 }
