@@ -28,4 +28,5 @@ pub record IsWhole {V : Type 0} (kind : ArcType) (value : V → Cost) (d : Machi
 
 -- It is the answer of a line without a byte 0 whose lattice has these names, whatever limit they do not pass.
 abbrev pub AnswersWhole : {V : Type 0} → ArcType → (V → Cost) → Machine V × Machine V → ℕ → List ℕ → List (Point (Name ℕ ℕ)) → LineAnswer V → Type 0
-AnswersWhole kind value d n line points answer = (limit : ℕ) → HasNoZero line → IsReached (lattice line (delayed_graph kind value d)) limit points → IsAnswer kind (delayed_graph kind value d) n limit line value answer
+AnswersWhole kind value d n line points answer = (limit : ℕ) → HasNoZero line
+    → IsReached (lattice line (delayed_graph kind value d)) limit points → IsAnswer kind (delayed_graph kind value d) n limit line value answer

@@ -26,7 +26,8 @@ pub record Laborer (V M : Type 0) : Type 0 where
   pub pass : Option Pass
   pub served : Bool
 
-module _ {W V M : Type 0} (kind : ArcType) (weight : W → Cost) (value : V → Cost) (count parts_out : M → ℕ) (is_part : M → Bool) (d : Machine W × Machine W) (lines : List (List ℕ)) (cache : Entries V (Name ℕ ℕ)) where
+module _ {W V M : Type 0} (kind : ArcType) (weight : W → Cost) (value : V → Cost) (count parts_out : M → ℕ) (is_part : M → Bool)
+    (d : Machine W × Machine W) (lines : List (List ℕ)) (cache : Entries V (Name ℕ ℕ)) where
   -- Before a phase: a worker has nothing of its own and no pass, its meter has room, and its jobs are jobs of these lines, the
   -- names that they have taken being in the cache.
   pub record IsIdle (w : Laborer V M) : Type 0 where
@@ -134,13 +135,16 @@ module _ {V M : Type 0} (t : Claims) (before after : Pass) (old new : Entries V 
     pub emptied : AreEach IsEmptied vs ws
 
 -- A phase: the pass of the table has won the codes of what was added to the cache, in order.
-module _ {W V M : Type 0} (kind : ArcType) (weight : W → Cost) (value : V → Cost) (count parts_out : M → ℕ) (is_part : M → Bool) (d : Machine W × Machine W) (lines : List (List ℕ)) (t : Claims) (pass : Pass) (old new : Entries V (Name ℕ ℕ)) where
+module _ {W V M : Type 0} (kind : ArcType) (weight : W → Cost) (value : V → Cost) (count parts_out : M → ℕ) (is_part : M → Bool)
+    (d : Machine W × Machine W) (lines : List (List ℕ)) (t : Claims) (pass : Pass) (old new : Entries V (Name ℕ ℕ)) where
   -- The job is the same. It is over, or waits before a name whose key neither the old cache nor its own worker has: that key was
   -- won by another worker in this phase, or the table is full.
   pub record IsLeft (own : Entries V (Name ℕ ℕ)) (j now : LineWalk) : Type 0 where
     pub same : IsSameJob j now
     pub job_of : IsJobOf kind weight value d lines (keys new) now
-    pub left : IsOver now ⊎ ((at : Point (Name ℕ ℕ)) × IsHead now at × (Has (keys old ++ keys own) at.name → ⊥) × (Contains (won pass) (code_of at.name) ⊎ (length (won pass) ≡ t.places)))
+    pub left : IsOver now ⊎
+        ((at : Point (Name ℕ ℕ)) × IsHead now at × (Has (keys old ++ keys own) at.name → ⊥) ×
+        (Contains (won pass) (code_of at.name) ⊎ (length (won pass) ≡ t.places)))
 
   -- what became of a worker that has expanded this
   pub record HasEnded (v w : Laborer V M) (own : Entries V (Name ℕ ℕ)) : Type 0 where
@@ -164,4 +168,5 @@ module _ {W V M : Type 0} (kind : ArcType) (weight : W → Cost) (value : V → 
     pub true_arcs : IsTrueOf value (delayed_graph kind weight d) new
     pub size : length ws ≡ length vs
     pub few : length owns ≡ length ws
-    pub each : (k : ℕ) (w : Laborer V M) → slice_get ws k ≡ Some w → (v : Laborer V M) × (own : Entries V (Name ℕ ℕ)) × (slice_get vs k ≡ Some v) × (slice_get owns k ≡ Some own) × HasEnded v w own
+    pub each : (k : ℕ) (w : Laborer V M) → slice_get ws k ≡ Some w → (v : Laborer V M) × (own : Entries V (Name ℕ ℕ)) ×
+        (slice_get vs k ≡ Some v) × (slice_get owns k ≡ Some own) × HasEnded v w own

@@ -33,7 +33,8 @@ pub record IsAnswerAt {A : Type 0} (IsAnswer : List ℕ → A → Type 0) (lines
   pub there : slice_get lines number ≡ Some line
   pub is : IsAnswer line answer
 
-module _ {W V M : Type 0} (kind : ArcType) (weight : W → Cost) (value : V → Cost) (count : M → ℕ) (is_part : M → Bool) (d : Machine W × Machine W) (lines : List (List ℕ)) (limit : ℕ) (cache : Entries V (Name ℕ ℕ)) where
+module _ {W V M : Type 0} (kind : ArcType) (weight : W → Cost) (value : V → Cost) (count : M → ℕ) (is_part : M → Bool)
+    (d : Machine W × Machine W) (lines : List (List ℕ)) (limit : ℕ) (cache : Entries V (Name ℕ ℕ)) where
   -- A worker between phases: it has nothing of its own and no pass, its meter is a part, and its jobs are jobs of these lines
   -- with this limit, the names that they have taken being in the cache.
   pub record IsHired (w : Laborer V M) : Type 0 where
@@ -73,9 +74,11 @@ abbrev pub AreDone : {V M : Type 0} → List (Laborer V M) → Type 0
 AreDone {V} {M} ws = (k : ℕ) (w : Laborer V M) → slice_get ws k ≡ Some w → IsDone w
 
 -- Workers whose lines can be answered: their walks are over, and the cache has the arcs of all names that they have taken.
-pub record AreAnswerable {W V M : Type 0} (kind : ArcType) (weight : W → Cost) (value : V → Cost) (d : Machine W × Machine W) (lines : List (List ℕ)) (limit : ℕ) (cache : Entries V (Name ℕ ℕ)) (ws : List (Laborer V M)) : Type 0 where
+pub record AreAnswerable {W V M : Type 0} (kind : ArcType) (weight : W → Cost) (value : V → Cost) (d : Machine W × Machine W)
+    (lines : List (List ℕ)) (limit : ℕ) (cache : Entries V (Name ℕ ℕ)) (ws : List (Laborer V M)) : Type 0 where
   pub entries : IsTrueOf value (delayed_graph kind weight d) cache
-  pub jobs : (k : ℕ) (w : Laborer V M) → slice_get ws k ≡ Some w → (i : ℕ) (j : LineWalk) → slice_get w.jobs i ≡ Some j → IsJobOf kind weight value d lines (keys cache) j × (j.limit ≡ limit)
+  pub jobs : (k : ℕ) (w : Laborer V M) → slice_get ws k ≡ Some w → (i : ℕ) (j : LineWalk) → slice_get w.jobs i ≡ Some j
+      → IsJobOf kind weight value d lines (keys cache) j × (j.limit ≡ limit)
   pub done : AreDone ws
 
 -- the answers are those of the lines of this worker's jobs, in order

@@ -8,7 +8,7 @@ use Rattle.fst_codex.specs.Table.{Table}
 use Rattle.fst_words.specs.declared.options.Options.{Options}
 use Rattle.fst_words.specs.declared.plan.Plan.{Plan}
 use Rattle.fst_words.specs.declared.verb.Verb.{Verb}
-use Rattle.fst_words.specs.declared.verb.Verb.TheVariants.{Compile, Print, Info, Invert, Reverse, Connect, Union, Concat, Closure, Project, Replace, Relabel, Arcsort, Compose, Rmepsilon, Shortestdistance, Shortestpath, Push, Encode, Determinize, Minimize, Batch, Make}
+use Rattle.fst_words.specs.declared.verb.Verb.TheVariants as verbs
 use Rattle.fst_words.specs.Forms.{form_of}
 use Rattle.fst_words.specs.Inputs.{stored_by}
 use Rattle.fst_words.specs.PlanLaws.{IsWhole}
@@ -69,32 +69,32 @@ of_coding true weights given made is = decoded_count given.kind (λ m table r. D
 of_coding false weights given made is = encoded_count given.kind (λ m table r. Encodes given.kind weights m r table) made given.machines is
 
 made_count : (verb : Verb) (labels : List ℕ) (o : Options) (given : Given) (made : Made) → (meaning_by verb labels o).makes given made → length (bytes_of made) ≡ stored_by (form_of verb).shape o.decode
-made_count Compile labels o given made is = of_one given.machines (λ m x. x ≡ machine given.kind m) made (λ m h. ap (λ x. length (bytes_of x)) h) is
-made_count Print labels o given made is =
+made_count verbs.Compile labels o given made is = of_one given.machines (λ m x. x ≡ machine given.kind m) made (λ m h. ap (λ x. length (bytes_of x)) h) is
+made_count verbs.Print labels o given made is =
     of_one given.machines (λ m x. (bytes : List ℕ) × (text_of_machine given.kind (choices_by o given.isymbols given.osymbols) m ≡ Ok bytes) × (x ≡ text bytes)) made (λ m h. ap (λ x. length (bytes_of x)) h.2) is
-made_count Info labels o given made is =
+made_count verbs.Info labels o given made is =
     of_one given.machines (λ m x. (summary : Summary) × IsInfo given.kind (λ w. w) m summary × (x ≡ text (info_text summary))) made (λ m h. ap (λ x. length (bytes_of x)) h.2) is
-made_count Invert labels o given made is = one_of given.machines given.kind _ made is
-made_count Reverse labels o given made is = one_of given.machines given.kind _ made is
-made_count Connect labels o given made is = one_of given.machines given.kind _ made is
-made_count Union labels o given made is = two_of given.machines given.kind _ made is
-made_count Concat labels o given made is = two_of given.machines given.kind _ made is
-made_count Closure labels o given made is = one_of given.machines given.kind _ made is
-made_count Project labels o given made is = one_of given.machines given.kind _ made is
-made_count Replace labels o given made is = one_machine given.kind _ made is
-made_count Relabel labels o given made is = one_of given.machines given.kind _ made is
-made_count Arcsort labels o given made is = one_of given.machines given.kind _ made is
-made_count Compose labels o given made is = two_of given.machines given.kind _ made is
-made_count Rmepsilon labels o given made is = one_of given.machines given.kind _ made is
-made_count Shortestdistance labels o given made is =
+made_count verbs.Invert labels o given made is = one_of given.machines given.kind _ made is
+made_count verbs.Reverse labels o given made is = one_of given.machines given.kind _ made is
+made_count verbs.Connect labels o given made is = one_of given.machines given.kind _ made is
+made_count verbs.Union labels o given made is = two_of given.machines given.kind _ made is
+made_count verbs.Concat labels o given made is = two_of given.machines given.kind _ made is
+made_count verbs.Closure labels o given made is = one_of given.machines given.kind _ made is
+made_count verbs.Project labels o given made is = one_of given.machines given.kind _ made is
+made_count verbs.Replace labels o given made is = one_machine given.kind _ made is
+made_count verbs.Relabel labels o given made is = one_of given.machines given.kind _ made is
+made_count verbs.Arcsort labels o given made is = one_of given.machines given.kind _ made is
+made_count verbs.Compose labels o given made is = two_of given.machines given.kind _ made is
+made_count verbs.Rmepsilon labels o given made is = one_of given.machines given.kind _ made is
+made_count verbs.Shortestdistance labels o given made is =
     of_one given.machines (λ m x. (ds : List Cost) × AreDistances (direction_of o) given.kind m ds × (x ≡ text (distance_lines given.kind 0 ds))) made (λ m h. ap (λ x. length (bytes_of x)) h.2) is
-made_count Shortestpath labels o given made is = one_of given.machines given.kind _ made is
-made_count Push labels o given made is = one_of given.machines given.kind _ made is
-made_count Encode labels o given made is = of_coding o.decode o.encode_weights given made is
-made_count Determinize labels o given made is = one_of given.machines given.kind _ made is
-made_count Minimize labels o given made is = one_of given.machines given.kind _ made is
-made_count Batch labels o given made is = batch_count given.machines given.kind o (lines_of given.lines) made is
-made_count Make labels o given made is = absurd is
+made_count verbs.Shortestpath labels o given made is = one_of given.machines given.kind _ made is
+made_count verbs.Push labels o given made is = one_of given.machines given.kind _ made is
+made_count verbs.Encode labels o given made is = of_coding o.decode o.encode_weights given made is
+made_count verbs.Determinize labels o given made is = one_of given.machines given.kind _ made is
+made_count verbs.Minimize labels o given made is = one_of given.machines given.kind _ made is
+made_count verbs.Batch labels o given made is = batch_count given.machines given.kind o (lines_of given.lines) made is
+made_count verbs.Make labels o given made is = absurd is
 
 -- the bytes of a command are as many as its outputs
 pub stored_fits : (plan : Plan) (held : Held) (bytes : List (List ℕ)) → IsWhole plan → IsWorked plan held bytes → length (outputs_of plan) ≡ length bytes

@@ -9,7 +9,7 @@ use Rattle.fst_compose.proofs.OneAnswer.{one_refusal}
 use Rattle.fst_words.specs.declared.options.Options.{Options}
 use Rattle.fst_words.specs.declared.plan.Plan.{Plan}
 use Rattle.fst_words.specs.declared.verb.Verb.{Verb}
-use Rattle.fst_words.specs.declared.verb.Verb.TheVariants.{Compile, Print, Info, Invert, Reverse, Connect, Union, Concat, Closure, Project, Replace, Relabel, Arcsort, Compose, Rmepsilon, Shortestdistance, Shortestpath, Push, Encode, Determinize, Minimize, Batch, Make}
+use Rattle.fst_words.specs.declared.verb.Verb.TheVariants as verbs
 use Rattle.fst_words.specs.Inputs.{Input, plan_inputs}
 use Rattle.fst_words.specs.Plans.{outputs_of, rule_labels}
 use Rattle.fst_command.specs.Causes.{Cause, Fault, faulty, unmade}
@@ -46,56 +46,56 @@ one_value read x y one two = let same = sym one ∙ two in cc
 -- ---- the table
 
 pub one_meaning : (verb : Verb) (labels : List ℕ) (o : Options) (given : Given) → HasOneOutcome (meaning_by verb labels o) given
-one_meaning Compile labels o given = record { stopped = one_never; made = one_for_one _ (λ m x y one two. one ∙ sym two) given.machines }
-one_meaning Print labels o given = record {
+one_meaning verbs.Compile labels o given = record { stopped = one_never; made = one_for_one _ (λ m x y one two. one ∙ sym two) given.machines }
+one_meaning verbs.Print labels o given = record {
   stopped = one_for_one _ (λ m. one_told _ _ (one_error (text_of_machine given.kind (choices_by o given.isymbols given.osymbols) m))) given.machines;
   made = one_for_one _ (λ m. one_told _ _ (one_value (text_of_machine given.kind (choices_by o given.isymbols given.osymbols) m))) given.machines;
 }
-one_meaning Info labels o given = record { stopped = one_never; made = one_for_one _ (λ m. one_told _ _ (one_described given.kind (λ w. w) m)) given.machines }
-one_meaning Invert labels o given = record { stopped = one_never; made = one_for_one _ (λ m. one_made given.kind _ (one_equal _ _)) given.machines }
-one_meaning Reverse labels o given = record { stopped = one_for_one _ (λ m. one_too_large (reverse_of given.kind m)) given.machines; made = one_for_one _ (λ m. one_made given.kind _ (one_equal _ _)) given.machines }
-one_meaning Connect labels o given = record { stopped = one_never; made = one_for_one _ (λ m. one_made given.kind _ (λ r q one two. one_connected m r q one.0 two.0)) given.machines }
-one_meaning Union labels o given = record { stopped = one_for_two _ (λ a b. one_too_large (union_of given.kind a b)) given.machines; made = one_for_two _ (λ a b. one_made given.kind _ (one_equal _ _)) given.machines }
-one_meaning Concat labels o given = record { stopped = one_for_two _ (λ a b. one_too_large (concat_of a b)) given.machines; made = one_for_two _ (λ a b. one_made given.kind _ (one_equal _ _)) given.machines }
-one_meaning Closure labels o given = record { stopped = one_for_one _ (λ m. one_too_large (closure_of given.kind o.closure_plus m)) given.machines; made = one_for_one _ (λ m. one_made given.kind _ (one_equal _ _)) given.machines }
-one_meaning Project labels o given = record { stopped = one_never; made = one_for_one _ (λ m. one_made given.kind _ (one_equal _ _)) given.machines }
-one_meaning Replace labels o given = record { stopped = one_told _ _ (one_cause _); made = one_made given.kind _ (one_equal _ _) }
-one_meaning Relabel labels o given = record { stopped = one_never; made = one_for_one _ (λ m. one_made given.kind _ (one_equal _ _)) given.machines }
-one_meaning Arcsort labels o given = record { stopped = one_never; made = one_for_one _ (λ m. one_made given.kind _ (λ r q one two. one_sorted (side_of o.sort_type) m r q one.0 two.0)) given.machines }
-one_meaning Compose labels o given = record {
+one_meaning verbs.Info labels o given = record { stopped = one_never; made = one_for_one _ (λ m. one_told _ _ (one_described given.kind (λ w. w) m)) given.machines }
+one_meaning verbs.Invert labels o given = record { stopped = one_never; made = one_for_one _ (λ m. one_made given.kind _ (one_equal _ _)) given.machines }
+one_meaning verbs.Reverse labels o given = record { stopped = one_for_one _ (λ m. one_too_large (reverse_of given.kind m)) given.machines; made = one_for_one _ (λ m. one_made given.kind _ (one_equal _ _)) given.machines }
+one_meaning verbs.Connect labels o given = record { stopped = one_never; made = one_for_one _ (λ m. one_made given.kind _ (λ r q one two. one_connected m r q one.0 two.0)) given.machines }
+one_meaning verbs.Union labels o given = record { stopped = one_for_two _ (λ a b. one_too_large (union_of given.kind a b)) given.machines; made = one_for_two _ (λ a b. one_made given.kind _ (one_equal _ _)) given.machines }
+one_meaning verbs.Concat labels o given = record { stopped = one_for_two _ (λ a b. one_too_large (concat_of a b)) given.machines; made = one_for_two _ (λ a b. one_made given.kind _ (one_equal _ _)) given.machines }
+one_meaning verbs.Closure labels o given = record { stopped = one_for_one _ (λ m. one_too_large (closure_of given.kind o.closure_plus m)) given.machines; made = one_for_one _ (λ m. one_made given.kind _ (one_equal _ _)) given.machines }
+one_meaning verbs.Project labels o given = record { stopped = one_never; made = one_for_one _ (λ m. one_made given.kind _ (one_equal _ _)) given.machines }
+one_meaning verbs.Replace labels o given = record { stopped = one_told _ _ (one_cause _); made = one_made given.kind _ (one_equal _ _) }
+one_meaning verbs.Relabel labels o given = record { stopped = one_never; made = one_for_one _ (λ m. one_made given.kind _ (one_equal _ _)) given.machines }
+one_meaning verbs.Arcsort labels o given = record { stopped = one_never; made = one_for_one _ (λ m. one_made given.kind _ (λ r q one two. one_sorted (side_of o.sort_type) m r q one.0 two.0)) given.machines }
+one_meaning verbs.Compose labels o given = record {
   stopped = one_for_two _ (λ a b. one_told _ _ (one_refusal given.kind a b (state_limit o))) given.machines;
   made = one_for_two _ (λ a b. one_made given.kind _ (one_composed o given.kind a b)) given.machines;
 }
-one_meaning Encode labels o given = record { stopped = one_coding_stops o.decode given; made = one_coding_makes o.decode o.encode_weights given }
-one_meaning Rmepsilon labels o given = record {
+one_meaning verbs.Encode labels o given = record { stopped = one_coding_stops o.decode given; made = one_coding_makes o.decode o.encode_weights given }
+one_meaning verbs.Rmepsilon labels o given = record {
   stopped = one_for_one _ (λ m. one_unremoved given.kind m) given.machines;
   made = one_for_one _ (λ m. one_made given.kind _ (one_removed_machine o given.kind m)) given.machines;
 }
-one_meaning Shortestdistance labels o given = record {
+one_meaning verbs.Shortestdistance labels o given = record {
   stopped = one_for_one _ (λ m. one_told _ _ (one_unmeasured given.kind m (direction_of o))) given.machines;
   made = one_for_one _ (λ m. one_told _ _ (one_distances given.kind m (direction_of o))) given.machines;
 }
-one_meaning Shortestpath labels o given = record {
+one_meaning verbs.Shortestpath labels o given = record {
   stopped = one_for_one _ (λ m. one_told _ _ (one_unlisted given.kind (path_count o) m)) given.machines;
   made = one_for_one _ (λ m. one_made given.kind _ (one_listed given.kind (path_count o) m)) given.machines;
 }
-one_meaning Push labels o given = record {
+one_meaning verbs.Push labels o given = record {
   stopped = one_for_one _ (λ m. one_unpushed given.kind o.remove_total_weight m) given.machines;
   made = one_for_one _ (λ m. one_made given.kind _ (one_pushing given.kind o.remove_total_weight m)) given.machines;
 }
-one_meaning Determinize labels o given = record {
+one_meaning verbs.Determinize labels o given = record {
   stopped = one_for_one _ (λ m. one_told _ _ (one_undetermined given.kind (state_limit o) m)) given.machines;
   made = one_for_one _ (λ m. one_made given.kind _ (one_determinized given.kind (state_limit o) m)) given.machines;
 }
-one_meaning Minimize labels o given = record {
+one_meaning verbs.Minimize labels o given = record {
   stopped = one_for_one _ (λ m. one_line _ _ (λ f h one two. ap unmade (one_unminimized given.kind m f h one two))) given.machines;
   made = one_for_one _ (λ m. one_made given.kind _ (one_minimizing given.kind m)) given.machines;
 }
-one_meaning Batch labels o given = record {
+one_meaning verbs.Batch labels o given = record {
   stopped = one_for_two _ (λ a b x y one two. one.1 ∙ sym two.1) given.machines;
   made = one_for_two _ (λ a b. one_batch given.kind a b o (lines_of given.lines)) given.machines;
 }
-one_meaning Make labels o given = record { stopped = one_never; made = λ x y one two. absurd one }
+one_meaning verbs.Make labels o given = record { stopped = one_never; made = λ x y one two. absurd one }
 
 -- ---- a run
 

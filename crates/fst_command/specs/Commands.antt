@@ -3,7 +3,7 @@ use Rattle.std.specs.Prelude.{ℕ, List}
 use Rattle.fst_words.specs.declared.options.Options.{Options}
 use Rattle.fst_words.specs.declared.plan.Plan.{Plan}
 use Rattle.fst_words.specs.declared.verb.Verb.{Verb}
-use Rattle.fst_words.specs.declared.verb.Verb.TheVariants.{Compile, Print, Info, Invert, Reverse, Connect, Union, Concat, Closure, Project, Replace, Relabel, Arcsort, Compose, Rmepsilon, Shortestdistance, Shortestpath, Push, Encode, Determinize, Minimize, Batch, Make}
+use Rattle.fst_words.specs.declared.verb.Verb.TheVariants as verbs
 use Rattle.fst_words.specs.Plans.{rule_labels}
 use Rattle.fst_command.specs.Meaning.{Meaning, never}
 use Rattle.fst_command.specs.Batching.{batch_meaning}
@@ -27,29 +27,29 @@ unbuilt = record { stops = λ given. never; makes = λ given made. ⊥ }
 
 -- by the command, the labels of rules and the options
 abbrev pub meaning_by : Verb → List ℕ → Options → Meaning
-meaning_by Compile labels o = compile_meaning
-meaning_by Print labels o = print_meaning o
-meaning_by Info labels o = info_meaning
-meaning_by Invert labels o = invert_meaning
-meaning_by Reverse labels o = reverse_meaning
-meaning_by Connect labels o = connect_meaning
-meaning_by Union labels o = union_meaning
-meaning_by Concat labels o = concat_meaning
-meaning_by Closure labels o = closure_meaning o
-meaning_by Project labels o = project_meaning o
-meaning_by Replace labels o = replace_meaning labels
-meaning_by Relabel labels o = relabel_meaning
-meaning_by Arcsort labels o = arcsort_meaning o
-meaning_by Compose labels o = compose_meaning o
-meaning_by Rmepsilon labels o = rmepsilon_meaning o
-meaning_by Shortestdistance labels o = measure_meaning o
-meaning_by Shortestpath labels o = listing_meaning o
-meaning_by Push labels o = push_meaning o
-meaning_by Encode labels o = encode_meaning o
-meaning_by Determinize labels o = determinize_meaning o
-meaning_by Minimize labels o = minimize_meaning
-meaning_by Batch labels o = batch_meaning o
-meaning_by Make labels o = unbuilt
+meaning_by verbs.Compile labels o = compile_meaning
+meaning_by verbs.Print labels o = print_meaning o
+meaning_by verbs.Info labels o = info_meaning
+meaning_by verbs.Invert labels o = invert_meaning
+meaning_by verbs.Reverse labels o = reverse_meaning
+meaning_by verbs.Connect labels o = connect_meaning
+meaning_by verbs.Union labels o = union_meaning
+meaning_by verbs.Concat labels o = concat_meaning
+meaning_by verbs.Closure labels o = closure_meaning o
+meaning_by verbs.Project labels o = project_meaning o
+meaning_by verbs.Replace labels o = replace_meaning labels
+meaning_by verbs.Relabel labels o = relabel_meaning
+meaning_by verbs.Arcsort labels o = arcsort_meaning o
+meaning_by verbs.Compose labels o = compose_meaning o
+meaning_by verbs.Rmepsilon labels o = rmepsilon_meaning o
+meaning_by verbs.Shortestdistance labels o = measure_meaning o
+meaning_by verbs.Shortestpath labels o = listing_meaning o
+meaning_by verbs.Push labels o = push_meaning o
+meaning_by verbs.Encode labels o = encode_meaning o
+meaning_by verbs.Determinize labels o = determinize_meaning o
+meaning_by verbs.Minimize labels o = minimize_meaning
+meaning_by verbs.Batch labels o = batch_meaning o
+meaning_by verbs.Make labels o = unbuilt
 
 -- what a plan means
 abbrev pub meaning_for : Plan → Meaning

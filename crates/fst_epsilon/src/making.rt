@@ -8,7 +8,7 @@ ghost use Rattle.fst_machine.specs.Machine.{State, arc_total, most_arcs, valued_
 ghost use Rattle.fst_machine.specs.Narrowing.{IsInRange};
 ghost use Rattle.fst_epsilon.specs.Making.{IsMade};
 
-use fst_machine::{FstArc, MOST_ARCS, StateList, WideArc};
+use fst_machine::{FstArc, MOST_ARCS, StateList, WideArc, narrow_state};
 use fst_semiring::Weight;
 use std::alloc::{AllocError, Global};
 
@@ -37,55 +37,6 @@ impl<W: Weight> Output<W> {
             row: Vec::new(alloc),
         })
     }
-}
-
-/// The same arc; `None` exactly where a number of its weight is out of range.
-fn narrow_arc<W: Weight>(arc: WideArc<W>) -> Option<FstArc<W>>
-    ensures { MatchOption result (InRange (W.wide_value arc.weight) → ⊥) (λ own. (valued_arc W.value own ≡ valued_arc W.wide_value arc) × InRange (W.wide_value arc.weight)) }
-{
-    let weight = W::narrow(arc.weight)?;
-    Some(FstArc {
-        ilabel: arc.ilabel,
-        olabel: arc.olabel,
-        weight,
-        next: arc.next,
-    })
-}
-
-/// Makes `row` the same arcs, and tells whether all are in range; where one is not, `row` is part of them.
-fn narrow_arcs<W: Weight>(arcs: &[WideArc<W>], row: &mut Vec<FstArc<W>>) -> Result<bool, AllocError>
-    ensures fits { IfOk result (λ fits. Decides fits (All (λ a. InRange a.weight) (map (valued_arc W.wide_value) arcs.now))) }
-    ensures row { IfOk result (λ fits. fits ≡ true → map (valued_arc W.value) row.new.items ≡ map (valued_arc W.wide_value) arcs.now) }
-{
-    row.clear();
-    for arc in arcs {
-        match narrow_arc::<W>(*arc) {
-            Some(own) => row.push(own)?,
-            None => return Ok(false),
-        }
-    }
-    Ok(true)
-}
-
-/// Puts the same state behind the others, and tells whether it is in range; where it is not, it is not put.
-fn narrow_state<W: Weight>(
-    list: &mut StateList<W>,
-    row: &mut Vec<FstArc<W>>,
-    last: W::Wide,
-    arcs: &[WideArc<W>],
-) -> Result<bool, AllocError>
-    requires { arc_total list.old + length arcs.now ≤ most_arcs }
-    ensures fits { IfOk result (λ fits. Decides fits (IsInRange (valued_state W.wide_value (record { final = last; arcs = arcs.now })))) }
-    ensures list { IfOk result (λ fits. fits ≡ true → map (valued_state W.value) list.new ≡ map (valued_state W.value) list.old ++ valued_state W.wide_value (record { final = last; arcs = arcs.now }) ∷ []) }
-{
-    let Some(own) = W::narrow(last) else {
-        return Ok(false);
-    };
-    if !narrow_arcs::<W>(arcs, row)? {
-        return Ok(false);
-    }
-    list.push(own, row.as_slice())?;
-    Ok(true)
 }
 
 /// Puts a state after the others, if its weights and those before it are in range and the arcs are not too many.

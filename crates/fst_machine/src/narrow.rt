@@ -64,8 +64,11 @@ fn narrow_arcs<W: Weight>(arcs: &[WideArc<W>], row: &mut Vec<FstArc<W>>) -> Resu
     Ok(true)
 }
 
-/// Puts the same state behind the others, and tells whether it is in range; where it is not, it is not put.
-fn narrow_state<W: Weight>(
+/// Puts a state with this final weight and these arcs behind the others, and tells whether its weights are in range;
+/// where they are not, it is not put. The row is a buffer.
+///
+/// Time: O(a), where a is the number of arcs.
+pub fn narrow_state<W: Weight>(
     list: &mut StateList<W>,
     row: &mut Vec<FstArc<W>>,
     last: W::Wide,

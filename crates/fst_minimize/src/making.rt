@@ -18,8 +18,8 @@ ghost use Rattle.fst_minimize.specs.Ready.{IsReady};
 use crate::describing::describe;
 use crate::numberer::Numbering;
 use crate::rounds::refine;
-use fst_machine::{Fst, FstArc, NarrowFault, StateList, WideArc};
-use fst_pushing::{Pushing, narrow_state};
+use fst_machine::{Fst, FstArc, NarrowFault, StateList, WideArc, narrow_state};
+use fst_pushing::Pushing;
 use fst_semiring::Weight;
 use std::alloc::{AllocError, Global};
 

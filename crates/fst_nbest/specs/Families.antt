@@ -79,4 +79,5 @@ module _ {N : Type 0} (kind : ArcType) (g : Words N) where
       pub weighs : times kind core.front ahead.total ≡ total
       pub counts : length core.prefix + ahead.arcs ≡ long
       pub beats : (rest : List ℕ) (u : Cost) → Says kind g core.at rest u → first_move rest ≡ move → times kind core.front u ≡ total
-          → length core.prefix + length rest ≡ long → (f : Family N) (b : WeightedWord) → Has families f → Holds f b → word_cmp (record { word = core.prefix ++ rest; weight = total }) b ≡ Less
+          → length core.prefix + length rest ≡ long → (f : Family N) (b : WeightedWord) → Has families f → Holds f b
+          → word_cmp (record { word = core.prefix ++ rest; weight = total }) b ≡ Less

@@ -1,7 +1,8 @@
 -- The total weight put on the start of a pushed machine. (OpenFst manual, "Push": unless the total weight is removed, it
 -- stays. Mohri 2009, section 3.4, multiplies it onto a start that no arc enters; an entered start is copied, so that the
 -- total counts once.)
-use Rattle.std.specs.Prelude.{◌≡◌, ◌≢◌, ◌⊎◌, ◌↔◌, ℕ, ◌<◌, ◌≤◌, Bool, true, false, List, [], ◌∷◌, ◌++◌, Option, None, Some, length, map, get_or, slice_get, All, codes}
+use Rattle.std.specs.Prelude.{◌≡◌, ◌≢◌, ◌⊎◌, ◌↔◌, ℕ, ◌<◌, ◌≤◌, Bool, true, false, List, [], ◌∷◌, ◌++◌, Option, None, Some, length, map, get_or}
+use Rattle.std.specs.Prelude.{slice_get, All, codes}
 use Rattle.std.specs.Fmt.{decimal}
 use Rattle.std.specs.List.{concat}
 use Rattle.fst_semiring.specs.Cost.{Cost}

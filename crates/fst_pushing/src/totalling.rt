@@ -11,10 +11,9 @@ ghost use Rattle.fst_machine.specs.Narrowing.{IsCause, IsInRange};
 ghost use Rattle.fst_pushing.specs.Totals.{IsAmong, IsPlaced, IsSource, put_on, scaled, scaled_arc};
 ghost use Rattle.fst_pushing.specs.Values.{most_distance, most_pushed};
 
-use crate::narrowing::narrow_state;
 use crate::placing::{Place, arc_count, state_count};
 use crate::pushing::Pushing;
-use fst_machine::{Fst, FstArc, NarrowFault, StateList, WideArc};
+use fst_machine::{Fst, FstArc, NarrowFault, StateList, WideArc, narrow_state};
 use fst_semiring::Weight;
 use std::alloc::{AllocError, Global};
 

@@ -2,7 +2,7 @@
 //!
 //! Operations whose states have names of their own (pairs of states, subsets of states, places in a line) say by
 //! `Names` what the start is and which arcs and final weight a name has, and `walk` makes their machine. It finds each
-//! name once by its hash, counts the arcs, and tells exactly why there is no machine.
+//! name once by its number, counts the arcs, and tells exactly why there is no machine.
 //!
 //! The definitions stand in `specs`, over graphs of plain values with any kind of name; `laws` asks for the laws that
 //! operations share.
