@@ -1,27 +1,23 @@
 -- A walk back from the final states.
-use Rattle.std.proofs.Common.{◌≡◌, ◌⊎◌, ◌↔◌, inl, inr, ℕ, ◌+◌, ◌<◌, ◌≤◌, Bool, true, false, ◌&&◌, List, [], ◌∷◌, ◌++◌, Some, length, get_or, slice_get, refl, sym, ap, ◌∙◌, subst, arith}
+use Rattle.std.proofs.Common.{◌≡◌, ◌⊎◌, ◌↔◌, inl, inr, ℕ, ◌+◌, ◌<◌, ◌≤◌, Bool, true, false, ◌&&◌, List, [], ◌∷◌, ◌++◌, Some, length, get_or, slice_get, map, refl, sym, ap, ◌∙◌, subst, arith}
 use Rattle.std.specs.Bool.{Decides}
 use Rattle.std.proofs.lemmas.Bool.{cases_lt, cases_eq}
+use Rattle.std.specs.Option.{option_map}
+use Rattle.std.proofs.lemmas.List.{append-nil, length-append}
 use Rattle.std.proofs.lemmas.Option.{slice_get_within}
 use Rattle.fst_semiring.specs.Cost.{Cost, infinite}
-use Rattle.fst_machine.specs.Machine.{Arc}
-use Rattle.fst_machine.specs.Graph.{Graph}
+use Rattle.fst_machine.specs.Machine.{Arc, Machine, valued, valued_arc}
+use Rattle.fst_machine.specs.Graph.{Graph, graph_of}
 use Rattle.fst_machine.specs.Paths.{Transition, IsPath}
 use Rattle.fst_machine.specs.Cycles.{IsAccessible, IsCoaccessible, IsUseful}
-use Rattle.fst_machine.specs.BreadthFirst.{Apart, Has, Grows, IsWalked}
+use Rattle.fst_machine.specs.BreadthFirst.{Has, Grows, IsWalked}
 use Rattle.fst_machine.specs.Marks.{Marks}
 use Rattle.fst_machine.proofs.Elements.{at_Has, Has_at, Apart_below}
-use Rattle.fst_machine.proofs.Arcs.{at_append_front}
+use Rattle.fst_machine.proofs.Arcs.{at_append_front, at_mapped, mapped_at}
 use Rattle.fst_machine.proofs.Walks.{Grows-front, Grows-Apart, Grows-has, Grows-kept, Grows-only, walked_reached, walked_from_start}
-use Rattle.fst_machine.proofs.Walking.{found_within}
+use Rattle.fst_machine.proofs.Walking.{found_within, graph_arcs}
+use Rattle.fst_trim.specs.Back.{IsClosedBack, IsWalkingBack, LeadsTo}
 use Rattle.fst_trim.specs.Finals.{FoundFinals}
-
--- A walk that has found these names, and followed the arcs to so many of them back.
-pub record IsWalkingBack (g : Graph ℕ) (names : List ℕ) (taken : ℕ) : Type 0 where
-  pub apart : Apart names
-  pub reach : (p : ℕ) → Has names p → IsCoaccessible g p
-  pub finals : (p : ℕ) → (g.final p ≡ infinite → ⊥) → Has names p
-  pub closed : (i q : ℕ) → i < taken → slice_get names i ≡ Some q → (p k : ℕ) (a : Arc Cost ℕ) → slice_get (g.arcs p) k ≡ Some a → a.next ≡ q → Has names p
 
 -- it begins with the final states
 pub back_begins : (g : Graph ℕ) (n : ℕ) (names : List ℕ) → FoundFinals g n names → ((p : ℕ) → (g.final p ≡ infinite → ⊥) → p < n) → IsWalkingBack g names 0
@@ -123,3 +119,81 @@ finals_add g k names new f here grows = record { apart = Grows-Apart (k ∷ []) 
     from p (inl old) = f.only p old
     from p (inr (inl same)) = subst (λ (r : ℕ). g.final r ≡ infinite → ⊥) same here
     from p (inr (inr none)) = absurd none
+
+-- a sweep adds a state with an arc to one that was found
+pub sweep_adds : (g : Graph ℕ) (names new : List ℕ) (p k : ℕ) (a : Arc Cost ℕ) → IsWalkingBack g names 0 → slice_get (g.arcs p) k ≡ Some a → Has names a.next → Grows names (p ∷ []) new → IsWalkingBack g new 0
+sweep_adds g names new p k a w there has grows = record {
+  apart = Grows-Apart (p ∷ []) names new w.apart grows;
+  reach = λ q is. reach_of q (Grows-only (p ∷ []) names new q grows is);
+  finals = λ q final. Grows-kept (p ∷ []) names new q grows (w.finals q final);
+  closed = λ i q before. absurd (omega arith);
+}
+  where
+    here : IsCoaccessible g p
+    here = let c = w.reach a.next has in record { last = c.last; path = record { state = p; place = k; arc = a } ∷ c.path; leads = ((refl, there), c.leads); final = c.final }
+
+    reach_of : (q : ℕ) → Has names q ⊎ Has (p ∷ []) q → IsCoaccessible g q
+    reach_of q (inl old) = w.reach q old
+    reach_of q (inr (inl same)) = subst (IsCoaccessible g) same here
+    reach_of q (inr (inr none)) = absurd none
+
+-- where nothing was added, the list is the same
+pub nothing_added : (names new : List ℕ) (p : ℕ) → Grows names (p ∷ []) new → length new ≤ length names → new ≡ names
+nothing_added names new p grows few = by_more (Grows-front (p ∷ []) names new grows)
+  where
+    by_more : ((more : List ℕ) × (new ≡ names ++ more)) → new ≡ names
+    by_more ([], same) = same ∙ append-nil names
+    by_more (q ∷ more, same) = let size : length new ≡ length names + length (q ∷ more) = ap length same ∙ length-append names (q ∷ more) in absurd (omega arith)
+
+pub grows_length : (names new : List ℕ) (p : ℕ) → Grows names (p ∷ []) new → length names ≤ length new
+grows_length names new p grows =
+    let front = Grows-front (p ∷ []) names new grows in
+    let size : length new ≡ length names + length front.0 = ap length front.1 ∙ length-append names front.0 in
+    omega arith
+
+-- what was found, where it is closed, marks just the states from which a path leads to a final one
+pub closed_marks : (g : Graph ℕ) (names : List ℕ) (seen : List Bool) → IsWalkingBack g names 0 → IsClosedBack g names → Marks seen names → (p : ℕ) → Decides (get_or seen p false) (IsCoaccessible g p)
+closed_marks g names seen w closed marks p =
+    back_marks g names (length names) seen
+    (record { apart = w.apart; reach = w.reach; finals = w.finals; closed = λ i q before at p k a has next. closed p k a has (subst (Has names) (sym next) (at_Has names i q at)) })
+    (omega arith) marks p
+
+module _ {V : Type 0} (value : V → Cost) (m : Machine V) (names : List ℕ) (seen : List Bool) (marks : Marks seen names) (p : ℕ) (arcs : List (Arc V ℕ)) (own : option_map (λ s. s.arcs) (slice_get m.states p) ≡ Some arcs) where
+  same_arcs : (graph_of (valued value m)).arcs p ≡ map (valued_arc value) arcs
+  same_arcs = graph_arcs value m p arcs own
+
+  -- an arc to a marked state, as the graph has it
+  pub leads_back : LeadsTo seen arcs → (k : ℕ) × (a : Arc Cost ℕ) × (slice_get ((graph_of (valued value m)).arcs p) k ≡ Some a) × Has names a.next
+  leads_back l = (l.place, valued_arc value l.arc, ap (λ (own_arcs : List (Arc Cost ℕ)). slice_get own_arcs l.place) same_arcs ∙ at_mapped (valued_arc value) arcs l.place l.arc l.there, (marks l.arc.next).0 l.marked)
+
+  -- where there is none, none is in the graph
+  pub leads_nowhere : (LeadsTo seen arcs → ⊥) → (k : ℕ) (a : Arc Cost ℕ) → slice_get ((graph_of (valued value m)).arcs p) k ≡ Some a → Has names a.next → ⊥
+  leads_nowhere none k a there has =
+      let from = mapped_at (valued_arc value) arcs k a (ap (λ (own_arcs : List (Arc Cost ℕ)). slice_get own_arcs k) (sym same_arcs) ∙ there) in
+      let next : a.next ≡ from.0.next = ap (λ (b : Arc Cost ℕ). b.next) (sym from.2) in
+      none (record { place = k; arc = from.0; there = from.1; marked = (marks from.0.next).1 (subst (Has names) next has) })
+
+-- the states from a number on of which an arc leads to one that was found were found
+abbrev pub IsClosedAbove : Graph ℕ → ℕ → List ℕ → Type 0
+IsClosedAbove g left names = (p k : ℕ) (a : Arc Cost ℕ) → left ≤ p → slice_get (g.arcs p) k ≡ Some a → Has names a.next → Has names p
+
+-- one state more, which was added
+pub sweep_added : (g : Graph ℕ) (names new : List ℕ) (left at size : ℕ) → left ≡ at + 1 → (length names ≤ size → IsClosedAbove g left names) → size ≤ length names → Grows names (at ∷ []) new → length new ≤ size → IsClosedAbove g at new
+sweep_added g names new left at size next closed grown grows few p k a low there has = by_place (cases_eq p at)
+  where
+    same : new ≡ names
+    same = nothing_added names new at grows (omega arith)
+
+    by_place : (p ≡ at) ⊎ (p ≡ at → ⊥) → Has new p
+    by_place (inl here) = Grows-has (at ∷ []) names new p grows (inl (sym here))
+    by_place (inr other) =
+        let size_same = ap length same in
+        subst (λ (ns : List ℕ). Has ns p) (sym same) (closed (omega arith) p k a (omega arith) there (subst (λ (ns : List ℕ). Has ns a.next) same has))
+
+-- one state more, from which no arc leads to one that was found
+pub sweep_passed : (g : Graph ℕ) (names : List ℕ) (left at : ℕ) → left ≡ at + 1 → IsClosedAbove g left names → ((k : ℕ) (a : Arc Cost ℕ) → slice_get (g.arcs at) k ≡ Some a → Has names a.next → ⊥) → IsClosedAbove g at names
+sweep_passed g names left at next closed none p k a low there has = by_place (cases_eq p at)
+  where
+    by_place : (p ≡ at) ⊎ (p ≡ at → ⊥) → Has names p
+    by_place (inl here) = absurd (none k a (subst (λ (q : ℕ). slice_get (g.arcs q) k ≡ Some a) here there) has)
+    by_place (inr other) = closed p k a (omega arith) there has

@@ -5,6 +5,7 @@ pub mod Looking
 pub mod Backward
 pub mod Marking
 pub mod Trimming
+pub mod WholeMachine
 pub mod Epsilons
 pub mod OneToOne
 pub mod KeptPaths

@@ -3,6 +3,7 @@ pub mod Runs
 pub mod FirstArcs
 pub mod Sources
 pub mod Finals
+pub mod Back
 pub mod Renumbered
 pub mod Counted
 pub mod Links

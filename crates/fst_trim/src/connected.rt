@@ -1,6 +1,6 @@
 //! The machine with its useful states alone.
 
-ghost use Rattle.std.specs.Prelude.{◌≡◌, ◌<◌, ◌≤◌, ◌↔◌, ◌++◌, ℕ, All, [], false, length, get_or, List, IfSome, IfOk, OnOk};
+ghost use Rattle.std.specs.Prelude.{◌≡◌, ◌<◌, ◌≤◌, ◌↔◌, ◌++◌, ℕ, All, [], true, false, length, get_or, List, IfSome, IfOk, OnOk};
 ghost use Rattle.std.specs.Bool.{Decides};
 ghost use Rattle.fst_semiring.specs.Cost.{Cost};
 ghost use Rattle.fst_machine.specs.Connected.{IsConnected, IsTrim};
@@ -118,6 +118,37 @@ pub struct Connected<W: Weight> {
     pub kept: Vec<u32>,
 }
 
+/// Whether all of these are marked.
+fn all_marked(marks: &[bool]) -> bool
+    ensures { Decides result (All (λ mark. mark ≡ true) marks.now) }
+{
+    for mark in marks {
+        if !*mark {
+            return false;
+        }
+    }
+    true
+}
+
+/// The machine of the marked states, where just the useful ones are marked, and the list of these.
+fn connect_marked<W: Weight>(
+    alloc: Global,
+    a: &Fst<W>,
+    marks: &[bool],
+) -> Result<Connected<W>, AllocError>
+    requires size { length marks.now ≡ length a.now.states }
+    requires useful { (p : ℕ) → Decides (get_or marks.now p false) (IsUseful (graph_of (valued W.value a.now)) p) }
+    ensures { IfOk result (λ c. IsConnectedOn (valued W.value a.now) (valued W.value c.machine) c.kept.items) }
+{
+    let _states = a.states();
+    let numbers = numbers_of(alloc, marks)?;
+    let states = keep_states(alloc, a, marks, numbers.as_slice())?;
+    let start = number_of_start(a.start(), marks, numbers.as_slice());
+    let kept = list_marked(alloc, marks)?;
+    let machine = states.into_machine(start);
+    Ok(Connected { machine, kept })
+}
+
 /// The connected machine, as `connect` gives it, with the list of the states that were kept. So a path of the
 /// connected machine can be told in the states and places of the given one: state i is the i-th kept state, and its
 /// arcs are the arcs between kept states, in their order (`IsKeptAt` says of each which it is).
@@ -128,15 +159,9 @@ pub fn connect_kept<W: Weight>(alloc: Global, a: &Fst<W>) -> Result<Connected<W>
     ensures paths { IfOk result (λ c. KeepsPaths W.KIND (valued W.value a.now) (valued W.value c.machine) c.kept.items) }
     ensures relation { IfOk result (λ c. (x y : List ℕ) (w : Cost) → Rel W.KIND (graph_of (valued W.value a.now)) x y w ↔ Rel W.KIND (graph_of (valued W.value c.machine)) x y w) }
 {
-    let _states = a.states();
     let marks = useful(alloc, a)?;
-    let marked = marks.as_slice();
-    let numbers = numbers_of(alloc, marked)?;
-    let states = keep_states(alloc, a, marked, numbers.as_slice())?;
-    let start = number_of_start(a.start(), marked, numbers.as_slice());
-    let kept = list_marked(alloc, marked)?;
-    let machine = states.into_machine(start);
-    Ok(Connected { machine, kept })
+    let connected = connect_marked(alloc, a, marks.as_slice())?;
+    Ok(connected)
 }
 
 /// The machine with just the states of `a` that some successful path meets, in their order, and the arcs between
@@ -153,6 +178,25 @@ pub fn connect<W: Weight>(alloc: Global, a: &Fst<W>) -> Result<Fst<W>, AllocErro
     ensures relation { IfOk result (λ c. (x y : List ℕ) (w : Cost) → Rel W.KIND (graph_of (valued W.value a.now)) x y w ↔ Rel W.KIND (graph_of (valued W.value c)) x y w) }
 {
     let connected = connect_kept(alloc, a)?;
+    let Connected { machine, kept: _ } = connected;
+    Ok(machine)
+}
+
+/// The connected machine, as `connect` gives it, of a machine that is given away. A machine all of whose states are useful
+/// is given back as it is, and no state or arc of it is copied.
+///
+/// Time and space: as `connect`.
+pub fn into_connected<W: Weight>(alloc: Global, a: Fst<W>) -> Result<Fst<W>, AllocError>
+    ensures machine { IfOk result (λ c. IsConnected (valued W.value a) (valued W.value c)) }
+    ensures paths { IfOk result (λ c. (h : IsConnected (valued W.value a) (valued W.value c)) → KeepsPaths W.KIND (valued W.value a) (valued W.value c) h.kept) }
+    ensures relation { IfOk result (λ c. (x y : List ℕ) (w : Cost) → Rel W.KIND (graph_of (valued W.value a)) x y w ↔ Rel W.KIND (graph_of (valued W.value c)) x y w) }
+{
+    let _states = a.states();
+    let marks = useful(alloc, &a)?;
+    if all_marked(marks.as_slice()) {
+        return Ok(a);
+    }
+    let connected = connect_marked(alloc, &a, marks.as_slice())?;
     let Connected { machine, kept: _ } = connected;
     Ok(machine)
 }

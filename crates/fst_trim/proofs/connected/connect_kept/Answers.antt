@@ -1,24 +1,10 @@
-use Rattle.std.proofs.Common.{ℕ, List, sym, subst}
-use Rattle.fst_machine.specs.Machine.{Machine, valued}
+use Rattle.fst_machine.specs.Machine.{valued}
 use Rattle.fst_machine.proofs.Connected.{connected-Rel}
-use Rattle.fst_trim.specs.Renumbered.{marked}
-use Rattle.fst_trim.specs.KeptPaths.{IsConnectedOn}
 use Rattle.fst_trim.proofs.KeptPaths.{connected_on_keeps}
-use Rattle.fst_trim.proofs.Trimming.{finished}
 use Rattle.fst_trim.proofs.connected.connect_kept.Goals as goal
 
-pub into_machine-machine-requires : goal.into_machine-machine-requires
-into_machine-machine-requires g c =
-    (finished g.W.Weight.value c.args.a.now (record { start = c.number_of_start-start.result; states = c.in_ok-states.states }) c.in_ok-marks.marks.items c.as_slice-marked.result.now c.in_ok-numbers.numbers.items c.as_slice.result.now c.as_slice-2.result.now c.start.result c.states-states.ensures.machine c.as_slice-marked.ensures.value c.in_ok-marks.ensures.size c.in_ok-marks.ensures.marks c.in_ok-numbers.ensures c.as_slice.ensures.value c.as_slice-2.ensures.value c.start.ensures.value c.number_of_start-start.ensures c.in_ok-states.ensures).machine
-
-pub returns-clause-machine : goal.returns-clause-machine
-returns-clause-machine g c =
-    let f = finished g.W.Weight.value c.args.a.now (record { start = c.number_of_start-start.result; states = c.in_ok-states.states }) c.in_ok-marks.marks.items c.as_slice-marked.result.now c.in_ok-numbers.numbers.items c.as_slice.result.now c.as_slice-2.result.now c.start.result c.states-states.ensures.machine c.as_slice-marked.ensures.value c.in_ok-marks.ensures.size c.in_ok-marks.ensures.marks c.in_ok-numbers.ensures c.as_slice.ensures.value c.as_slice-2.ensures.value c.start.ensures.value c.number_of_start-start.ensures c.in_ok-states.ensures in
-    let on = subst (λ (n : Machine g.row.W.Denot). IsConnectedOn (valued g.W.Weight.value c.args.a.now) (valued g.W.Weight.value n) (marked 0 c.as_slice-marked.result.now)) (sym c.into_machine-machine.ensures) f.connected in
-    subst (λ (kept : List ℕ). IsConnectedOn (valued g.W.Weight.value c.args.a.now) (valued g.W.Weight.value c.into_machine-machine.result) kept) (sym c.in_ok-kept.ensures) on
-
 pub returns-clause-paths : goal.returns-clause-paths
-returns-clause-paths g c = connected_on_keeps (valued g.W.Weight.value c.args.a.now) (valued g.W.Weight.value c.into_machine-machine.result) c.in_ok-kept.kept.items g.W.Weight.KIND (returns-clause-machine g c)
+returns-clause-paths g c = connected_on_keeps (valued g.W.Weight.value c.args.a.now) (valued g.W.Weight.value c.in_ok-connected.connected.machine) c.in_ok-connected.connected.kept.items g.W.Weight.KIND c.in_ok-connected.ensures
 
 pub returns-clause-relation : goal.returns-clause-relation
-returns-clause-relation g c x y w = connected-Rel (valued g.W.Weight.value c.args.a.now) (valued g.W.Weight.value c.into_machine-machine.result) (returns-clause-machine g c).0 g.W.Weight.KIND x y w
+returns-clause-relation g c x y w = connected-Rel (valued g.W.Weight.value c.args.a.now) (valued g.W.Weight.value c.in_ok-connected.connected.machine) c.in_ok-connected.ensures.0 g.W.Weight.KIND x y w

@@ -2,8 +2,8 @@ use Rattle.std.proofs.Common.{◌≡◌, ◌-◌, length}
 use Rattle.fst_machine.specs.Machine.{valued}
 use Rattle.fst_machine.specs.Graph.{graph_of}
 use Rattle.fst_machine.specs.Marks.{Marks}
-use Rattle.fst_trim.proofs.Backward.{IsWalkingBack}
-use Rattle.fst_trim.proofs.useful.coaccessible.Given as goal
+use Rattle.fst_trim.specs.Back.{IsWalkingBack}
+use Rattle.fst_trim.proofs.useful.walk_back.Given as goal
 
 abbrev pub invariant-loop-taken : goal.invariant-loop-taken
 invariant-loop-taken g l = record {
