@@ -16,7 +16,7 @@ use crate::made::Made;
 use crate::refusal::{Refusal, unmade};
 use fst_compose::{ComposeFault, compose};
 use fst_semiring::Weight;
-use fst_trim::connect;
+use fst_trim::into_connected;
 use fst_words::Options;
 use std::alloc::Global;
 
@@ -70,7 +70,7 @@ pub(crate) fn composed<W: Weight>(
         Err(fault) => return Err(uncomposed(alloc, fault)),
     };
     if is_connected(options) {
-        Ok(Made::Machine(connect(alloc, &whole)?))
+        Ok(Made::Machine(into_connected(alloc, whole)?))
     } else {
         Ok(Made::Machine(whole))
     }

@@ -10,7 +10,7 @@ use crate::given::Given;
 use crate::made::Made;
 use crate::refusal::Refusal;
 use fst_semiring::Weight;
-use fst_trim::{Side, arcsort, connect};
+use fst_trim::{Side, arcsort, into_connected};
 use fst_words::{Name, Options};
 use std::alloc::Global;
 
@@ -20,7 +20,7 @@ pub(crate) fn connected<W: Weight>(alloc: Global, given: Given<W>) -> Result<Mad
     ensures { Settles connect_meaning (given_seen W.KIND W.value given) (result_map_both (made_seen W.KIND W.value) (λ e. e) result) }
 {
     let machine = given.one();
-    Ok(Made::Machine(connect(alloc, &machine)?))
+    Ok(Made::Machine(into_connected(alloc, machine)?))
 }
 
 /// The side whose labels the arcs are sorted by.

@@ -22,10 +22,10 @@ returns-then-is_connected g c =
     let o = c.args.options.now in
     let a = c.two-first.result.0 in
     let b = c.two-first.result.1 in
-    let made = c.in_ok-connect.field-0 in
+    let made = c.in_ok-into_connected.field-0 in
     settled (compose_meaning o) kind value c.args.given (a ∷ b ∷ []) (Ok (machine kind (valued value made))) c.two-first.ensures (
       composed_passes kind (valued value a) (valued value b) c.limit_of.result (state_limit o) c.in-Ok.made c.limit_of.ensures.value c.in-Ok.ensures.exact,
-      (refl, composed-connected o kind (valued value a) (valued value b) (valued value c.in-Ok.made.fst) (valued value made) c.in-Ok.made.names (sym c.is_connected.ensures ∙ c.if-is_connected.true) c.in-Ok.ensures.made c.in-Ok.ensures.composes c.in_ok-connect.ensures.machine),
+      (refl, composed-connected o kind (valued value a) (valued value b) (valued value c.in-Ok.made.fst) (valued value made) c.in-Ok.made.names (sym c.is_connected.ensures ∙ c.if-is_connected.true) c.in-Ok.ensures.made c.in-Ok.ensures.composes c.in_ok-into_connected.ensures.machine),
     )
 
 pub returns : goal.returns
