@@ -16,7 +16,7 @@ use crate::queues::{Queues, picked};
 use crate::refusal::{Refusal, unmade};
 use fst_epsilon::{EpsilonFault, rmepsilon};
 use fst_semiring::Weight;
-use fst_trim::connect;
+use fst_trim::into_connected;
 use fst_words::Options;
 use std::alloc::Global;
 
@@ -49,7 +49,7 @@ pub(crate) fn removed<W: Weight>(
     };
     drop(machine);
     if is_connected(options) {
-        Ok(Made::Machine(connect(alloc, &whole)?))
+        Ok(Made::Machine(into_connected(alloc, whole)?))
     } else {
         Ok(Made::Machine(whole))
     }

@@ -21,10 +21,10 @@ returns-then-is_connected g c =
     let o = c.args.options.now in
     let m = c.one-machine.result in
     let whole = valued value c.in-Ok.whole in
-    let made = valued value c.in_ok-connect.field-0 in
+    let made = valued value c.in_ok-into_connected.field-0 in
     settled (rmepsilon_meaning o) kind value c.args.given (m ∷ []) (Ok (machine kind made)) c.one-machine.ensures (
       (λ fault stops. c.in-Ok.ensures.passes stops.0 stops.1),
-      (refl, removed-connected o kind (valued value m) whole made (sym c.is_connected.ensures ∙ c.if-is_connected.true) c.in-Ok.ensures.removed c.in-Ok.ensures.keeps c.in_ok-connect.ensures.machine),
+      (refl, removed-connected o kind (valued value m) whole made (sym c.is_connected.ensures ∙ c.if-is_connected.true) c.in-Ok.ensures.removed c.in-Ok.ensures.keeps c.in_ok-into_connected.ensures.machine),
     )
 
 pub returns : goal.returns
