@@ -118,7 +118,7 @@ impl Describer {
 fn describe_state<W: Weight>(
     describer: &mut Describer,
     arcs: &mut Vec<WideArc<W>>,
-    pushed: &Pushing<W>,
+    pushed: &Pushing<'_, W>,
     state: u32,
 ) -> Result<(), AllocError>
     requires apart { Apart describer.old.keys.keys }
@@ -146,7 +146,7 @@ pub(crate) struct Description {
 /// Describes the states of a machine.
 pub(crate) fn describe<W: Weight>(
     alloc: Global,
-    pushed: &Pushing<W>,
+    pushed: &Pushing<'_, W>,
 ) -> Result<Description, AllocError>
     requires once { OncePlacedAll (graph_of pushed.now) }
     ensures described { IfOk result (λ d. IsDescription (graph_of pushed.now) (length pushed.now.states) d.first.numbers.items d.first.least.items d.rows) }

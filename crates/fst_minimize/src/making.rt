@@ -26,7 +26,7 @@ use std::alloc::{AllocError, Global};
 /// Numbers the states of a pushed machine by their behaviour, the classes by their least members.
 pub(crate) fn number_classes<W: Weight>(
     alloc: Global,
-    pushed: &Pushing<W>,
+    pushed: &Pushing<'_, W>,
 ) -> Result<Numbering, AllocError>
     requires { IsReady pushed.now }
     ensures tells { IfOk result (λ n. TellsBehaviour (graph_of pushed.now) (length pushed.now.states) n.numbers.items) }
@@ -72,7 +72,7 @@ struct Buffers<W: Weight> {
 fn put_class<W: Weight>(
     list: &mut StateList<W>,
     buffers: &mut Buffers<W>,
-    pushed: &Pushing<W>,
+    pushed: &Pushing<'_, W>,
     numbers: &[u32],
     total: W::Wide,
     state: u32,
@@ -106,7 +106,7 @@ fn start_class(start: Option<u32>, numbers: &[u32]) -> Option<u32>
 /// The states of the machine of the classes, each by its least member.
 fn class_states<W: Weight>(
     alloc: Global,
-    pushed: &Pushing<W>,
+    pushed: &Pushing<'_, W>,
     classes: &Numbering,
     total: W::Wide,
 ) -> Result<StateList<W>, NarrowFault>
@@ -146,7 +146,7 @@ fn class_states<W: Weight>(
 /// The machine of the classes, with the total on each final weight.
 pub(crate) fn make<W: Weight>(
     alloc: Global,
-    pushed: &Pushing<W>,
+    pushed: &Pushing<'_, W>,
     classes: &Numbering,
     total: W::Wide,
 ) -> Result<Fst<W>, NarrowFault>

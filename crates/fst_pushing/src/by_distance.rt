@@ -42,19 +42,19 @@ fn start_value<W: Weight>(start: Option<u32>, distances: &[W::Wide]) -> W::Wide
 
 /// A pushed machine and its total weight.
 #[derive(Drop)]
-pub struct Totalled<W: Weight> {
+pub struct Totalled<'a, W: Weight> {
     /// The machine.
-    pub pushed: Pushing<W>,
+    pub pushed: Pushing<'a, W>,
     /// The distance of its start to the final states; Zero where there is no start.
     pub total: W::Wide,
 }
 
 /// The connected machine, pushed by these distances of the states of the given one.
-fn push_connected<W: Weight>(
+fn push_connected<'a, W: Weight>(
     alloc: Global,
-    fst: &Fst<W>,
+    fst: &'a Fst<W>,
     all: &[W::Wide],
-) -> Result<Totalled<W>, AllocError>
+) -> Result<Totalled<'a, W>, AllocError>
     requires size { length all.now ≡ length fst.now.states }
     requires distances { (q : ℕ) (d : W.Wide) → slice_get all.now q ≡ Some d → IsUsefulDistance W.KIND (graph_of (valued W.value fst.now)) q (W.wide_value d) }
     requires numbers { (q : ℕ) (d : W.Wide) → slice_get all.now q ≡ Some d → Within (length all.now * 1000000000000000000) (W.wide_value d) }
@@ -65,7 +65,7 @@ fn push_connected<W: Weight>(
     let _states = fst.states();
     let Connected { machine, kept } = connect_kept(alloc, fst)?;
     let distances = pick(alloc, all, &kept)?;
-    let total = start_value::<W>(machine.start(), &distances);
+    let total = start_value::<W>(machine.fst().start(), &distances);
     Ok(Totalled {
         pushed: Pushing::new(machine, distances),
         total,
@@ -79,12 +79,14 @@ fn push_connected<W: Weight>(
 /// fault lists such a cycle, in the states and places of the given machine. `Memory` may come in place of any answer.
 /// After an `Ok` the queue is empty.
 ///
+/// Where all states of the machine are useful, no state or arc is copied.
+///
 /// Time: that of the distances, and linear in the states and the arcs. Space: linear.
-pub fn push_lazily<W: Weight, Q: StateQueue>(
+pub fn push_lazily<'a, W: Weight, Q: StateQueue>(
     alloc: Global,
-    fst: &Fst<W>,
+    fst: &'a Fst<W>,
     queue: &mut Q,
-) -> Result<Totalled<W>, DistanceFault>
+) -> Result<Totalled<'a, W>, DistanceFault>
     requires { Q.members queue.old ≡ [] }
     ensures pushed { IfOk result (λ t. IsPushed W.KIND (valued W.value fst.now) t.pushed (W.wide_value t.total)) }
     ensures range { IfOk result (λ t. Within most_distance (W.wide_value t.total)) }

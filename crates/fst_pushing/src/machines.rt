@@ -24,7 +24,7 @@ use fst_semiring::Weight;
 use std::alloc::Global;
 
 /// The limit that the result passes, if it passes one.
-fn past_limit<W: Weight>(pushed: &Pushing<W>, place: Place) -> Option<PushFault>
+fn past_limit<W: Weight>(pushed: &Pushing<'_, W>, place: Place) -> Option<PushFault>
     requires { IsAmong (length pushed.now.states) place }
     ensures some { IfSome result (λ fault. (total : Cost) → Passes (put_on W.KIND total pushed.now place) fault) }
     ensures states { IfNone result ((total : Cost) → length (put_on W.KIND total pushed.now place).states ≤ most_states) }

@@ -21,7 +21,7 @@ pub(crate) enum Place {
 }
 
 /// Where the total is put, unless it is removed.
-pub(crate) fn place_of<W: Weight>(pushed: &Pushing<W>, total: W::Wide, removed: bool) -> Place
+pub(crate) fn place_of<W: Weight>(pushed: &Pushing<'_, W>, total: W::Wide, removed: bool) -> Place
     ensures place { IsPlaceFor removed W.KIND (W.wide_value total) pushed.now result }
     ensures among { IsAmong (length pushed.now.states) result }
 {
@@ -43,7 +43,7 @@ pub(crate) fn place_of<W: Weight>(pushed: &Pushing<W>, total: W::Wide, removed: 
 }
 
 /// How many states there are with the total put there.
-pub(crate) fn state_count<W: Weight>(pushed: &Pushing<W>, place: Place) -> usize
+pub(crate) fn state_count<W: Weight>(pushed: &Pushing<'_, W>, place: Place) -> usize
     ensures { (total : Cost) → result ≡ length (put_on W.KIND total pushed.now place).states }
 {
     let states = pushed.states() as usize;
@@ -55,7 +55,7 @@ pub(crate) fn state_count<W: Weight>(pushed: &Pushing<W>, place: Place) -> usize
 }
 
 /// How many arcs there are with the total put there.
-pub(crate) fn arc_count<W: Weight>(pushed: &Pushing<W>, place: Place) -> usize
+pub(crate) fn arc_count<W: Weight>(pushed: &Pushing<'_, W>, place: Place) -> usize
     requires { IsAmong (length pushed.now.states) place }
     ensures { (total : Cost) → result ≡ arc_total (put_on W.KIND total pushed.now place).states }
 {

@@ -10,10 +10,12 @@ ghost use Rattle.fst_machine.specs.Graph.{graph_of};
 ghost use Rattle.fst_machine.specs.Machine.{IsMachine, arc_total, valued, valued_arc};
 ghost use Rattle.fst_pushing.specs.Pushing.{pushed_by, pushed_machine, value_at};
 ghost use Rattle.fst_pushing.specs.Totals.{IsEntered};
+ghost use Rattle.fst_trim.specs.Trimmed.{machine_of};
 ghost use Rattle.fst_pushing.specs.Values.{HasDistances, LeadsTo, most_distance, most_pushed, value_in};
 
-use fst_machine::{Fst, FstArc, WideArc};
+use fst_machine::{FstArc, WideArc};
 use fst_semiring::Weight;
+use fst_trim::Trimmed;
 use std::alloc::AllocError;
 use std::cmp::Ordering;
 use std::marker::Model;
@@ -91,31 +93,32 @@ fn leads_to<W: Weight>(arcs: &[FstArc<W>], state: u32) -> bool
 /// A trim machine with its weights pushed by the distances of its states to the final states. The weights are computed
 /// where they are asked for, so that no second machine is kept.
 #[derive(Drop)]
-pub struct Pushing<W: Weight> {
-    fst: Fst<W>,
+pub struct Pushing<'a, W: Weight> {
+    fst: Trimmed<'a, W>,
     distances: Vec<W::Wide>,
 }
 
-impl<W: Weight> Model for Pushing<W> {
+impl<'a, W: Weight> Model for Pushing<'a, W> {
     ghost use Rattle.std.specs.Prelude.{◌≡◌, length};
     ghost use Rattle.fst_semiring.specs.Cost.{Cost};
     ghost use Rattle.fst_machine.specs.Machine.{Machine, valued};
+    ghost use Rattle.fst_trim.specs.Trimmed.{machine_of};
     ghost use Rattle.fst_pushing.specs.Pushing.{pushed_machine};
     ghost use Rattle.fst_pushing.specs.Values.{HasDistances, value_in};
 
     ghost Value = { Machine Cost };
 
-    ghost view = { λ p. pushed_machine W.KIND (value_in W.wide_value p.distances.items) (valued W.value p.fst) };
+    ghost view = { λ p. pushed_machine W.KIND (value_in W.wide_value p.distances.items) (valued W.value (machine_of p.fst)) };
 
-    ghost invariant = { λ p. (length p.distances.items ≡ length p.fst.states) × HasDistances W.KIND (valued W.value p.fst) (value_in W.wide_value p.distances.items) };
+    ghost invariant = { λ p. (length p.distances.items ≡ length (machine_of p.fst).states) × HasDistances W.KIND (valued W.value (machine_of p.fst)) (value_in W.wide_value p.distances.items) };
 }
 
-impl<W: Weight> Pushing<W> {
+impl<'a, W: Weight> Pushing<'a, W> {
     /// A trim machine, pushed by its distances. Takes no memory.
-    pub fn new(fst: Fst<W>, distances: Vec<W::Wide>) -> Pushing<W>
-        requires size { length distances.items ≡ length fst.states }
-        requires distances { HasDistances W.KIND (valued W.value fst) (value_in W.wide_value distances.items) }
-        ensures { result ≡ pushed_machine W.KIND (value_in W.wide_value distances.items) (valued W.value fst) }
+    pub fn new(fst: Trimmed<'a, W>, distances: Vec<W::Wide>) -> Pushing<'a, W>
+        requires size { length distances.items ≡ length (machine_of fst).states }
+        requires distances { HasDistances W.KIND (valued W.value (machine_of fst)) (value_in W.wide_value distances.items) }
+        ensures { result ≡ pushed_machine W.KIND (value_in W.wide_value distances.items) (valued W.value (machine_of fst.entry)) }
     {
         Pushing { fst, distances }
     }
@@ -124,7 +127,7 @@ impl<W: Weight> Pushing<W> {
     pub fn start(&self) -> Option<u32>
         ensures { result ≡ self.now.start }
     {
-        self.fst.start()
+        self.fst.fst().start()
     }
 
     /// The number of states, and with it what holds of the machine. Takes no memory.
@@ -132,14 +135,14 @@ impl<W: Weight> Pushing<W> {
         ensures value { result ≡ length self.now.states }
         ensures machine { IsMachine (λ v. v) self.now }
     {
-        self.fst.states()
+        self.fst.fst().states()
     }
 
     /// The number of arcs of all states together. Takes no memory.
     pub fn arc_count(&self) -> u32
         ensures { result ≡ arc_total self.now.states }
     {
-        self.fst.arc_count()
+        self.fst.fst().arc_count()
     }
 
     /// The number of arcs of a state. Takes no memory.
@@ -147,15 +150,16 @@ impl<W: Weight> Pushing<W> {
         requires { state < length self.now.states }
         ensures { result ≡ length ((graph_of self.now).arcs state) }
     {
-        self.fst.arcs(state).len()
+        self.fst.fst().arcs(state).len()
     }
 
     /// Whether an arc leads to a state. Takes no memory.
     pub(crate) fn is_entered(&self, state: u32) -> bool
         ensures { Decides result (IsEntered self.now state) }
     {
-        for from in 0..self.fst.states() {
-            if leads_to(self.fst.arcs(from), state) {
+        let fst = self.fst.fst();
+        for from in 0..fst.states() {
+            if leads_to(fst.arcs(from), state) {
                 return true;
             }
         }
@@ -169,7 +173,7 @@ impl<W: Weight> Pushing<W> {
         ensures kind { IsCost W.KIND (W.wide_value result) }
         ensures range { Within most_pushed (W.wide_value result) }
     {
-        let last = self.fst.final_weight(state);
+        let last = self.fst.fst().final_weight(state);
         push_divide::<W>(last.widen(), self.distances[state as usize])
     }
 
@@ -179,9 +183,10 @@ impl<W: Weight> Pushing<W> {
         ensures arcs { OnOk result (map (valued_arc W.wide_value) out.new.items ≡ (graph_of self.now).arcs state) }
         ensures good { OnOk result (All (λ a. IsCost W.KIND (W.wide_value a.weight) × Within most_pushed (W.wide_value a.weight)) out.new.items) }
     {
-        let _states = self.fst.states();
+        let fst = self.fst.fst();
+        let _states = fst.states();
         let own = self.distances[state as usize];
-        put_pushed::<W>(out, self.fst.arcs(state), &self.distances, own)?;
+        put_pushed::<W>(out, fst.arcs(state), &self.distances, own)?;
         Ok(())
     }
 }

@@ -51,7 +51,7 @@ struct Buffers<W: Weight> {
 fn put_state<W: Weight>(
     list: &mut StateList<W>,
     buffers: &mut Buffers<W>,
-    pushed: &Pushing<W>,
+    pushed: &Pushing<'_, W>,
     state: u32,
 ) -> Result<bool, AllocError>
     requires state { state < length pushed.now.states }
@@ -70,7 +70,7 @@ fn put_state<W: Weight>(
 fn put_scaled_state<W: Weight>(
     list: &mut StateList<W>,
     buffers: &mut Buffers<W>,
-    pushed: &Pushing<W>,
+    pushed: &Pushing<'_, W>,
     factor: W::Wide,
     state: u32,
 ) -> Result<bool, AllocError>
@@ -104,7 +104,7 @@ fn source_of(place: Place, states: u32, state: u32) -> Option<u32>
 fn put_placed<W: Weight>(
     list: &mut StateList<W>,
     buffers: &mut Buffers<W>,
-    pushed: &Pushing<W>,
+    pushed: &Pushing<'_, W>,
     total: W::Wide,
     place: Place,
     state: u32,
@@ -125,7 +125,7 @@ fn put_placed<W: Weight>(
 /// The states of the result.
 fn placed_states<W: Weight>(
     alloc: Global,
-    pushed: &Pushing<W>,
+    pushed: &Pushing<'_, W>,
     total: W::Wide,
     place: Place,
 ) -> Result<StateList<W>, NarrowFault>
@@ -154,7 +154,7 @@ fn placed_states<W: Weight>(
 }
 
 /// The start of the result.
-fn placed_start<W: Weight>(pushed: &Pushing<W>, place: Place) -> Option<u32>
+fn placed_start<W: Weight>(pushed: &Pushing<'_, W>, place: Place) -> Option<u32>
     ensures { (total : Cost) → result ≡ (put_on W.KIND total pushed.now place).start }
 {
     match place {
@@ -167,7 +167,7 @@ fn placed_start<W: Weight>(pushed: &Pushing<W>, place: Place) -> Option<u32>
 /// The machine with the total there.
 pub(crate) fn with_total<W: Weight>(
     alloc: Global,
-    pushed: &Pushing<W>,
+    pushed: &Pushing<'_, W>,
     total: W::Wide,
     place: Place,
 ) -> Result<Fst<W>, NarrowFault>

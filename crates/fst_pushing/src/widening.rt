@@ -44,7 +44,7 @@ fn add_state<W: Weight>(machine: &mut WideFst<W>) -> Result<(), AllocError>
 }
 
 /// As many states as the pushed machine has, bare.
-fn bare_states<W: Weight>(alloc: Global, pushed: &Pushing<W>) -> Result<WideFst<W>, AllocError>
+fn bare_states<W: Weight>(alloc: Global, pushed: &Pushing<'_, W>) -> Result<WideFst<W>, AllocError>
     ensures states { IfOk result (λ m. map (valued_state W.wide_value) m.states ≡ bare pushed.now.states) }
     ensures start { IfOk result (λ m. m.start ≡ None) }
 {
@@ -96,7 +96,7 @@ fn add_arcs<W: Weight>(
 fn fill_state<W: Weight>(
     machine: &mut WideFst<W>,
     buffer: &mut Vec<WideArc<W>>,
-    pushed: &Pushing<W>,
+    pushed: &Pushing<'_, W>,
     state: u32,
 ) -> Result<(), AllocError>
     requires size { length machine.old.states ≡ length pushed.now.states }
@@ -113,7 +113,10 @@ fn fill_state<W: Weight>(
 }
 
 /// The pushed machine, its start apart.
-fn filled_states<W: Weight>(alloc: Global, pushed: &Pushing<W>) -> Result<WideFst<W>, AllocError>
+fn filled_states<W: Weight>(
+    alloc: Global,
+    pushed: &Pushing<'_, W>,
+) -> Result<WideFst<W>, AllocError>
     ensures states { IfOk result (λ m. map (valued_state W.wide_value) m.states ≡ pushed.now.states) }
     ensures start { IfOk result (λ m. m.start ≡ None) }
 {
@@ -127,7 +130,7 @@ fn filled_states<W: Weight>(alloc: Global, pushed: &Pushing<W>) -> Result<WideFs
 }
 
 /// The pushed machine.
-fn widened<W: Weight>(alloc: Global, pushed: &Pushing<W>) -> Result<WideFst<W>, AllocError>
+fn widened<W: Weight>(alloc: Global, pushed: &Pushing<'_, W>) -> Result<WideFst<W>, AllocError>
     ensures { IfOk result (λ m. valued W.wide_value m ≡ pushed.now) }
 {
     let _states = pushed.states();

@@ -10,7 +10,8 @@ use Rattle.fst_semiring.specs.Cost.{Cost}
 use Rattle.fst_machine.specs.Machine.{Arc, State, Machine, IsArc, IsMachine, valued, valued_arc, valued_state}
 use Rattle.fst_machine.specs.Graph.{graph_of}
 use Rattle.fst_machine.specs.Cycles.{IsUseful}
-use Rattle.fst_machine.specs.Connected.{IsConnected, Kept}
+use Rattle.fst_machine.specs.Connected.{Kept}
+use Rattle.fst_trim.specs.KeptPaths.{IsConnectedOn}
 use Rattle.fst_trim.specs.Renumbered.{marked}
 use Rattle.fst_trim.proofs.Looking.{look}
 use Rattle.fst_trim.proofs.Marking.{marked_is, marked-ascends}
@@ -57,16 +58,19 @@ module _ {V : Type 0} (value : V → Cost) (m : Machine V) (marks : List Bool) (
   start_there : (i : ℕ) → m.start ≡ Some i → (p : ℕ) × (m.start ≡ Some p) × (slice_get (marked 0 marks) i ≡ Some p)
   start_there i e = (i, e, here i (subst (λ (o : Option ℕ). IfSome o (λ s. s < length m.states)) e h.start))
 
-  pub whole_connected : IsConnected (valued value m) (valued value m)
-  whole_connected = record {
-    kept = marked 0 marks;
-    ascending = λ i j p q low one two. marked-ascends 0 marks i j p q low one two;
-    useful = λ p. ((λ has. (useful p).0 ((marked_is marks p).0 has)), (λ u. (marked_is marks p).1 ((useful p).1 u)));
-    states = length-map m.states (valued_state value) ∙ (sym size ∙ sym (all_places 0 marks all));
-    start = λ i. ((λ e. start_there i e), (λ s. s.1 ∙ ap Some (sym (same_place i s.0 s.2))));
-    final = λ i p there. ap (graph_of (valued value m)).final (same_place i p there);
-    arcs = λ i p there.
-        let same = same_place i p there in
-        let low : p < length m.states = omega (arith, slice_get_within (marked 0 marks) i p there, all_places 0 marks all, size, same) in
-        subst (λ (j : ℕ). Kept (marked 0 marks) ((graph_of (valued value m)).arcs p) ((graph_of (valued value m)).arcs j)) (sym same) (row p low);
-  }
+  pub whole_connected : IsConnectedOn (valued value m) (valued value m) (marked 0 marks)
+  whole_connected = (
+    record {
+      kept = marked 0 marks;
+      ascending = λ i j p q low one two. marked-ascends 0 marks i j p q low one two;
+      useful = λ p. ((λ has. (useful p).0 ((marked_is marks p).0 has)), (λ u. (marked_is marks p).1 ((useful p).1 u)));
+      states = length-map m.states (valued_state value) ∙ (sym size ∙ sym (all_places 0 marks all));
+      start = λ i. ((λ e. start_there i e), (λ s. s.1 ∙ ap Some (sym (same_place i s.0 s.2))));
+      final = λ i p there. ap (graph_of (valued value m)).final (same_place i p there);
+      arcs = λ i p there.
+          let same = same_place i p there in
+          let low : p < length m.states = omega (arith, slice_get_within (marked 0 marks) i p there, all_places 0 marks all, size, same) in
+          subst (λ (j : ℕ). Kept (marked 0 marks) ((graph_of (valued value m)).arcs p) ((graph_of (valued value m)).arcs j)) (sym same) (row p low);
+    },
+    refl,
+  )

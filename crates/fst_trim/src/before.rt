@@ -8,6 +8,7 @@ ghost use Rattle.fst_machine.specs.Connected.{IsKeptAt};
 ghost use Rattle.fst_machine.specs.Graph.{graph_of};
 ghost use Rattle.fst_machine.specs.Machine.{Arc, most_arcs, valued, valued_arc};
 ghost use Rattle.fst_trim.specs.KeptPaths.{IsConnectedOn};
+ghost use Rattle.fst_trim.specs.Trimmed.{machine_of};
 
 use crate::connected::Connected;
 use fst_machine::{Fst, FstArc, Step};
@@ -41,13 +42,13 @@ fn old_place<W: Weight>(arcs: &[FstArc<W>], kept: &[u32], place: u32) -> u32
     unreachable!()
 }
 
-impl<W: Weight> Connected<W> {
+impl<W: Weight> Connected<'_, W> {
     /// The state and the place, in the given machine, of an arc of this one. Takes no memory.
     ///
     /// Time: linear in the arcs of that state.
     pub fn step_before(&self, a: &Fst<W>, step: Step) -> Step
-        requires connected { IsConnectedOn (valued W.value a.now) (valued W.value self.now.machine) self.now.kept.items }
-        requires arc { (b : Arc Cost ℕ) × (slice_get ((graph_of (valued W.value self.now.machine)).arcs step.state) step.place ≡ Some b) }
+        requires connected { IsConnectedOn (valued W.value a.now) (valued W.value (machine_of self.now.machine)) self.now.kept.items }
+        requires arc { (b : Arc Cost ℕ) × (slice_get ((graph_of (valued W.value (machine_of self.now.machine))).arcs step.state) step.place ≡ Some b) }
         ensures state { slice_get self.now.kept.items step.state ≡ Some result.state }
         ensures place { IsKeptAt self.now.kept.items ((graph_of (valued W.value a.now)).arcs result.state) result.place step.place }
     {

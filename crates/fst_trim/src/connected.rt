@@ -9,6 +9,7 @@ ghost use Rattle.fst_machine.specs.Graph.{graph_of};
 ghost use Rattle.fst_machine.specs.Machine.{IsMachine, valued};
 ghost use Rattle.fst_machine.specs.Relation.{Rel};
 ghost use Rattle.fst_trim.specs.KeptPaths.{IsConnectedOn, KeepsPaths};
+ghost use Rattle.fst_trim.specs.Trimmed.{machine_of};
 ghost use Rattle.fst_trim.specs.Renumbered.{IsNumbering, kept_arcs, kept_machine, kept_states, marked, new_start};
 
 use crate::useful::useful;
@@ -109,11 +110,32 @@ fn list_marked(alloc: Global, marks: &[bool]) -> Result<Vec<u32>, AllocError>
     Ok(kept)
 }
 
+/// A connected machine: the given one where all its states are useful, and else one of its own.
+#[derive(Drop)]
+pub enum Trimmed<'a, W: Weight> {
+    /// The given one.
+    Given(&'a Fst<W>),
+    /// One of its own.
+    Own(Fst<W>),
+}
+
+impl<'a, W: Weight> Trimmed<'a, W> {
+    /// The machine. Takes no memory.
+    pub fn fst(&self) -> &Fst<W>
+        ensures { result.now ≡ machine_of self.now }
+    {
+        match self {
+            Trimmed::Given(fst) => fst,
+            Trimmed::Own(fst) => fst,
+        }
+    }
+}
+
 /// A connected machine, and which states of the given one it has.
 #[derive(Drop)]
-pub struct Connected<W: Weight> {
+pub struct Connected<'a, W: Weight> {
     /// The machine.
-    pub machine: Fst<W>,
+    pub machine: Trimmed<'a, W>,
     /// The states of the given machine that were kept, in order: state i of the machine is the i-th of these.
     pub kept: Vec<u32>,
 }
@@ -130,38 +152,57 @@ fn all_marked(marks: &[bool]) -> bool
     true
 }
 
-/// The machine of the marked states, where just the useful ones are marked, and the list of these.
+/// The machine of the marked states, where just the useful ones are marked.
 fn connect_marked<W: Weight>(
     alloc: Global,
     a: &Fst<W>,
     marks: &[bool],
-) -> Result<Connected<W>, AllocError>
+) -> Result<Fst<W>, AllocError>
     requires size { length marks.now ≡ length a.now.states }
     requires useful { (p : ℕ) → Decides (get_or marks.now p false) (IsUseful (graph_of (valued W.value a.now)) p) }
-    ensures { IfOk result (λ c. IsConnectedOn (valued W.value a.now) (valued W.value c.machine) c.kept.items) }
+    ensures { IfOk result (λ c. IsConnectedOn (valued W.value a.now) (valued W.value c) (marked 0 marks.now)) }
 {
     let _states = a.states();
     let numbers = numbers_of(alloc, marks)?;
     let states = keep_states(alloc, a, marks, numbers.as_slice())?;
     let start = number_of_start(a.start(), marks, numbers.as_slice());
-    let kept = list_marked(alloc, marks)?;
-    let machine = states.into_machine(start);
-    Ok(Connected { machine, kept })
+    Ok(states.into_machine(start))
+}
+
+/// The machine of the marked states, as `connect_marked` makes it; the given machine itself where all are marked.
+fn trim_marked<'a, W: Weight>(
+    alloc: Global,
+    a: &'a Fst<W>,
+    marks: &[bool],
+) -> Result<Trimmed<'a, W>, AllocError>
+    requires size { length marks.now ≡ length a.now.states }
+    requires useful { (p : ℕ) → Decides (get_or marks.now p false) (IsUseful (graph_of (valued W.value a.now)) p) }
+    ensures { IfOk result (λ c. IsConnectedOn (valued W.value a.now) (valued W.value (machine_of c)) (marked 0 marks.now)) }
+{
+    let _states = a.states();
+    if all_marked(marks) {
+        return Ok(Trimmed::Given(a));
+    }
+    let own = connect_marked(alloc, a, marks)?;
+    Ok(Trimmed::Own(own))
 }
 
 /// The connected machine, as `connect` gives it, with the list of the states that were kept. So a path of the
 /// connected machine can be told in the states and places of the given one: state i is the i-th kept state, and its
-/// arcs are the arcs between kept states, in their order (`IsKeptAt` says of each which it is).
+/// arcs are the arcs between kept states, in their order (`IsKeptAt` says of each which it is). Where all states are
+/// useful it is the given machine itself, and nothing is copied.
 ///
 /// Time and space: as `connect`.
-pub fn connect_kept<W: Weight>(alloc: Global, a: &Fst<W>) -> Result<Connected<W>, AllocError>
-    ensures machine { IfOk result (λ c. IsConnectedOn (valued W.value a.now) (valued W.value c.machine) c.kept.items) }
-    ensures paths { IfOk result (λ c. KeepsPaths W.KIND (valued W.value a.now) (valued W.value c.machine) c.kept.items) }
-    ensures relation { IfOk result (λ c. (x y : List ℕ) (w : Cost) → Rel W.KIND (graph_of (valued W.value a.now)) x y w ↔ Rel W.KIND (graph_of (valued W.value c.machine)) x y w) }
+pub fn connect_kept<W: Weight>(alloc: Global, a: &Fst<W>) -> Result<Connected<'_, W>, AllocError>
+    ensures machine { IfOk result (λ c. IsConnectedOn (valued W.value a.now) (valued W.value (machine_of c.machine)) c.kept.items) }
+    ensures paths { IfOk result (λ c. KeepsPaths W.KIND (valued W.value a.now) (valued W.value (machine_of c.machine)) c.kept.items) }
+    ensures relation { IfOk result (λ c. (x y : List ℕ) (w : Cost) → Rel W.KIND (graph_of (valued W.value a.now)) x y w ↔ Rel W.KIND (graph_of (valued W.value (machine_of c.machine))) x y w) }
 {
+    let _states = a.states();
     let marks = useful(alloc, a)?;
-    let connected = connect_marked(alloc, a, marks.as_slice())?;
-    Ok(connected)
+    let machine = trim_marked(alloc, a, marks.as_slice())?;
+    let kept = list_marked(alloc, marks.as_slice())?;
+    Ok(Connected { machine, kept })
 }
 
 /// The machine with just the states of `a` that some successful path meets, in their order, and the arcs between
@@ -177,9 +218,9 @@ pub fn connect<W: Weight>(alloc: Global, a: &Fst<W>) -> Result<Fst<W>, AllocErro
     ensures paths { IfOk result (λ c. (h : IsConnected (valued W.value a.now) (valued W.value c)) → KeepsPaths W.KIND (valued W.value a.now) (valued W.value c) h.kept) }
     ensures relation { IfOk result (λ c. (x y : List ℕ) (w : Cost) → Rel W.KIND (graph_of (valued W.value a.now)) x y w ↔ Rel W.KIND (graph_of (valued W.value c)) x y w) }
 {
-    let connected = connect_kept(alloc, a)?;
-    let Connected { machine, kept: _ } = connected;
-    Ok(machine)
+    let marks = useful(alloc, a)?;
+    let connected = connect_marked(alloc, a, marks.as_slice())?;
+    Ok(connected)
 }
 
 /// The connected machine, as `connect` gives it, of a machine that is given away. A machine all of whose states are useful
@@ -197,6 +238,5 @@ pub fn into_connected<W: Weight>(alloc: Global, a: Fst<W>) -> Result<Fst<W>, All
         return Ok(a);
     }
     let connected = connect_marked(alloc, &a, marks.as_slice())?;
-    let Connected { machine, kept: _ } = connected;
-    Ok(machine)
+    Ok(connected)
 }

@@ -13,7 +13,7 @@ pub returns-then-all_marked-clause-machine : goal.returns-then-all_marked-clause
 returns-then-all_marked-clause-machine g c =
     let marks = c.in_ok-marks.marks.items in
     let every : All (λ mark. mark ≡ true) marks = subst (λ (ms : List Bool). All (λ mark. mark ≡ true) ms) c.as_slice.ensures.value (c.all_marked.ensures.0 c.if-all_marked.true) in
-    whole_connected g.W.Weight.value c.args.a marks c.states-states.ensures.machine c.in_ok-marks.ensures.size c.in_ok-marks.ensures.marks every
+    (whole_connected g.W.Weight.value c.args.a marks c.states-states.ensures.machine c.in_ok-marks.ensures.size c.in_ok-marks.ensures.marks every).0
 
 pub returns-then-all_marked-clause-paths : goal.returns-then-all_marked-clause-paths
 returns-then-all_marked-clause-paths g c h = connected_keeps (valued g.W.Weight.value c.args.a) (valued g.W.Weight.value c.args.a) h g.W.Weight.KIND
@@ -22,8 +22,11 @@ pub connect_marked-requires-clause-useful : goal.connect_marked-requires-clause-
 connect_marked-requires-clause-useful g c =
     subst (λ (ms : List Bool). (p : ℕ) → Decides (get_or ms p false) (IsUseful (graph_of (valued g.W.Weight.value c.args.a)) p)) (sym c.as_slice-2.ensures.value) c.in_ok-marks.ensures.marks
 
+pub returns-clause-machine : goal.returns-clause-machine
+returns-clause-machine g c = c.in_ok-connected.ensures.0
+
 pub returns-clause-paths : goal.returns-clause-paths
-returns-clause-paths g c h = connected_keeps (valued g.W.Weight.value c.args.a) (valued g.W.Weight.value c.in_ok-connected.connected.machine) h g.W.Weight.KIND
+returns-clause-paths g c h = connected_keeps (valued g.W.Weight.value c.args.a) (valued g.W.Weight.value c.in_ok-connected.connected) h g.W.Weight.KIND
 
 pub returns-clause-relation : goal.returns-clause-relation
-returns-clause-relation g c x y w = connected-Rel (valued g.W.Weight.value c.args.a) (valued g.W.Weight.value c.in_ok-connected.connected.machine) c.in_ok-connected.ensures.0 g.W.Weight.KIND x y w
+returns-clause-relation g c x y w = connected-Rel (valued g.W.Weight.value c.args.a) (valued g.W.Weight.value c.in_ok-connected.connected) c.in_ok-connected.ensures.0 g.W.Weight.KIND x y w
