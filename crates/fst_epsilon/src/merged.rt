@@ -11,7 +11,7 @@ use indexmap::IndexSet;
 use std::alloc::{AllocError, Global};
 
 /// Up to so many arcs are looked through one by one; with more they have a table.
-const FEW: usize = 64;
+const FEW: usize = 32;
 
 /// What makes arcs alike: their labels and their next states.
 #[derive(Clone, Copy, PartialEq, Eq, Hash)]
