@@ -61,7 +61,8 @@ pub record IsSilentCycle (kind : ArcType) (g : Graph ℕ) (q : ℕ) (steps : Lis
   pub same : written steps ≡ places cycle
 
 -- What a search from q along epsilon arcs has ended with.
-pub record Searched {V : Type 0} (kind : ArcType) (value : V → Cost) (states : List (State V)) (q : ℕ) (nodes : List (Node Cost)) (members met : List ℕ) (answer : Option (List Step)) : Type 0 where
+pub record Searched {V : Type 0} (kind : ArcType) (value : V → Cost) (states : List (State V)) (q : ℕ)
+    (nodes : List (Node Cost)) (members met : List ℕ) (answer : Option (List Step)) : Type 0 where
   pub source : ℕ → Cost
   pub only : IsOnly kind source q
   pub solves : Solves kind (IsHop value [] (epsilon_links states)) source FromStart (length states) 1000000000000000000 nodes members met answer
