@@ -1,15 +1,20 @@
 -- A search along epsilon arcs from one state.
-use Rattle.std.proofs.Common.{◌≡◌, ◌⊎◌, inl, inr, ℕ, ◌*◌, Bool, true, List, [], ◌∷◌, length, map, eqb-true, eq-eqb, get_or, sym, refl, ap, ◌∙◌, subst, subst₂}
+use Rattle.std.proofs.Common.{◌≡◌, ◌⊎◌, inl, inr, ℕ, ◌*◌, ◌<◌, Bool, true, List, [], ◌∷◌, Option, None, Some, length, map, eqb-true, eq-eqb, get_or, sym, refl, ap, ap₂, ◌∙◌, subst, subst₂}
 use Rattle.std.proofs.lemmas.Bool.{and_from, and_parts}
 use Rattle.std.proofs.lemmas.List.{length-map}
 use Rattle.std.specs.declared.cmp.Ordering.TheVariants.{Less}
-use Rattle.fst_semiring.specs.Cost.{Cost, cost_cmp, infinite}
+use Rattle.fst_semiring.specs.Cost.{Cost, cost_cmp, infinite, plus}
 use Rattle.fst_semiring.specs.declared.arc_type.ArcType.{ArcType}
 use Rattle.fst_semiring.specs.Semiring.{one_of, IsCost, Within}
 use Rattle.fst_machine.specs.BreadthFirst.{Has}
 use Rattle.fst_machine.specs.Machine.{Arc, IsMachine, Machine, valued, valued_arc}
 use Rattle.fst_machine.specs.Graph.{graph_of}
-use Rattle.fst_machine.specs.Distance.{EpsilonArc, IsDistance, IsLeast, Reaches}
+use Rattle.fst_machine.specs.Distance.{AllArcs, EpsilonArc, IsDistance, IsLeast, Reaches}
+use Rattle.fst_machine.specs.Letters.{product}
+use Rattle.fst_machine.specs.Paths.{IsPath, Leaves, Transition, letters}
+use Rattle.fst_semiring.proofs.OfKind.{IsCost-one}
+use Rattle.fst_semiring.proofs.Order.{plus_same}
+use Rattle.fst_semiring.proofs.Ranges.{Within-one}
 use Rattle.fst_semiring.proofs.Laws.{one_not_zero}
 use Rattle.fst_machine.proofs.Elements.{find_number}
 use Rattle.fst_machine.specs.declared.path.Step.{Step}
@@ -18,8 +23,8 @@ use Rattle.fst_trim.specs.Links.{Link, epsilon_links}
 use Rattle.fst_distance.specs.declared.direction.Direction.TheVariants.{FromStart}
 use Rattle.fst_distance.specs.ArcHops.{Along}
 use Rattle.fst_distance.specs.Beginning.{IsBlank, IsOnly, Sets}
-use Rattle.fst_distance.specs.Closure.{IsClosure, IsSilentCycle, Reached, Unmeeting, states_of}
-use Rattle.fst_distance.specs.Cycles.{IsFound}
+use Rattle.fst_distance.specs.Closure.{IsClosure, IsSilentCycle, Reached, Searched, Unmeeting, states_of}
+use Rattle.fst_distance.specs.Cycles.{IsFound, Solves}
 use Rattle.fst_distance.specs.Hops.{Hop, Arrives, IsHop, IsNet}
 use Rattle.fst_distance.specs.Searching.{Ended, Node, blank_node, distance_at}
 use Rattle.fst_distance.proofs.HopPaths.{forward_back, forward_path}
@@ -45,6 +50,40 @@ module _ {V : Type 0} (kind : ArcType) (value : V → Cost) (m : Machine V) (goo
       let same : length (epsilon_links m.states) ≡ length m.states = length-map m.states _ in
       subst₂ (λ (ms : List Bool) (ls : List (List (Link V))). IsNet (IsHop value ms ls) (length ls)) (sym none) (sym are)
       (subst (λ (n : ℕ). IsNet (IsHop value [] (epsilon_links m.states)) n) (sym same) (along_net value m [] good has_both_epsilons))
+
+  -- a state that no epsilon arc leaves reaches itself alone
+  module _ (q : ℕ) (none : get_or (epsilon_links m.states) q [] ≡ []) where
+    no_arc : (t : Transition ℕ) → Leaves (graph_of (valued value m)) q t → EpsilonArc t.arc → ⊥
+    no_arc t leaves class =
+        let hop = silent_goes (record { from = q; to = t.arc.next; place = t.place; weight = t.arc.weight }) (record { arc = t.arc; there = leaves.1; class = class; next = refl; weight = refl }) in
+        subst (λ (ls : List (Link V)). Has ls hop.link) none hop.there
+
+    stays : (p : ℕ) (c : Cost) → Reaches kind (graph_of (valued value m)) EpsilonArc q p c → (q ≡ p) × (c ≡ one_of kind)
+    stays p c r = by r.path r.leads r.class r.weight
+      where
+        by : (path : List (Transition ℕ)) → IsPath (graph_of (valued value m)) q path p → AllArcs EpsilonArc path → c ≡ product kind (letters path) → (q ≡ p) × (c ≡ one_of kind)
+        by [] leads class weight = (leads, weight)
+        by (t ∷ path) leads class weight = absurd (no_arc t leads.0 class.0)
+
+    here : (one : Cost) → one ≡ one_of kind → IsDistance kind (graph_of (valued value m)) EpsilonArc q q one
+    here one is = inr (
+      record { path = []; leads = refl; class = tt; weight = is },
+      λ v r. ap₂ plus is (stays q v r).1 ∙ (plus_same (one_of kind) ∙ sym is),
+    )
+
+    pub silent_alone : (one : Cost) → one ≡ one_of kind → q < length m.states → IsClosure kind (graph_of (valued value m)) q (length m.states * 1000000000000000000) (record { state = q; distance = one } ∷ [])
+    silent_alone one is low = record {
+      apart = (λ has. has, tt);
+      distances = λ r has. by r has (IsDistance kind (graph_of (valued value m)) EpsilonArc q r.state r.distance) (λ e. subst (λ (s : Reached Cost). IsDistance kind (graph_of (valued value m)) EpsilonArc q s.state s.distance) e (here one is));
+      finite = λ r has zero_here. by r has ⊥ (λ e. one_not_zero kind (sym is ∙ (ap (λ (s : Reached Cost). s.distance) e ∙ zero_here)));
+      numbers = λ r has. by r has (Within (length m.states * 1000000000000000000) r.distance) (λ e. subst (λ (s : Reached Cost). Within (length m.states * 1000000000000000000) s.distance) e (subst (Within (length m.states * 1000000000000000000)) (sym is) (Within-one (length m.states * 1000000000000000000) kind)));
+      kinds = λ r has. by r has (IsCost kind r.distance) (λ e. subst (λ (s : Reached Cost). IsCost kind s.distance) e (subst (IsCost kind) (sym is) (IsCost-one kind)));
+      all = λ p c reaches. inl (stays p c reaches).0;
+    }
+      where
+        by : (r : Reached Cost) → Has (record { state = q; distance = one } ∷ []) r → (P : Type 0) → (record { state = q; distance = one } ≡ r → P) → P
+        by r (inl e) P f = f e
+        by r (inr none) P f = absurd none
 
   -- One at the state from which the search began
   pub only_there : (q : ℕ) (one : Cost) (nodes after : List (Node Cost)) → one ≡ one_of kind → IsBlank (length m.states) nodes → Sets q one nodes after → IsOnly kind (distance_at after) q
@@ -109,3 +148,20 @@ module _ {V : Type 0} (kind : ArcType) (value : V → Cost) (m : Machine V) (goo
             not_listed : Has [] p ⊎ Has (states_of list) p → ⊥
             not_listed (inl h) = h
             not_listed (inr h) = none h
+
+  -- what a search that has ended gives
+  module _ (q : ℕ) (nodes : List (Node Cost)) (members met : List ℕ) (answer : Option (List Step)) (s : Searched kind value m.states q nodes members met answer) where
+    as_solved : (r : Option (List Step)) → answer ≡ r → Solves kind (IsHop value [] (epsilon_links m.states)) s.source FromStart (length m.states) 1000000000000000000 nodes members met r
+    as_solved r is = subst (λ (r : Option (List Step)). Solves kind (IsHop value [] (epsilon_links m.states)) s.source FromStart (length m.states) 1000000000000000000 nodes members met r) is s.solves
+
+    pub searched_cycle : (steps : List Step) → answer ≡ Some steps → IsSilentCycle kind (graph_of (valued value m)) q steps
+    searched_cycle steps is = silent_cycle s.source q s.only steps (as_solved (Some steps) is)
+
+    pub searched_ended : answer ≡ None → (members ≡ []) × Ended kind (IsHop value [] (epsilon_links m.states)) s.source (length m.states) 1000000000000000000 nodes met
+    searched_ended is = as_solved None is
+
+    pub searched_closure : answer ≡ None → (after : List (Node Cost)) (list : List (Reached Cost)) → Unmeeting nodes after met [] list → IsClosure kind (graph_of (valued value m)) q (length m.states * 1000000000000000000) list
+    searched_closure is after list u = silent_closure s.source q s.only 1000000000000000000 nodes after met list (searched_ended is).1 u
+
+    pub searched_blank : answer ≡ None → (after : List (Node Cost)) (list : List (Reached Cost)) → Unmeeting nodes after met [] list → IsBlank (length m.states) after
+    searched_blank is after list u = silent_blank s.source q s.only 1000000000000000000 nodes after met list (searched_ended is).1 u

@@ -1,5 +1,5 @@
 -- The states that epsilon arcs reach from a state, with their distances.
-use Rattle.std.specs.Prelude.{◌≡◌, ◌⊎◌, ℕ, List, get_or, length, map}
+use Rattle.std.specs.Prelude.{◌≡◌, ◌⊎◌, ℕ, List, [], Option, get_or, length, map}
 use Rattle.fst_semiring.specs.Cost.{Cost, infinite}
 use Rattle.fst_semiring.specs.declared.arc_type.ArcType.{ArcType}
 use Rattle.fst_semiring.specs.Semiring.{IsCost, Within}
@@ -10,6 +10,12 @@ use Rattle.fst_machine.specs.Paths.{Transition, places}
 use Rattle.fst_machine.specs.Steps.{written}
 use Rattle.fst_machine.specs.declared.path.Step.{Step}
 use Rattle.fst_machine.specs.Distance.{AllArcs, EpsilonArc, IsDistance, Reaches}
+use Rattle.fst_machine.specs.Machine.{State}
+use Rattle.fst_trim.specs.Links.{epsilon_links}
+use Rattle.fst_distance.specs.declared.direction.Direction.TheVariants.{FromStart}
+use Rattle.fst_distance.specs.Beginning.{IsOnly}
+use Rattle.fst_distance.specs.Cycles.{Solves}
+use Rattle.fst_distance.specs.Hops.{IsHop}
 use Rattle.fst_distance.specs.Searching.{Node, blank_node, distance_at}
 
 -- a state and its distance
@@ -53,3 +59,10 @@ pub record IsSilentCycle (kind : ArcType) (g : Graph ℕ) (q : ℕ) (steps : Lis
   pub class : AllArcs EpsilonArc cycle
   pub improves : IsImprovingCycle g kind state cycle
   pub same : written steps ≡ places cycle
+
+-- What a search from q along epsilon arcs has ended with.
+pub record Searched {V : Type 0} (kind : ArcType) (value : V → Cost) (states : List (State V)) (q : ℕ)
+    (nodes : List (Node Cost)) (members met : List ℕ) (answer : Option (List Step)) : Type 0 where
+  pub source : ℕ → Cost
+  pub only : IsOnly kind source q
+  pub solves : Solves kind (IsHop value [] (epsilon_links states)) source FromStart (length states) 1000000000000000000 nodes members met answer

@@ -1,19 +1,19 @@
 -- Arcs are put beside what makes them alike.
-use Rattle.std.proofs.Common.{◌≡◌, ℕ, ◌+◌, ◌&&◌, ◌||◌, Bool, true, false, true≢false, cond, if◌then◌else◌, zero, suc, List, [], ◌∷◌, ◌++◌, eqb, eqb-true, eq-eqb, map, set, get_or, refl, sym, ap, ◌∙◌, subst, arith}
+use Rattle.std.proofs.Common.{◌≡◌, ℕ, ◌+◌, ◌≤◌, ◌&&◌, ◌||◌, Bool, true, false, true≢false, cond, if◌then◌else◌, zero, suc, List, [], ◌∷◌, ◌++◌, Option, None, Some, eqb, eqb-true, eq-eqb, length, map, set, get_or, slice_get, take, refl, sym, ap, ◌∙◌, subst, arith}
 use Rattle.std.specs.Prelude.{not}
 use Rattle.std.specs.List.{list_any, position_or_len}
 use Rattle.std.proofs.lemmas.Bool.{and_from, and_parts}
 use Rattle.indexmap.specs.IndexSet.{insert_key}
-use Rattle.std.proofs.lemmas.List.{map-append}
+use Rattle.std.proofs.lemmas.List.{length-map, map-append, take_all}
+use Rattle.std.proofs.lemmas.List.Folds.{list_any-append}
+use Rattle.std.proofs.lemmas.Option.{same_Some, slice_get_within}
 use Rattle.fst_semiring.specs.Cost.{Cost, plus}
 use Rattle.fst_machine.specs.Machine.{Arc, valued_arc}
+use Rattle.fst_machine.proofs.Arcs.{at_mapped}
+use Rattle.fst_machine.proofs.Narrowing.{taken}
 use Rattle.fst_epsilon.specs.Construction.{is_alike, put_arc}
-use Rattle.fst_epsilon.specs.Merging.{ArePaired, key_of}
+use Rattle.fst_epsilon.specs.Merging.{ArePaired, Betters, HasNoKey, IsFirstWithKey, key_of, same_key}
 use Rattle.fst_epsilon.specs.declared.merged.ArcKey.{ArcKey}
-
--- what `==` answers of keys
-abbrev pub same_key : ArcKey → ArcKey → Bool
-same_key a b = eqb a.ilabel b.ilabel && (eqb a.olabel b.olabel && eqb a.next b.next)
 
 -- two tests that say yes to the same say the same
 same_test : (s t : Bool) → (s ≡ true → t ≡ true) → (t ≡ true → s ≡ true) → s ≡ t
@@ -91,3 +91,44 @@ module _ {V : Type 0} (value : V → Cost) (b : Arc V ℕ) where
   -- an arc with the key of another and the better weight
   pub bettered : (a c : Arc V ℕ) → key_of c ≡ key_of a → value c.weight ≡ plus (value a.weight) (value b.weight) → valued_arc value c ≡ record (valued_arc value a) { weight = plus (value a.weight) (value b.weight) }
   bettered a c same weight i = record { ilabel = (same i).ilabel; olabel = (same i).olabel; weight = weight i; next = (same i).next }
+
+  -- the first that it is like is made better
+  pub put_better : (arcs new : List (Arc V ℕ)) (place : ℕ) (other : Cost) → other ≡ value b.weight → met arcs ≡ true → place ≡ found arcs → Betters value place other arcs new → Put arcs ≡ map (valued_arc value) new
+  put_better arcs new place other is e at one =
+      put_old arcs place one.arc one.arc e at (bettered (get_or arcs place one.arc) one.arc one.same (one.weight ∙ ap (plus (value (get_or arcs place one.arc).weight)) is))
+      ∙ ap (map (valued_arc value)) (sym one.items)
+
+-- ---- the first arc with a key, looked for from the front
+
+module _ (key : ArcKey) where
+  -- one more that has another key
+  pub none_more : {V : Type 0} (arcs : List (Arc V ℕ)) (i : ℕ) (a : Arc V ℕ) → slice_get arcs i ≡ Some a → same_key key (key_of a) ≡ false
+      → list_any (same_key key) (take i (map key_of arcs)) ≡ false → list_any (same_key key) (take (i + 1) (map key_of arcs)) ≡ false
+  none_more arcs i a there other none =
+      ap (list_any (same_key key)) (taken key_of arcs i a there)
+      ∙ (list_any-append (same_key key) (take i (map key_of arcs)) (key_of a ∷ [])
+      ∙ (ap (λ (t : Bool). t || list_any (same_key key) (key_of a ∷ [])) none ∙ ap (λ (t : Bool). t || false) other))
+
+  first_found : (keys : List ArcKey) (i : ℕ) (k : ArcKey) → slice_get keys i ≡ Some k → same_key key k ≡ true → list_any (same_key key) (take i keys) ≡ false
+      → (list_any (same_key key) keys ≡ true) × (i ≡ position_or_len (same_key key) keys)
+  first_found [] i k there hit none = absurd (let wrong : ◌≡◌ {A = Option ArcKey} None (Some k) = there in cc)
+  first_found (z ∷ keys) zero k there hit none =
+      let here : same_key key z ≡ true = ap (same_key key) (same_Some z k there) ∙ hit in
+      (ap (λ (t : Bool). t || list_any (same_key key) keys) here, sym (ap (λ (t : Bool). cond (not t) (1 + position_or_len (same_key key) keys) 0) here))
+  first_found (z ∷ keys) (suc i) k there hit none = by (same_key key z) none (first_found keys i k there hit)
+    where
+      by : (t : Bool) → (t || list_any (same_key key) (take i keys)) ≡ false
+          → (list_any (same_key key) (take i keys) ≡ false → (list_any (same_key key) keys ≡ true) × (i ≡ position_or_len (same_key key) keys))
+          → ((t || list_any (same_key key) keys) ≡ true) × (suc i ≡ cond (not t) (1 + position_or_len (same_key key) keys) 0)
+      by true e rest = absurd (true≢false e)
+      by false e rest = let r = rest e in (r.0, (let at = r.1 in omega (arith, at)))
+
+  pub found_here : {V : Type 0} (arcs : List (Arc V ℕ)) (i : ℕ) (a : Arc V ℕ) → slice_get arcs i ≡ Some a → same_key key (key_of a) ≡ true
+      → list_any (same_key key) (take i (map key_of arcs)) ≡ false → IsFirstWithKey key arcs i
+  found_here arcs i a there hit none =
+      let first = first_found (map key_of arcs) i (key_of a) (at_mapped key_of arcs i a there) hit none in
+      record { low = slice_get_within arcs i a there; met = first.0; first = first.1 }
+
+  -- none of all
+  pub all_none : {V : Type 0} (arcs : List (Arc V ℕ)) (i : ℕ) → length arcs ≤ i → list_any (same_key key) (take i (map key_of arcs)) ≡ false → HasNoKey key arcs
+  all_none arcs i high none = ap (list_any (same_key key)) (sym (take_all i (map key_of arcs) (let size = length-map arcs key_of in omega (arith, high, size)))) ∙ none

@@ -3,7 +3,7 @@ use Rattle.std.proofs.Common.{◌≡◌, inl, inr, ℕ, ◌+◌, ◌*◌, ◌<�
 use Rattle.std.specs.List.{All}
 use Rattle.std.specs.Prelude.{IfErr, IfOk, OnOk}
 use Rattle.std.specs.List.Sorted.{IsNonDecreasingBy, IsPermutation}
-use Rattle.std.proofs.lemmas.List.{length-append}
+use Rattle.std.proofs.lemmas.List.{length-append, length-map}
 use Rattle.std.proofs.lemmas.List.Sorted.{IsPermutation-map}
 use Rattle.std.proofs.lemmas.Option.{get_or_from_slice_get, slice_get_within}
 use Rattle.fst_semiring.specs.Cost.{Cost, infinite}
@@ -13,21 +13,22 @@ use Rattle.fst_semiring.proofs.Ranges.{Within-more}
 use Rattle.fst_machine.specs.BreadthFirst.{Has}
 use Rattle.fst_machine.specs.Cycles.{IsAccessible}
 use Rattle.fst_machine.specs.Graph.{Graph, graph_of}
-use Rattle.fst_machine.specs.Machine.{IsMachine, Machine, State, most_arcs, most_states}
+use Rattle.fst_machine.specs.Machine.{IsMachine, Machine, State, most_arcs, most_states, valued, valued_state}
 use Rattle.fst_machine.specs.Narrowing.{IsFirstPast}
 use Rattle.fst_machine.specs.declared.path.Step.{Step}
 use Rattle.fst_machine.proofs.Arcs.{mapped_at}
 use Rattle.fst_machine.proofs.PathParts.{IsPath-append}
+use Rattle.fst_machine.proofs.Valued.{IsMachine-unvalued, IsMachine-valued}
 use Rattle.fst_distance.specs.Closure.{IsClosure, IsSilentCycle, Reached, valued_reached}
-use Rattle.fst_epsilon.specs.Answers.{IsFine, IsImprovingSilently, IsRemovedMachine, IsRemovedState, Stops}
-use Rattle.fst_epsilon.specs.Construction.{IsClosureList, best_final, collected, merged}
+use Rattle.fst_epsilon.specs.Answers.{IsFine, IsImprovingSilently, IsRemovedMachine, IsRemovedState, KeepsWeights, Stops}
+use Rattle.fst_epsilon.specs.Construction.{IsClosureList, IsRemoved, best_final, collected, merged}
 use Rattle.fst_epsilon.specs.Gathering.{pairs_of, rank}
 use Rattle.fst_epsilon.specs.Making.{IsMade, IsRemoving}
 use Rattle.fst_epsilon.specs.declared.fault.EpsilonFault.{EpsilonFault}
 use Rattle.fst_epsilon.specs.declared.fault.EpsilonFault.TheVariants.{Overflow, TooManyArcs}
 use Rattle.fst_epsilon.proofs.Closures.{Stands, all_from, all_has, all_stand, closure_list, pairs_same}
 use Rattle.fst_epsilon.proofs.Exact.{least_reached}
-use Rattle.fst_epsilon.proofs.Finished.{path_low, removed_fair, removed_machine}
+use Rattle.fst_epsilon.proofs.Finished.{path_low, removed_fair, removed_graph, removed_keeps, removed_machine}
 use Rattle.fst_epsilon.proofs.Growing.{removed_more}
 use Rattle.fst_epsilon.proofs.OneAnswer.{fine_passes}
 
@@ -138,6 +139,46 @@ module _ (kind : ArcType) (m : Machine Cost) (good : IsMachine (λ (v : Cost). v
 
   pub fine_machine : (h : Machine Cost) → IsFine kind m h → IsMachine (λ (v : Cost). v) h
   fine_machine h fine = removed_machine m good kind h fine.removed fine.few
+
+-- ---- the whole, of states as they are kept
+
+module _ {V : Type 0} (value : V → Cost) (kind : ArcType) (given : Machine V) (machine : IsMachine value given) (kept : List (State V)) (total : ℕ) (overflow : Option ℕ)
+    (r : IsRemoving kind (graph_of (valued value given)) (length given.states) (map (valued_state value) kept) total overflow) where
+  good_given : IsMachine (λ (v : Cost). v) (valued value given)
+  good_given = IsMachine-valued value given machine
+
+  same_size : length given.states ≡ length (valued value given).states
+  same_size = sym (length-map given.states (valued_state value))
+
+  removing_as : (o : Option ℕ) → overflow ≡ o → IsRemoving kind (graph_of (valued value given)) (length given.states) (map (valued_state value) kept) total o
+  removing_as o is = subst (λ (o : Option ℕ). IsRemoving kind (graph_of (valued value given)) (length given.states) (map (valued_state value) kept) total o) is r
+
+  pub ends_many : most_arcs < total → Stops kind (valued value given) TooManyArcs
+  ends_many high = removed_many kind (valued value given) good_given (length given.states) same_size (map (valued_state value) kept) total overflow r high
+
+  pub ends_out : (state : ℕ) → overflow ≡ Some state → total ≤ most_arcs → Stops kind (valued value given) (Overflow state)
+  ends_out state is low = removed_out kind (valued value given) good_given (length given.states) same_size (map (valued_state value) kept) total state (removing_as (Some state) is) low
+
+  module _ (is : overflow ≡ None) (low : total ≤ most_arcs) (start : Option ℕ) (same : start ≡ given.start) where
+    abbrev made : Machine V
+    made = record { start = start; states = kept }
+
+    made_fine : IsFine kind (valued value given) (valued value made)
+    made_fine = subst (λ (o : Option ℕ). IsFine kind (valued value given) (record { start = o; states = map (valued_state value) kept })) (sym same)
+        (removed_fine kind (valued value given) good_given (length given.states) same_size (map (valued_state value) kept) total (removing_as None is) low)
+
+    pub ends_machine : IsMachine value made
+    ends_machine = IsMachine-unvalued value made (fine_machine kind (valued value given) good_given (length given.states) same_size (map (valued_state value) kept) total (valued value made) made_fine)
+
+    module _ (h : Machine V) (is_made : h ≡ made) where
+      pub ends_fine : IsFine kind (valued value given) (valued value h)
+      ends_fine = subst (λ (h : Machine V). IsFine kind (valued value given) (valued value h)) (sym is_made) made_fine
+
+      pub ends_keeps : KeepsWeights kind (valued value given) (valued value h)
+      ends_keeps = removed_keeps (valued value given) good_given kind (valued value h) ends_fine.removed
+
+      pub ends_graph : IsRemoved kind (graph_of (valued value given)) (graph_of (valued value h))
+      ends_graph = removed_graph (valued value given) good_given kind (valued value h) ends_fine.removed
 
 -- nothing stands against what is made
 pub passes_ok : {X E : Type 0} (kind : ArcType) (m : Machine Cost) (view : X → Machine Cost) (r : Result X E) → IfOk r (λ x. IsFine kind m (view x)) → OnOk r ((fault : EpsilonFault) → Stops kind m fault → ⊥)

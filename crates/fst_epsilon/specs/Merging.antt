@@ -1,5 +1,6 @@
 -- Arcs beside what makes them alike.
-use Rattle.std.specs.Prelude.{◌≡◌, ℕ, List, get_or, map, set}
+use Rattle.std.specs.Prelude.{◌≡◌, ◌<◌, ◌&&◌, ℕ, Bool, false, true, List, get_or, length, map, nat_eq, set}
+use Rattle.std.specs.List.{list_any, position_or_len}
 use Rattle.fst_semiring.specs.Cost.{Cost, plus}
 use Rattle.fst_machine.specs.Machine.{Arc}
 use Rattle.fst_epsilon.specs.declared.merged.ArcKey.{ArcKey}
@@ -11,6 +12,24 @@ key_of a = record { ilabel = a.ilabel; olabel = a.olabel; next = a.next }
 -- the keys are those of the arcs, in order
 abbrev pub ArePaired : {V : Type 0} → List ArcKey → List (Arc V ℕ) → Type 0
 ArePaired keys arcs = keys ≡ map key_of arcs
+
+-- where they are not few
+abbrev pub ArePairedUnless : {V : Type 0} → Bool → List ArcKey → List (Arc V ℕ) → Type 0
+ArePairedUnless few keys arcs = few ≡ false → ArePaired keys arcs
+
+-- what `==` answers of keys
+abbrev pub same_key : ArcKey → ArcKey → Bool
+same_key a b = nat_eq a.ilabel b.ilabel && (nat_eq a.olabel b.olabel && nat_eq a.next b.next)
+
+-- no arc has this key
+abbrev pub HasNoKey : {V : Type 0} → ArcKey → List (Arc V ℕ) → Type 0
+HasNoKey key arcs = list_any (same_key key) (map key_of arcs) ≡ false
+
+-- The arc in this place is the first that has this key.
+pub record IsFirstWithKey {V : Type 0} (key : ArcKey) (arcs : List (Arc V ℕ)) (place : ℕ) : Type 0 where
+  pub low : place < length arcs
+  pub met : list_any (same_key key) (map key_of arcs) ≡ true
+  pub first : place ≡ position_or_len (same_key key) (map key_of arcs)
 
 -- The arc in this place has the better of its own weight and this one.
 pub record Betters {V : Type 0} (value : V → Cost) (place : ℕ) (other : Cost) (old new : List (Arc V ℕ)) : Type 0 where

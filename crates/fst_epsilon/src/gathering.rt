@@ -7,7 +7,7 @@ ghost use Rattle.fst_machine.specs.Machine.{valued, valued_arc};
 ghost use Rattle.fst_distance.specs.Closure.{Reached as ReachedValue};
 ghost use Rattle.fst_epsilon.specs.Construction.{best_final, collected, merged, spoken};
 ghost use Rattle.fst_epsilon.specs.Gathering.{pairs_of};
-ghost use Rattle.fst_epsilon.specs.Merging.{ArePaired};
+ghost use Rattle.fst_epsilon.specs.Merging.{ArePairedUnless};
 
 use crate::merged::Merged;
 use fst_distance::Reached;
@@ -22,8 +22,8 @@ fn put_arcs<W: Weight>(
     distance: W::Wide,
 ) -> Result<(), AllocError>
     requires wide { IsWide (W.wide_value distance) }
-    requires paired { ArePaired out.old.keys.keys out.old.arcs.items }
-    ensures paired { OnOk result (ArePaired out.new.keys.keys out.new.arcs.items) }
+    requires paired { ArePairedUnless out.old.few out.old.keys.keys out.old.arcs.items }
+    ensures paired { OnOk result (ArePairedUnless out.new.few out.new.keys.keys out.new.arcs.items) }
     ensures arcs { OnOk result (map (valued_arc W.wide_value) out.new.arcs.items ≡ merged (map (valued_arc W.wide_value) out.old.arcs.items) (spoken W.KIND (W.wide_value distance) (map (valued_arc W.value) arcs.now))) }
 {
     for arc in arcs {
@@ -40,6 +40,27 @@ fn put_arcs<W: Weight>(
     Ok(())
 }
 
+/// How many of these arcs are not epsilon.
+fn count_arcs<V>(arcs: &[FstArc<V>]) -> usize {
+    let mut count = 0usize;
+    for arc in arcs {
+        count = count.saturating_add(usize::from((arc.ilabel | arc.olabel) != 0));
+    }
+    count
+}
+
+/// How many arcs the states of a closure have that are not epsilon. It reads what is then gone through, so that
+/// the memory of one state is waited for while that of the next is on its way.
+fn count_all<W: Weight>(fst: &Fst<W>, closure: &[Reached<W::Wide>]) -> usize
+    requires { All (λ (r : ReachedValue W.Wide). r.state < length fst.now.states) closure.now }
+{
+    let mut count = 0usize;
+    for item in closure {
+        count = count.saturating_add(count_arcs(fst.arcs(item.state)));
+    }
+    count
+}
+
 /// The arcs of a state by its closure, in order and merged, and its final weight.
 pub(crate) fn gather<W: Weight>(
     out: &mut Merged<W>,
@@ -51,7 +72,7 @@ pub(crate) fn gather<W: Weight>(
     ensures arcs { OnOk result (map (valued_arc W.wide_value) out.new.arcs.items ≡ merged [] (collected W.KIND (graph_of (valued W.value fst.now)) (pairs_of W.wide_value closure.now))) }
     ensures ends { IfOk result (λ last. W.wide_value last ≡ best_final W.KIND (graph_of (valued W.value fst.now)) (pairs_of W.wide_value closure.now)) }
 {
-    out.clear();
+    out.clear(count_all(fst, closure));
     let mut last = W::zero().widen();
     for item in closure {
         put_arcs(out, fst.arcs(item.state), item.distance)?;

@@ -1,17 +1,17 @@
 //! Arcs in the order in which they come, where arcs with equal labels and next states are one.
 
-ghost use Rattle.std.specs.Prelude.{◌≡◌, ◌<◌, [], OnOk, length, map};
+ghost use Rattle.std.specs.Prelude.{◌≡◌, ◌<◌, [], MatchOption, OnOk, length, map};
 ghost use Rattle.fst_machine.specs.Machine.{valued_arc};
 ghost use Rattle.fst_epsilon.specs.Construction.{put_arc};
-ghost use Rattle.fst_epsilon.specs.Merging.{ArePaired, Betters};
+ghost use Rattle.fst_epsilon.specs.Merging.{ArePaired, ArePairedUnless, Betters, HasNoKey, IsFirstWithKey, key_of, same_key};
 
-use fst_machine::WideArc;
+use fst_machine::{FstArc, WideArc};
 use fst_semiring::Weight;
 use indexmap::IndexSet;
 use std::alloc::{AllocError, Global};
 
-/// From how many arcs on a table is made anew and not cleared, since clearing takes the time of its greatest length.
-const LARGE: usize = 64;
+/// Up to so many arcs are looked through one by one; with more they have a table.
+const FEW: usize = 32;
 
 /// What makes arcs alike: their labels and their next states.
 #[derive(Clone, Copy, PartialEq, Eq, Hash)]
@@ -35,10 +35,74 @@ fn better<W: Weight>(arcs: &mut Vec<WideArc<W>>, place: usize, weight: W::Wide)
     };
 }
 
-/// Arcs no two of which are alike, in the order in which the first of each came. An arc is looked up by its hash.
+/// What makes an arc alike to others.
+fn arc_key<V: Copy>(arc: &FstArc<V>) -> ArcKey
+    ensures { result ≡ key_of arc.now }
+{
+    ArcKey {
+        ilabel: arc.ilabel,
+        olabel: arc.olabel,
+        next: arc.next,
+    }
+}
+
+/// Whether two keys are one.
+fn is_same(a: ArcKey, b: ArcKey) -> bool
+    ensures { result ≡ same_key a b }
+{
+    a.ilabel == b.ilabel && a.olabel == b.olabel && a.next == b.next
+}
+
+/// The place of the first of these arcs that has a key.
+fn place_of<V: Copy>(arcs: &[FstArc<V>], key: ArcKey) -> Option<usize>
+    ensures { MatchOption result (HasNoKey key arcs.now) (IsFirstWithKey key arcs.now) }
+{
+    for (place, arc) in arcs.iter().enumerate() {
+        if is_same(key, arc_key(arc)) {
+            return Some(place);
+        }
+    }
+    None
+}
+
+/// Puts an arc after the others, or its weight into the one that is like it, where it is better. The others are looked
+/// through one by one.
+fn put_by_place<W: Weight>(arcs: &mut Vec<WideArc<W>>, arc: WideArc<W>) -> Result<(), AllocError>
+    ensures { OnOk result (map (valued_arc W.wide_value) arcs.new.items ≡ put_arc (map (valued_arc W.wide_value) arcs.old.items) (valued_arc W.wide_value arc)) }
+{
+    match place_of(arcs.as_slice(), arc_key(&arc)) {
+        Some(place) => better::<W>(arcs, place, arc.weight),
+        None => arcs.push(arc)?,
+    }
+    Ok(())
+}
+
+/// Puts an arc after the others, or its weight into the one that is like it, where it is better. It is looked up by the
+/// hash of its key.
+fn put_by_key<W: Weight>(
+    keys: &mut IndexSet<ArcKey>,
+    arcs: &mut Vec<WideArc<W>>,
+    arc: WideArc<W>,
+) -> Result<(), AllocError>
+    requires paired { ArePaired keys.old.keys arcs.old.items }
+    ensures paired { OnOk result (ArePaired keys.new.keys arcs.new.items) }
+    ensures arcs { OnOk result (map (valued_arc W.wide_value) arcs.new.items ≡ put_arc (map (valued_arc W.wide_value) arcs.old.items) (valued_arc W.wide_value arc)) }
+{
+    let (place, new) = keys.insert_full(arc_key(&arc))?;
+    if new {
+        arcs.push(arc)?;
+    } else {
+        better::<W>(arcs, place, arc.weight);
+    }
+    Ok(())
+}
+
+/// Arcs no two of which are alike, in the order in which the first of each came.
 #[derive(Drop)]
 pub(crate) struct Merged<W: Weight> {
-    /// What makes them alike, arc for arc.
+    /// Whether they are few, and looked through one by one.
+    pub(crate) few: bool,
+    /// What makes them alike, arc for arc, where they are not few.
     pub(crate) keys: IndexSet<ArcKey>,
     /// The arcs.
     pub(crate) arcs: Vec<WideArc<W>>,
@@ -48,42 +112,37 @@ impl<W: Weight> Merged<W> {
     /// No arcs. Takes no memory.
     pub(crate) fn new(alloc: Global) -> Merged<W> {
         Merged {
+            few: true,
             keys: IndexSet::new(alloc),
             arcs: Vec::new(alloc),
         }
     }
 
-    /// Drops all arcs.
-    pub(crate) fn clear(&mut self)
+    /// Drops all arcs. So many are to come, or somewhat fewer: whether they are looked up in a table goes by this number.
+    ///
+    /// A table is made anew and not cleared, since clearing takes the time of its greatest length.
+    pub(crate) fn clear(&mut self, count: usize)
         ensures arcs { self.new.arcs.items ≡ [] }
-        ensures paired { ArePaired self.new.keys.keys self.new.arcs.items }
+        ensures paired { ArePairedUnless self.new.few self.new.keys.keys self.new.arcs.items }
     {
         let alloc = *self.arcs.allocator();
         self.arcs.clear();
-        if self.keys.len() < LARGE {
-            self.keys.clear();
-        } else {
+        self.few = count <= FEW;
+        if !self.few {
             self.keys = IndexSet::new(alloc);
         }
     }
 
     /// Puts an arc after the others, or its weight into the one that is like it, where it is better.
     pub(crate) fn put(&mut self, arc: WideArc<W>) -> Result<(), AllocError>
-        requires paired { ArePaired self.old.keys.keys self.old.arcs.items }
-        ensures paired { OnOk result (ArePaired self.new.keys.keys self.new.arcs.items) }
+        requires paired { ArePairedUnless self.old.few self.old.keys.keys self.old.arcs.items }
+        ensures paired { OnOk result (ArePairedUnless self.new.few self.new.keys.keys self.new.arcs.items) }
         ensures arcs { OnOk result (map (valued_arc W.wide_value) self.new.arcs.items ≡ put_arc (map (valued_arc W.wide_value) self.old.arcs.items) (valued_arc W.wide_value arc)) }
     {
-        let key = ArcKey {
-            ilabel: arc.ilabel,
-            olabel: arc.olabel,
-            next: arc.next,
-        };
-        let (place, new) = self.keys.insert_full(key)?;
-        if new {
-            self.arcs.push(arc)?;
+        if self.few {
+            put_by_place::<W>(&mut self.arcs, arc)
         } else {
-            better::<W>(&mut self.arcs, place, arc.weight);
+            put_by_key::<W>(&mut self.keys, &mut self.arcs, arc)
         }
-        Ok(())
     }
 }

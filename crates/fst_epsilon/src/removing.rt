@@ -77,7 +77,7 @@ fn put_all<W: Weight, Q: StateQueue>(
     let mut closures = Closures::new(alloc, fst)?;
     for state in 0..fst.states() {
         if !marks[state as usize] {
-            merged.clear();
+            merged.clear(0);
             put_state(output, state, W::zero().widen(), merged.arcs.as_slice())?;
             continue;
         }

@@ -1,170 +1,41 @@
-use Rattle.std.proofs.Common.{◌≡◌, ◌<◌, ℕ, Bool, List, [], Option, length, map, sym, ap, ◌∙◌, subst, subst₂, lit≤}
+use Rattle.std.proofs.Common.{◌≡◌, ◌<◌, ℕ, List, length, map, sym, ◌∙◌, subst}
 use Rattle.std.proofs.lemmas.List.{length-map}
-use Rattle.fst_semiring.specs.Semiring.{Within}
-use Rattle.fst_semiring.proofs.Ranges.{Within-one}
 use Rattle.fst_machine.specs.BreadthFirst.{Has}
-use Rattle.fst_distance.specs.Beginning.{IsBegun, IsBlank}
-use Rattle.fst_machine.specs.declared.path.Step.{Step}
-use Rattle.fst_trim.specs.Links.{Link, epsilon_links}
-use Rattle.fst_distance.specs.declared.direction.Direction.TheVariants.{FromStart}
 use Rattle.fst_distance.specs.Closure.{Unmeeting, valued_reached}
-use Rattle.fst_distance.specs.Cycles.{IsFound, Solves}
-use Rattle.fst_distance.specs.Hops.{IsHop}
-use Rattle.fst_distance.specs.Searching.{Ended, distance_at, valued_node}
-use Rattle.fst_distance.proofs.Begun.{blank_begun, searching_begins}
-use Rattle.fst_distance.proofs.Silent.{only_there, silent_blank, silent_closure, silent_cycle, silent_net}
+use Rattle.fst_distance.specs.Searching.{valued_node}
+use Rattle.fst_distance.proofs.Silent.{searched_blank, searched_closure, searched_cycle, searched_ended}
 use Rattle.fst_distance.proofs.closing.closure.Goals as goal
 
-pub returns-in_err-begin_at-clause-below : goal.returns-in_err-begin_at-clause-below
-returns-in_err-begin_at-clause-below g c = c.in_err-begin_at.ensures.below (length c.args.fst.now.states) c.requires.state (λ q has. absurd (subst (λ (ms : List ℕ). Has ms q) c.requires.empty has))
-
-pub solve-requires-clause-net : goal.solve-requires-clause-net
-solve-requires-clause-net g c = silent_net g.W.Weight.KIND g.W.Weight.value c.args.fst.now c.states-states.ensures.machine c.as_slice.result.now c.args.links.now (c.as_slice.ensures.value ∙ c.new-marks.ensures.items) c.requires.links
-
-pub solve-requires-clause-begun : goal.solve-requires-clause-begun
-solve-requires-clause-begun g c =
-    let kind = g.W.Weight.KIND in
-    let value = g.W.Weight.wide_value in
-    let n = length c.args.links.now in
-    let nodes = map (valued_node value) c.args.table.now.nodes.items in
-    let now = map (valued_node value) c.begin_at.new.table.nodes.items in
-    let same : length c.args.fst.now.states ≡ n = sym (ap length c.requires.links ∙ length-map c.args.fst.now.states _) in
-    let one : Within 1000000000000000000 (value c.widen.result) = subst (Within 1000000000000000000) (sym (c.widen.ensures.same ∙ c.one.ensures)) (Within-one 1000000000000000000 kind) in
-    let blank = blank_begun kind n 1000000000000000000 nodes (subst (λ (k : ℕ). IsBlank k nodes) same c.requires.blank) in
-    let start = subst₂ (λ (ms ls : List ℕ). IsBegun kind n 1000000000000000000 nodes ms ls) (sym c.requires.empty) (sym c.requires.met) blank in
-    let begun = c.in_ok-begin_at.ensures.begun n 1000000000000000000 one start in
-    (distance_at now, searching_begins kind n 1000000000000000000 (IsHop g.W.Weight.value c.as_slice.result.now c.args.links.now) now (g.Q.StateQueue.members c.begin_at.new.queue) c.begin_at.new.table.met.items (lit≤ tt) begun)
-
 pub returns-in-Some-clause-cycle : goal.returns-in-Some-clause-cycle
-returns-in-Some-clause-cycle g c =
-    let kind = g.W.Weight.KIND in
-    let value = g.W.Weight.wide_value in
-    let states = c.args.fst.now.states in
-    let n = length c.args.links.now in
-    let nodes = map (valued_node value) c.args.table.now.nodes.items in
-    let now = map (valued_node value) c.begin_at.new.table.nodes.items in
-    let same : length states ≡ n = sym (ap length c.requires.links ∙ length-map states _) in
-    let one : Within 1000000000000000000 (value c.widen.result) = subst (Within 1000000000000000000) (sym (c.widen.ensures.same ∙ c.one.ensures)) (Within-one 1000000000000000000 kind) in
-    let blank = blank_begun kind n 1000000000000000000 nodes (subst (λ (k : ℕ). IsBlank k nodes) same c.requires.blank) in
-    let start = subst₂ (λ (ms ls : List ℕ). IsBegun kind n 1000000000000000000 nodes ms ls) (sym c.requires.empty) (sym c.requires.met) blank in
-    let begun = c.in_ok-begin_at.ensures.begun n 1000000000000000000 one start in
-    let goes = IsHop g.W.Weight.value c.as_slice.result.now c.args.links.now in
-    let searching = searching_begins kind n 1000000000000000000 goes now (g.Q.StateQueue.members c.begin_at.new.queue) c.begin_at.new.table.met.items (lit≤ tt) begun in
-    let marks : c.as_slice.result.now ≡ [] = c.as_slice.ensures.value ∙ c.new-marks.ensures.items in
-    let only = only_there kind g.W.Weight.value c.args.fst.now c.states-states.ensures.machine c.args.state (value c.widen.result) nodes now (c.widen.ensures.same ∙ c.one.ensures) c.requires.blank c.in_ok-begin_at.ensures.sets in
-    let after = map (valued_node value) c.solve.new.table.nodes.items in
-    let solved = subst (λ (r : Option (List Step)). Solves kind goes (distance_at now) FromStart n 1000000000000000000 after (g.Q.StateQueue.members c.solve.new.queue) c.solve.new.table.met.items r) c.in-Some.is (c.in_ok-found.ensures.found (distance_at now) searching) in
-    silent_cycle kind g.W.Weight.value c.args.fst.now c.states-states.ensures.machine (distance_at now) c.args.state only c.in-Some.path
-    (subst₂ (λ (ms : List Bool) (ls : List (List (Link g.row.W.Denot))). IsFound kind (IsHop g.W.Weight.value ms ls) (distance_at now) FromStart c.in-Some.path) marks c.requires.links solved)
+returns-in-Some-clause-cycle g c = searched_cycle g.W.Weight.KIND g.W.Weight.value c.args.fst.now c.states-states.ensures.machine c.args.state _ _ _ _ c.in_ok-path.ensures.searched c.in-Some.path c.in-Some.is
 
 pub take_met-requires-clause-apart : goal.take_met-requires-clause-apart
-take_met-requires-clause-apart g c =
-    let kind = g.W.Weight.KIND in
-    let value = g.W.Weight.wide_value in
-    let states = c.args.fst.now.states in
-    let n = length c.args.links.now in
-    let nodes = map (valued_node value) c.args.table.now.nodes.items in
-    let now = map (valued_node value) c.begin_at.new.table.nodes.items in
-    let same : length states ≡ n = sym (ap length c.requires.links ∙ length-map states _) in
-    let one : Within 1000000000000000000 (value c.widen.result) = subst (Within 1000000000000000000) (sym (c.widen.ensures.same ∙ c.one.ensures)) (Within-one 1000000000000000000 kind) in
-    let blank = blank_begun kind n 1000000000000000000 nodes (subst (λ (k : ℕ). IsBlank k nodes) same c.requires.blank) in
-    let start = subst₂ (λ (ms ls : List ℕ). IsBegun kind n 1000000000000000000 nodes ms ls) (sym c.requires.empty) (sym c.requires.met) blank in
-    let begun = c.in_ok-begin_at.ensures.begun n 1000000000000000000 one start in
-    let goes = IsHop g.W.Weight.value c.as_slice.result.now c.args.links.now in
-    let searching = searching_begins kind n 1000000000000000000 goes now (g.Q.StateQueue.members c.begin_at.new.queue) c.begin_at.new.table.met.items (lit≤ tt) begun in
-    let marks : c.as_slice.result.now ≡ [] = c.as_slice.ensures.value ∙ c.new-marks.ensures.items in
-    let only = only_there kind g.W.Weight.value c.args.fst.now c.states-states.ensures.machine c.args.state (value c.widen.result) nodes now (c.widen.ensures.same ∙ c.one.ensures) c.requires.blank c.in_ok-begin_at.ensures.sets in
-    let after = map (valued_node value) c.solve.new.table.nodes.items in
-    let solved = subst (λ (r : Option (List Step)). Solves kind goes (distance_at now) FromStart n 1000000000000000000 after (g.Q.StateQueue.members c.solve.new.queue) c.solve.new.table.met.items r) c.in_default.is (c.in_ok-found.ensures.found (distance_at now) searching) in
-    solved.1.met_apart
+take_met-requires-clause-apart g c = (searched_ended g.W.Weight.KIND g.W.Weight.value c.args.fst.now c.states-states.ensures.machine c.args.state _ _ _ _ c.in_ok-path.ensures.searched c.in_default.is).1.met_apart
 
 pub take_met-requires-clause-low : goal.take_met-requires-clause-low
 take_met-requires-clause-low g c =
-    let kind = g.W.Weight.KIND in
-    let value = g.W.Weight.wide_value in
-    let states = c.args.fst.now.states in
-    let n = length c.args.links.now in
-    let nodes = map (valued_node value) c.args.table.now.nodes.items in
-    let now = map (valued_node value) c.begin_at.new.table.nodes.items in
-    let same : length states ≡ n = sym (ap length c.requires.links ∙ length-map states _) in
-    let one : Within 1000000000000000000 (value c.widen.result) = subst (Within 1000000000000000000) (sym (c.widen.ensures.same ∙ c.one.ensures)) (Within-one 1000000000000000000 kind) in
-    let blank = blank_begun kind n 1000000000000000000 nodes (subst (λ (k : ℕ). IsBlank k nodes) same c.requires.blank) in
-    let start = subst₂ (λ (ms ls : List ℕ). IsBegun kind n 1000000000000000000 nodes ms ls) (sym c.requires.empty) (sym c.requires.met) blank in
-    let begun = c.in_ok-begin_at.ensures.begun n 1000000000000000000 one start in
-    let goes = IsHop g.W.Weight.value c.as_slice.result.now c.args.links.now in
-    let searching = searching_begins kind n 1000000000000000000 goes now (g.Q.StateQueue.members c.begin_at.new.queue) c.begin_at.new.table.met.items (lit≤ tt) begun in
-    let marks : c.as_slice.result.now ≡ [] = c.as_slice.ensures.value ∙ c.new-marks.ensures.items in
-    let only = only_there kind g.W.Weight.value c.args.fst.now c.states-states.ensures.machine c.args.state (value c.widen.result) nodes now (c.widen.ensures.same ∙ c.one.ensures) c.requires.blank c.in_ok-begin_at.ensures.sets in
-    let after = map (valued_node value) c.solve.new.table.nodes.items in
-    let solved = subst (λ (r : Option (List Step)). Solves kind goes (distance_at now) FromStart n 1000000000000000000 after (g.Q.StateQueue.members c.solve.new.queue) c.solve.new.table.met.items r) c.in_default.is (c.in_ok-found.ensures.found (distance_at now) searching) in
-    let size : length c.solve.new.table.nodes.items ≡ n = sym (length-map c.solve.new.table.nodes.items (valued_node value)) ∙ solved.1.size in
-    subst (λ (k : ℕ). (q : ℕ) → Has c.solve.new.table.met.items q → q < k) (sym size) solved.1.met_low
+    let items = c.search_from.new.table.nodes.items in
+    let e = (searched_ended g.W.Weight.KIND g.W.Weight.value c.args.fst.now c.states-states.ensures.machine c.args.state _ _ _ _ c.in_ok-path.ensures.searched c.in_default.is).1 in
+    let size : length items ≡ length c.args.fst.now.states = sym (length-map items (valued_node g.W.Weight.wide_value)) ∙ e.size in
+    subst (λ (k : ℕ). (q : ℕ) → Has c.search_from.new.table.met.items q → q < k) (sym size) e.met_low
 
 pub returns-clause-closure : goal.returns-clause-closure
 returns-clause-closure g c =
-    let kind = g.W.Weight.KIND in
     let value = g.W.Weight.wide_value in
-    let states = c.args.fst.now.states in
-    let n = length c.args.links.now in
-    let nodes = map (valued_node value) c.args.table.now.nodes.items in
-    let now = map (valued_node value) c.begin_at.new.table.nodes.items in
-    let same : length states ≡ n = sym (ap length c.requires.links ∙ length-map states _) in
-    let one : Within 1000000000000000000 (value c.widen.result) = subst (Within 1000000000000000000) (sym (c.widen.ensures.same ∙ c.one.ensures)) (Within-one 1000000000000000000 kind) in
-    let blank = blank_begun kind n 1000000000000000000 nodes (subst (λ (k : ℕ). IsBlank k nodes) same c.requires.blank) in
-    let start = subst₂ (λ (ms ls : List ℕ). IsBegun kind n 1000000000000000000 nodes ms ls) (sym c.requires.empty) (sym c.requires.met) blank in
-    let begun = c.in_ok-begin_at.ensures.begun n 1000000000000000000 one start in
-    let goes = IsHop g.W.Weight.value c.as_slice.result.now c.args.links.now in
-    let searching = searching_begins kind n 1000000000000000000 goes now (g.Q.StateQueue.members c.begin_at.new.queue) c.begin_at.new.table.met.items (lit≤ tt) begun in
-    let marks : c.as_slice.result.now ≡ [] = c.as_slice.ensures.value ∙ c.new-marks.ensures.items in
-    let only = only_there kind g.W.Weight.value c.args.fst.now c.states-states.ensures.machine c.args.state (value c.widen.result) nodes now (c.widen.ensures.same ∙ c.one.ensures) c.requires.blank c.in_ok-begin_at.ensures.sets in
-    let after = map (valued_node value) c.solve.new.table.nodes.items in
-    let solved = subst (λ (r : Option (List Step)). Solves kind goes (distance_at now) FromStart n 1000000000000000000 after (g.Q.StateQueue.members c.solve.new.queue) c.solve.new.table.met.items r) c.in_default.is (c.in_ok-found.ensures.found (distance_at now) searching) in
-    let moved = subst₂ (λ (ms : List Bool) (ls : List (List (Link g.row.W.Denot))). Ended kind (IsHop g.W.Weight.value ms ls) (distance_at now) (length ls) 1000000000000000000 after c.solve.new.table.met.items) marks c.requires.links solved.1 in
-    let ended = subst (λ (k : ℕ). Ended kind (IsHop g.W.Weight.value [] (epsilon_links states)) (distance_at now) k 1000000000000000000 after c.solve.new.table.met.items) (length-map states _) moved in
-    let unmet = subst (λ (ms : List ℕ). Unmeeting after (map (valued_node value) c.take_met.new.table.nodes.items) c.solve.new.table.met.items ms (map (valued_reached value) c.in_ok-list.list.items)) c.in_ok-list.ensures.none c.in_ok-list.ensures.list in
-    silent_closure kind g.W.Weight.value c.args.fst.now c.states-states.ensures.machine (distance_at now) c.args.state only 1000000000000000000 after (map (valued_node value) c.take_met.new.table.nodes.items) c.solve.new.table.met.items (map (valued_reached value) c.in_ok-list.list.items) ended unmet
+    let nodes = map (valued_node value) c.search_from.new.table.nodes.items in
+    let after = map (valued_node value) c.take_met.new.table.nodes.items in
+    let list = map (valued_reached value) c.in_ok-list.list.items in
+    let unmet = subst (λ (ms : List ℕ). Unmeeting nodes after c.search_from.new.table.met.items ms list) c.in_ok-list.ensures.none c.in_ok-list.ensures.list in
+    searched_closure g.W.Weight.KIND g.W.Weight.value c.args.fst.now c.states-states.ensures.machine c.args.state nodes _ _ _ c.in_ok-path.ensures.searched c.in_default.is after list unmet
 
 pub returns-clause-blank : goal.returns-clause-blank
 returns-clause-blank g c =
-    let kind = g.W.Weight.KIND in
     let value = g.W.Weight.wide_value in
-    let states = c.args.fst.now.states in
-    let n = length c.args.links.now in
-    let nodes = map (valued_node value) c.args.table.now.nodes.items in
-    let now = map (valued_node value) c.begin_at.new.table.nodes.items in
-    let same : length states ≡ n = sym (ap length c.requires.links ∙ length-map states _) in
-    let one : Within 1000000000000000000 (value c.widen.result) = subst (Within 1000000000000000000) (sym (c.widen.ensures.same ∙ c.one.ensures)) (Within-one 1000000000000000000 kind) in
-    let blank = blank_begun kind n 1000000000000000000 nodes (subst (λ (k : ℕ). IsBlank k nodes) same c.requires.blank) in
-    let start = subst₂ (λ (ms ls : List ℕ). IsBegun kind n 1000000000000000000 nodes ms ls) (sym c.requires.empty) (sym c.requires.met) blank in
-    let begun = c.in_ok-begin_at.ensures.begun n 1000000000000000000 one start in
-    let goes = IsHop g.W.Weight.value c.as_slice.result.now c.args.links.now in
-    let searching = searching_begins kind n 1000000000000000000 goes now (g.Q.StateQueue.members c.begin_at.new.queue) c.begin_at.new.table.met.items (lit≤ tt) begun in
-    let marks : c.as_slice.result.now ≡ [] = c.as_slice.ensures.value ∙ c.new-marks.ensures.items in
-    let only = only_there kind g.W.Weight.value c.args.fst.now c.states-states.ensures.machine c.args.state (value c.widen.result) nodes now (c.widen.ensures.same ∙ c.one.ensures) c.requires.blank c.in_ok-begin_at.ensures.sets in
-    let after = map (valued_node value) c.solve.new.table.nodes.items in
-    let solved = subst (λ (r : Option (List Step)). Solves kind goes (distance_at now) FromStart n 1000000000000000000 after (g.Q.StateQueue.members c.solve.new.queue) c.solve.new.table.met.items r) c.in_default.is (c.in_ok-found.ensures.found (distance_at now) searching) in
-    let moved = subst₂ (λ (ms : List Bool) (ls : List (List (Link g.row.W.Denot))). Ended kind (IsHop g.W.Weight.value ms ls) (distance_at now) (length ls) 1000000000000000000 after c.solve.new.table.met.items) marks c.requires.links solved.1 in
-    let ended = subst (λ (k : ℕ). Ended kind (IsHop g.W.Weight.value [] (epsilon_links states)) (distance_at now) k 1000000000000000000 after c.solve.new.table.met.items) (length-map states _) moved in
-    let unmet = subst (λ (ms : List ℕ). Unmeeting after (map (valued_node value) c.take_met.new.table.nodes.items) c.solve.new.table.met.items ms (map (valued_reached value) c.in_ok-list.list.items)) c.in_ok-list.ensures.none c.in_ok-list.ensures.list in
-    silent_blank kind g.W.Weight.value c.args.fst.now c.states-states.ensures.machine (distance_at now) c.args.state only 1000000000000000000 after (map (valued_node value) c.take_met.new.table.nodes.items) c.solve.new.table.met.items (map (valued_reached value) c.in_ok-list.list.items) ended unmet
+    let nodes = map (valued_node value) c.search_from.new.table.nodes.items in
+    let after = map (valued_node value) c.take_met.new.table.nodes.items in
+    let list = map (valued_reached value) c.in_ok-list.list.items in
+    let unmet = subst (λ (ms : List ℕ). Unmeeting nodes after c.search_from.new.table.met.items ms list) c.in_ok-list.ensures.none c.in_ok-list.ensures.list in
+    searched_blank g.W.Weight.KIND g.W.Weight.value c.args.fst.now c.states-states.ensures.machine c.args.state nodes _ _ _ c.in_ok-path.ensures.searched c.in_default.is after list unmet
 
 pub returns-clause-empty : goal.returns-clause-empty
-returns-clause-empty g c =
-    let kind = g.W.Weight.KIND in
-    let value = g.W.Weight.wide_value in
-    let states = c.args.fst.now.states in
-    let n = length c.args.links.now in
-    let nodes = map (valued_node value) c.args.table.now.nodes.items in
-    let now = map (valued_node value) c.begin_at.new.table.nodes.items in
-    let same : length states ≡ n = sym (ap length c.requires.links ∙ length-map states _) in
-    let one : Within 1000000000000000000 (value c.widen.result) = subst (Within 1000000000000000000) (sym (c.widen.ensures.same ∙ c.one.ensures)) (Within-one 1000000000000000000 kind) in
-    let blank = blank_begun kind n 1000000000000000000 nodes (subst (λ (k : ℕ). IsBlank k nodes) same c.requires.blank) in
-    let start = subst₂ (λ (ms ls : List ℕ). IsBegun kind n 1000000000000000000 nodes ms ls) (sym c.requires.empty) (sym c.requires.met) blank in
-    let begun = c.in_ok-begin_at.ensures.begun n 1000000000000000000 one start in
-    let goes = IsHop g.W.Weight.value c.as_slice.result.now c.args.links.now in
-    let searching = searching_begins kind n 1000000000000000000 goes now (g.Q.StateQueue.members c.begin_at.new.queue) c.begin_at.new.table.met.items (lit≤ tt) begun in
-    let marks : c.as_slice.result.now ≡ [] = c.as_slice.ensures.value ∙ c.new-marks.ensures.items in
-    let only = only_there kind g.W.Weight.value c.args.fst.now c.states-states.ensures.machine c.args.state (value c.widen.result) nodes now (c.widen.ensures.same ∙ c.one.ensures) c.requires.blank c.in_ok-begin_at.ensures.sets in
-    let after = map (valued_node value) c.solve.new.table.nodes.items in
-    let solved = subst (λ (r : Option (List Step)). Solves kind goes (distance_at now) FromStart n 1000000000000000000 after (g.Q.StateQueue.members c.solve.new.queue) c.solve.new.table.met.items r) c.in_default.is (c.in_ok-found.ensures.found (distance_at now) searching) in
-    solved.0
+returns-clause-empty g c = (searched_ended g.W.Weight.KIND g.W.Weight.value c.args.fst.now c.states-states.ensures.machine c.args.state _ _ _ _ c.in_ok-path.ensures.searched c.in_default.is).0
