@@ -1,26 +1,22 @@
 -- The hops along the first arcs of best paths, and the words of best paths.
-use Rattle.std.proofs.Common.{◌≡◌, ◌≢◌, ◌⊎◌, inl, inr, ℕ, ◌<◌, ◌≤◌, zero, suc, true, List, [], ◌∷◌, Option, None, Some, length, map, get_or, slice_get, refl, sym, ap, subst, ◌∙◌, arith}
+use Rattle.std.proofs.Common.{◌≡◌, ◌⊎◌, inl, inr, ℕ, ◌<◌, ◌≤◌, zero, suc, true, List, [], ◌∷◌, Some, length, map, get_or, slice_get, refl, sym, ap, subst, ◌∙◌, arith}
 use Rattle.std.proofs.lemmas.Bool.{cases_lt}
 use Rattle.std.proofs.lemmas.List.{get_or_default, get_or_past, length-map}
 use Rattle.fst_semiring.specs.Cost.{Cost, infinite, plus}
 use Rattle.fst_semiring.specs.declared.arc_type.ArcType.{ArcType}
 use Rattle.fst_semiring.specs.Semiring.{cancels, times, IsCost}
-use Rattle.fst_semiring.proofs.Laws.{times_assoc, times_keeps, times_only_zero}
+use Rattle.fst_semiring.proofs.Laws.{times_keeps, times_only_zero}
 use Rattle.fst_semiring.proofs.Order.{plus_antisym}
 use Rattle.fst_semiring.proofs.Cancelling.{times_cancels}
 use Rattle.fst_machine.specs.BreadthFirst.{Has}
-use Rattle.fst_machine.specs.Letters.{product}
 use Rattle.fst_machine.specs.Machine.{Arc, IsMachine, Machine, State, valued, valued_state}
-use Rattle.fst_machine.specs.Graph.{Graph, graph_of, no_state}
-use Rattle.fst_machine.specs.Distance.{Finishes}
-use Rattle.fst_machine.specs.Paths.{letters}
+use Rattle.fst_machine.specs.Graph.{graph_of, no_state}
 use Rattle.fst_trim.specs.Links.{Link, turned_links}
-use Rattle.fst_distance.specs.ArcHops.{Back}
-use Rattle.fst_distance.specs.Hops.{Hop, IsHop}
-use Rattle.fst_distance.proofs.MachineHops.{arc_good, back_all, back_only}
+use Rattle.fst_distance.specs.Hops.{Hop}
+use Rattle.fst_distance.proofs.MachineHops.{back_all, back_only}
 use Rattle.fst_nbest.specs.Counts.{Ends, Hops, IsLeastCount, count_of, uncounted}
 use Rattle.fst_nbest.specs.Words.{Says}
-use Rattle.fst_nbest.specs.PathWords.{arc_step, path_words, solid, toward, IsCount}
+use Rattle.fst_nbest.specs.PathWords.{arc_step, path_words, toward, IsCount}
 use Rattle.fst_nbest.specs.Ready.{HasDistances, IsReady, IsTightLink, IsTightStop, count_in, dist_in}
 use Rattle.fst_nbest.proofs.PathWords.{best_says, no_better, says_finishes, solid_some, some_solid, some_toward, step_arc}
 

@@ -1,5 +1,5 @@
 -- The first paths of one total weight after the other.
-use Rattle.std.proofs.Common.{◌≡◌, ◌≢◌, ◌⊎◌, inl, inr, ℕ, ◌+◌, ◌-◌, ◌<◌, ◌≤◌, Bool, true, false, true≢false, List, [], ◌∷◌, ◌++◌, Option, None, Some, length, map, slice_get, refl, sym, ap, ap₂, subst, ◌∙◌, arith}
+use Rattle.std.proofs.Common.{◌≡◌, ◌≢◌, ◌⊎◌, inl, inr, ℕ, ◌-◌, ◌<◌, ◌≤◌, Bool, true, false, true≢false, List, [], ◌∷◌, ◌++◌, Option, None, Some, length, map, refl, sym, ap, ap₂, subst, ◌∙◌, arith}
 use Rattle.std.proofs.Common.{Ordering, Less, Equal, Greater}
 use Rattle.std.specs.List.{All}
 use Rattle.std.specs.Ordering.{is_gt, nat_cmp, ordering_reverse, ordering_then}
@@ -13,21 +13,19 @@ use Rattle.fst_semiring.specs.declared.arc_type.ArcType.{ArcType}
 use Rattle.fst_semiring.specs.declared.arc_type.ArcType.TheVariants.{Boolean, Tropical, MinMax, Lexicographic}
 use Rattle.fst_semiring.specs.Semiring.{cancels, times}
 use Rattle.fst_semiring.proofs.Laws.{one_times, times_assoc}
-use Rattle.fst_semiring.proofs.Order.{cost_cmp_equal, cost_cmp_same, plus_antisym, plus_comm, plus_least, plus_less, plus_same, plus_trans, plus_unless, worse_picks}
+use Rattle.fst_semiring.proofs.Order.{cost_cmp_equal, cost_cmp_same, plus_antisym, plus_least, plus_same, plus_trans, worse_picks}
 use Rattle.fst_machine.specs.BreadthFirst.{Has}
-use Rattle.fst_machine.specs.Cycles.{IsAccessible}
 use Rattle.fst_machine.specs.Letters.{product}
 use Rattle.fst_machine.specs.Machine.{Arc, IsMachine, Machine, valued}
 use Rattle.fst_machine.specs.Graph.{Graph, graph_of}
 use Rattle.fst_machine.specs.Paths.{Transition, IsPath, letters, places}
 use Rattle.fst_machine.specs.PathOrder.{Ascends, IsFirst, WeightedPath, arc_places, path_cmp}
 use Rattle.fst_machine.specs.Relation.{IsSuccessful}
-use Rattle.fst_machine.proofs.Connected.{accessible_next}
 use Rattle.fst_machine.proofs.Elements.{Has-append_cases, Has-append_left, Has-append_right}
 use Rattle.fst_nbest.specs.Counts.{Hops, IsLeastCount, count_of, uncounted}
 use Rattle.fst_nbest.specs.Words.{AreFirstWords, Says, WeightedWord, WordsAscend, word_cmp}
-use Rattle.fst_nbest.specs.Classes.{IsClassLink, IsClassStop, class_links, class_words, is_counted, is_reached, name_at, reached_by, state_at, unit}
-use Rattle.fst_nbest.specs.Totals.{AreFirstOf, AreFirstSoFar, HasTotals, MayTotal, wide_cmp}
+use Rattle.fst_nbest.specs.Classes.{IsClassLink, IsClassStop, class_links, class_words, is_counted, name_at, reached_by, unit}
+use Rattle.fst_nbest.specs.Totals.{AreFirstOf, AreFirstSoFar, HasTotals, wide_cmp}
 use Rattle.fst_nbest.specs.Heap.{FirstLeaves, NotAfter}
 use Rattle.fst_nbest.specs.PathWords.{AreDistances, HasSolidArcs}
 use Rattle.fst_nbest.specs.FirstPaths.{AreFirstPaths, IsTraceable, traced}
@@ -208,7 +206,7 @@ module _ {N : Type 0} (kind : ArcType) (g : Graph N) (start : N) (starts : g.sta
 
 module _ {V : Type 0} (value : V → Cost) (m : Machine V) (good : IsMachine value m) (dist : ℕ → Cost) (exact : AreDistances MinMax (graph_of (valued value m)) dist) (firm : HasSolidArcs MinMax (graph_of (valued value m))) (bound : Cost) (totals : List Cost)
     (all : (p : ℕ) → p < length m.states → HasTotals (graph_of (valued value m)) dist bound p totals) where
-  path_total : (path : List (Transition ℕ)) (q last : ℕ) → IsAccessible (graph_of (valued value m)) q → IsPath (graph_of (valued value m)) q path last → ((graph_of (valued value m)).final last ≡ infinite → ⊥)
+  path_total : (path : List (Transition ℕ)) (q last : ℕ) → exact.kept q ≡ true → IsPath (graph_of (valued value m)) q path last → ((graph_of (valued value m)).final last ≡ infinite → ⊥)
       → plus bound (times MinMax (product MinMax (letters path)) ((graph_of (valued value m)).final last)) ≡ bound → Has totals (times MinMax (product MinMax (letters path)) ((graph_of (valued value m)).final last))
   path_total [] q last there leads final low =
       let g = graph_of (valued value m) in
@@ -218,7 +216,7 @@ module _ {V : Type 0} (value : V → Cost) (m : Machine V) (good : IsMachine val
       subst (Has totals) (f ∙ sym is) ((all q (final_low value m q final_q)).final (reaches MinMax g dist exact firm q last [] there leads final) final_q
       (ap (plus bound) (f ∙ sym is) ∙ low))
   path_total (t ∷ path) q last there leads final low = by (worse_picks t.arc.weight (times MinMax (product MinMax (letters path)) ((graph_of (valued value m)).final last)))
-      (path_total path t.arc.next last (accessible_next (graph_of (valued value m)) q t.place t.arc there leads.0.1) leads.1 final)
+      (path_total path t.arc.next last (exact.along q t.place t.arc there leads.0.1) leads.1 final)
     where
       a : Arc Cost ℕ
       a = t.arc
@@ -229,8 +227,8 @@ module _ {V : Type 0} (value : V → Cost) (m : Machine V) (good : IsMachine val
       assoc : times MinMax (product MinMax (letters (t ∷ path))) ((graph_of (valued value m)).final last) ≡ worse a.weight rest
       assoc = times_assoc MinMax a.weight (product MinMax (letters path)) ((graph_of (valued value m)).final last)
 
-      next : IsAccessible (graph_of (valued value m)) a.next
-      next = accessible_next (graph_of (valued value m)) q t.place a there leads.0.1
+      next : exact.kept a.next ≡ true
+      next = exact.along q t.place a there leads.0.1
 
       onward : dist a.next ≡ infinite → ⊥
       onward = reaches MinMax (graph_of (valued value m)) dist exact firm a.next last path next leads.1 final
@@ -249,7 +247,7 @@ module _ {V : Type 0} (value : V → Cost) (m : Machine V) (good : IsMachine val
   total_there start starts is b h =
       let g = graph_of (valued value m) in
       let first : h.first ≡ start = same_Some h.first start (sym h.starts ∙ starts) in
-      let reached : IsAccessible g h.first = record { first = h.first; path = []; starts = h.starts; leads = refl } in
+      let reached : exact.kept h.first ≡ true = exact.start h.first h.starts in
       let here : dist h.first ≡ infinite → ⊥ = reaches MinMax g dist exact firm h.first h.last b.path reached h.leads h.final in
       let w = times MinMax (product MinMax (letters b.path)) (g.final h.last) in
       let least : plus (dist h.first) w ≡ dist h.first = no_better MinMax g dist exact firm h.first w here (record { last = h.last; path = b.path; leads = h.leads; final = h.final; weight = refl }) in

@@ -1,12 +1,11 @@
 -- The words of one total weight are the paths of that weight.
-use Rattle.std.proofs.Common.{◌≡◌, ◌≢◌, ◌⊎◌, inl, inr, ◌↔◌, ℕ, ◌+◌, ◌-◌, ◌<◌, ◌≤◌, zero, suc, Bool, true, false, true≢false, cond, List, [], ◌∷◌, ◌++◌, Option, None, Some, length, map, get_or, slice_get, refl, sym, ap, ap₂, subst, ◌∙◌, arith}
+use Rattle.std.proofs.Common.{◌≡◌, ◌≢◌, ◌⊎◌, inl, inr, ℕ, ◌+◌, ◌-◌, ◌<◌, ◌≤◌, zero, suc, Bool, true, false, cond, List, [], ◌∷◌, ◌++◌, Option, None, Some, length, get_or, slice_get, refl, sym, ap, ap₂, subst, ◌∙◌, arith}
 use Rattle.std.specs.List.{All}
-use Rattle.std.specs.Prelude.{nat_lt}
 use Rattle.std.specs.Ordering.{is_le}
-use Rattle.std.proofs.lemmas.Bool.{cases_Bool, cases_lt, le-ltb, lt-ltb, ltb-true}
+use Rattle.std.proofs.lemmas.Bool.{cases_lt, le-ltb, lt-ltb, ltb-true}
 use Rattle.std.proofs.lemmas.List.{length-map}
 use Rattle.std.proofs.lemmas.Option.{same_Some, slice_get_past}
-use Rattle.fst_semiring.specs.Cost.{Cost, infinite, cost_cmp, plus, worse}
+use Rattle.fst_semiring.specs.Cost.{Cost, infinite, cost_cmp}
 use Rattle.fst_semiring.specs.declared.arc_type.ArcType.TheVariants.{Boolean, MinMax}
 use Rattle.fst_semiring.specs.Semiring.{times, IsCost}
 use Rattle.fst_semiring.proofs.Laws.{one_times, times_assoc}
@@ -22,9 +21,9 @@ use Rattle.fst_distance.proofs.MachineHops.{arc_good}
 use Rattle.fst_nbest.specs.Counts.{Ends, Hops, IsLeastCount, count_of, uncounted}
 use Rattle.fst_nbest.specs.declared.turns.Turn.{Turn}
 use Rattle.fst_nbest.specs.Turns.{HasTurn}
-use Rattle.fst_nbest.specs.Words.{Words, Says, Ahead, IsAhead, AreWords, NoLess, ahead_of, ahead_of_step}
-use Rattle.fst_nbest.specs.Classes.{IsClassLink, IsClassReady, IsClassStop, class_links, class_next, class_step, class_stop, class_words, fits, is_counted, is_reached, name_at, reached_by, state_at, unit}
-use Rattle.fst_nbest.proofs.BestHops.{arc_link, final_low, link_arc}
+use Rattle.fst_nbest.specs.Words.{Words, Says, Ahead, IsAhead, AreWords, ahead_of, ahead_of_step}
+use Rattle.fst_nbest.specs.Classes.{IsClassLink, IsClassStop, class_links, class_next, class_step, class_words, fits, is_counted, is_reached, name_at, reached_by, state_at, unit}
+use Rattle.fst_nbest.proofs.BestHops.{arc_link, link_arc}
 use Rattle.fst_nbest.proofs.Worst.{Meant, fits_meant, le_plus, meant_fits, meant_solid, meant_step, plus_le, step_meant}
 
 -- the state of a name, and whether the total has been reached

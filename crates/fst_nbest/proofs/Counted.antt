@@ -1,5 +1,5 @@
 -- Counts by a walk back.
-use Rattle.std.proofs.Common.{◌≡◌, ◌≢◌, ◌⊎◌, inl, inr, ◌↔◌, ℕ, ◌+◌, ◌<◌, ◌≤◌, zero, suc, Bool, true, List, [], ◌∷◌, ◌++◌, Some, length, get_or, set, slice_get, take, refl, sym, ap, subst, ◌∙◌, arith}
+use Rattle.std.proofs.Common.{◌≡◌, ◌≢◌, ◌⊎◌, inl, inr, ◌↔◌, ℕ, ◌+◌, ◌<◌, ◌≤◌, zero, suc, List, [], ◌∷◌, ◌++◌, Some, length, get_or, set, slice_get, take, refl, sym, ap, subst, ◌∙◌, arith}
 use Rattle.std.proofs.lemmas.Bool.{cases_eq, cases_lt}
 use Rattle.std.proofs.lemmas.List.{get_or-set_same, get_or-set_other, length-append, length-set, take_all, take_more}
 use Rattle.std.proofs.lemmas.List.Elements.{All-push}
@@ -7,7 +7,7 @@ use Rattle.std.proofs.lemmas.Option.{get_or_from_slice_get, same_Some, slice_get
 use Rattle.std.specs.List.{All}
 use Rattle.fst_machine.specs.BreadthFirst.{Has, Apart}
 use Rattle.fst_distance.proofs.MachineHops.{all_at}
-use Rattle.fst_machine.proofs.Arcs.{append_at, at_append_left, at_append_front}
+use Rattle.fst_machine.proofs.Arcs.{append_at, at_append_left}
 use Rattle.fst_machine.proofs.Elements.{Has-append_left, Has-append_right, Has-append_cases, at_Has, Has_at, Apart_below, Apart-push}
 use Rattle.fst_nbest.specs.Counts.{AreStops, Ends, IsLeastCount, Meets, MeetsAll, count_of, uncounted}
 

@@ -1,12 +1,12 @@
 -- What is known of distances, put together.
-use Rattle.std.proofs.Common.{◌≡◌, ◌⊎◌, inl, inr, ℕ, ◌+◌, ◌*◌, ◌<◌, ◌≤◌, zero, suc, Bool, true, false, true≢false, List, [], ◌∷◌, Option, None, Some, length, map, get_or, slice_get, refl, sym, ap, subst, ◌∙◌, arith}
+use Rattle.std.proofs.Common.{◌≡◌, ◌⊎◌, inl, inr, ℕ, ◌+◌, ◌*◌, ◌<◌, ◌≤◌, zero, suc, Bool, true, false, true≢false, List, [], ◌∷◌, Some, length, map, get_or, slice_get, refl, sym, ap, subst, ◌∙◌, arith}
 use Rattle.std.specs.Bool.{Decides}
 use Rattle.std.specs.Option.{option_map}
 use Rattle.std.specs.List.{All}
 use Rattle.std.proofs.Math.Nat.{mul-le-mul_left, mul-le-mul_right}
-use Rattle.std.proofs.lemmas.Bool.{cases_Bool, cases_eq, cases_lt}
+use Rattle.std.proofs.lemmas.Bool.{cases_eq, cases_lt}
 use Rattle.std.proofs.lemmas.List.{get_or_past, length-map}
-use Rattle.std.proofs.lemmas.Option.{get_or_from_slice_get, same_Some, slice_get_past}
+use Rattle.std.proofs.lemmas.Option.{get_or_from_slice_get, same_Some}
 use Rattle.fst_semiring.specs.Cost.{Cost, infinite}
 use Rattle.fst_semiring.specs.declared.arc_type.ArcType.{ArcType}
 use Rattle.fst_semiring.specs.Semiring.{IsCost, Within}
@@ -16,6 +16,7 @@ use Rattle.fst_machine.specs.Graph.{graph_of}
 use Rattle.fst_machine.specs.Cycles.{IsAccessible}
 use Rattle.fst_machine.specs.Distance.{IsFinalDistance}
 use Rattle.fst_machine.proofs.Arcs.{at_mapped}
+use Rattle.fst_machine.proofs.Connected.{accessible_next}
 use Rattle.fst_distance.specs.Distances.{IsUsefulDistance}
 use Rattle.fst_distance.specs.Searching.{most_number}
 use Rattle.fst_distance.proofs.Links.{arcs_in_graph, arcs_of}
@@ -72,7 +73,13 @@ module _ {V D : Type 0} (kind : ArcType) (value : V → Cost) (wide : D → Cost
       → HasDistances kind value wide known m dist
   gathered costs weights finals = record {
     dist_size = size;
-    exact = λ q. exact q (cases_Bool (get_or marks q false)) (cases_lt q (length m.states));
+    exact = record {
+      kept = λ q. get_or marks q false;
+      start = λ q is. (are q).1 (record { first = q; path = []; starts = is; leads = refl });
+      along = λ q k a kept there. (are a.next).1 (accessible_next (graph_of (valued value m)) q k a ((are q).0 kept) there);
+      here = λ q kept. here q kept (cases_lt q (length m.states));
+      others = λ q apart. others q apart (cases_lt q (length m.states));
+    };
     firm = record { solid = λ q k a there. (arc_good value m good q k a there).2; cost = costs };
     numbers = of_all (Within most_distance) tt (λ q d there. Within-more (length m.states * bound) most_distance (wide d) enough (numbers q d there));
     kinds = of_all (IsCost kind) (zero_kind kind) kinds;
@@ -89,19 +96,17 @@ module _ {V D : Type 0} (kind : ArcType) (value : V → Cost) (wide : D → Cost
       zero_kind : (k : ArcType) → IsCost k infinite
       zero_kind k = tt
 
-      exact : (q : ℕ) → (get_or marks q false ≡ true) ⊎ (get_or marks q false ≡ false) → (q < length m.states) ⊎ (length m.states ≤ q)
-          → (IsAccessible (graph_of (valued value m)) q × IsFinalDistance kind (graph_of (valued value m)) q (dist_in wide dist q)) ⊎ ((IsAccessible (graph_of (valued value m)) q → ⊥) × (dist_in wide dist q ≡ infinite))
-      exact q (inl marked) (inl low) =
+      here : (q : ℕ) → get_or marks q false ≡ true → (q < length m.states) ⊎ (length m.states ≤ q) → IsFinalDistance kind (graph_of (valued value m)) q (dist_in wide dist q)
+      here q marked (inl low) =
           let d = in_place dist q (omega (arith, low, size)) in
-          let there = (are q).0 marked in
-          inl (there, subst (λ (c : Cost). IsFinalDistance kind (graph_of (valued value m)) q c) (read q d.0 d.1) ((distances q d.0 d.1).accessible there))
-      exact q (inr unmarked) (inl low) =
+          subst (λ (c : Cost). IsFinalDistance kind (graph_of (valued value m)) q c) (read q d.0 d.1) ((distances q d.0 d.1).accessible ((are q).0 marked))
+      here q marked (inr past) = absurd (true≢false (sym marked ∙ get_or_past marks q false (omega (arith, marks_size, past))))
+
+      others : (q : ℕ) → get_or marks q false ≡ false → (q < length m.states) ⊎ (length m.states ≤ q) → dist_in wide dist q ≡ infinite
+      others q unmarked (inl low) =
           let d = in_place dist q (omega (arith, low, size)) in
-          let apart : IsAccessible (graph_of (valued value m)) q → ⊥ = λ there. true≢false (sym ((are q).1 there) ∙ unmarked) in
-          inr (apart, sym (read q d.0 d.1) ∙ (distances q d.0 d.1).apart apart)
-      exact q marked (inr past) =
-          let unmarked : get_or marks q false ≡ false = get_or_past marks q false (omega (arith, marks_size, past)) in
-          inr ((λ there. true≢false (sym ((are q).1 there) ∙ unmarked)), past_end q past)
+          sym (read q d.0 d.1) ∙ (distances q d.0 d.1).apart (λ there. true≢false (sym ((are q).1 there) ∙ unmarked))
+      others q unmarked (inr past) = past_end q past
 
 -- how many arcs a state has
 pub arcs_length : {V : Type 0} (value : V → Cost) (m : Machine V) (q : ℕ) (arcs : List (Arc V ℕ)) → option_map (λ s. s.arcs) (slice_get m.states q) ≡ Some arcs → length ((graph_of (valued value m)).arcs q) ≡ length arcs

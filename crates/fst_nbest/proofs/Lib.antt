@@ -27,3 +27,4 @@ pub mod Gathered
 pub mod OneAnswer
 pub mod WrittenWords
 pub mod TotalHeaps
+pub mod Sweeps

@@ -1,9 +1,10 @@
 -- The paths of a graph as words.
-use Rattle.std.proofs.Common.{◌≡◌, ◌⊎◌, inl, inr, ℕ, List, [], ◌∷◌, ◌++◌, Option, None, Some, length, map, slice_get, refl, sym, ap, ap₂, subst, ◌∙◌, arith}
+use Rattle.std.proofs.Common.{◌≡◌, ◌⊎◌, inl, inr, ℕ, true, false, List, [], ◌∷◌, Option, None, Some, length, map, slice_get, refl, sym, ap, ap₂, subst, ◌∙◌, arith}
 use Rattle.std.proofs.Common.{Ordering, Less, Equal, Greater}
 use Rattle.std.specs.Ordering.{nat_cmp, ordering_then, ordering_reverse}
 use Rattle.std.specs.Cmp.Lexicographic.{slice_cmp}
 use Rattle.std.proofs.lemmas.Option.{same_Some}
+use Rattle.std.proofs.lemmas.Bool.{cases_Bool}
 use Rattle.std.proofs.lemmas.List.{length-map}
 use Rattle.fst_semiring.specs.Cost.{Cost, best, finite, infinite, cost_cmp, cost_total, plus}
 use Rattle.fst_semiring.specs.declared.arc_type.ArcType.{ArcType}
@@ -15,11 +16,10 @@ use Rattle.fst_machine.specs.Graph.{Graph}
 use Rattle.fst_machine.specs.Letters.{product}
 use Rattle.fst_machine.specs.Paths.{Transition, IsPath, letters}
 use Rattle.fst_machine.specs.Relation.{IsSuccessful}
-use Rattle.fst_machine.specs.Cycles.{IsAccessible}
 use Rattle.fst_machine.specs.Distance.{Finishes, IsFinalDistance}
 use Rattle.fst_machine.specs.BreadthFirst.{Has}
 use Rattle.fst_machine.specs.PathOrder.{WeightedPath, arc_places, path_cmp, Ascends, IsFirst}
-use Rattle.fst_machine.proofs.PathParts.{IsPath-append, same_path}
+use Rattle.fst_machine.proofs.PathParts.{same_path}
 use Rattle.fst_nbest.specs.Words.{WeightedWord, word_cmp, WordsAscend, Says, NoLess, AreFirstWords, AreWords, IsAhead}
 use Rattle.fst_nbest.proofs.Searches.{Has-map, map_Has}
 use Rattle.fst_nbest.specs.PathWords.{HasSolidArcs, IsCount, solid, toward, arc_step, path_words, AreDistances}
@@ -75,7 +75,7 @@ module _ {N : Type 0} (kind : ArcType) (g : Graph N) (dist : N → Cost) where
       )
 
   -- the weight of a path to a final name is not Zero
-  not_zero : HasSolidArcs kind g → (path : List (Transition N)) (last q : N) → IsPath g q path last → (g.final last ≡ infinite → ⊥) → times kind (product kind (letters path)) (g.final last) ≡ infinite → ⊥
+  pub not_zero : HasSolidArcs kind g → (path : List (Transition N)) (last q : N) → IsPath g q path last → (g.final last ≡ infinite → ⊥) → times kind (product kind (letters path)) (g.final last) ≡ infinite → ⊥
   not_zero firm [] last q leads final e = final (sym (one_times kind (g.final last)) ∙ e)
   not_zero firm (t ∷ path) last q leads final e = by (times_only_zero kind t.arc.weight (times kind (product kind (letters path)) (g.final last)) (sym (times_assoc kind t.arc.weight (product kind (letters path)) (g.final last)) ∙ e)) (λ f. not_zero firm path last t.arc.next leads.1 final f)
     where
@@ -85,23 +85,22 @@ module _ {N : Type 0} (kind : ArcType) (g : Graph N) (dist : N → Cost) where
 
   module _ (exact : AreDistances kind g dist) (firm : HasSolidArcs kind g) where
     -- a name that the start reaches, and from which a path leads to a final name, is not at distance Zero
-    pub reaches : (q last : N) (path : List (Transition N)) → IsAccessible g q → IsPath g q path last → (g.final last ≡ infinite → ⊥) → dist q ≡ infinite → ⊥
-    reaches q last path there leads final none = by (exact q)
+    pub reaches : (q last : N) (path : List (Transition N)) → exact.kept q ≡ true → IsPath g q path last → (g.final last ≡ infinite → ⊥) → dist q ≡ infinite → ⊥
+    reaches q last path there leads final none = by (exact.here q there)
       where
         done : Finishes kind g q (times kind (product kind (letters path)) (g.final last))
         done = record { last = last; path = path; leads = leads; final = final; weight = refl }
 
-        by : (IsAccessible g q × IsFinalDistance kind g q (dist q)) ⊎ ((IsAccessible g q → ⊥) × (dist q ≡ infinite)) → ⊥
-        by (inr apart) = apart.0 there
-        by (inl (is, inl nothing)) = nothing.0 _ done
-        by (inl (is, inr least)) = not_zero firm least.0.path least.0.last q least.0.leads least.0.final (sym least.0.weight ∙ none)
+        by : IsFinalDistance kind g q (dist q) → ⊥
+        by (inl nothing) = nothing.0 _ done
+        by (inr least) = not_zero firm least.0.path least.0.last q least.0.leads least.0.final (sym least.0.weight ∙ none)
 
-    pub path_says : (q last : N) (path : List (Transition N)) → IsAccessible g q → IsPath g q path last → (g.final last ≡ infinite → ⊥) → Says kind (path_words g dist) q (arc_places path) (times kind (product kind (letters path)) (g.final last))
+    pub path_says : (q last : N) (path : List (Transition N)) → exact.kept q ≡ true → IsPath g q path last → (g.final last ≡ infinite → ⊥) → Says kind (path_words g dist) q (arc_places path) (times kind (product kind (letters path)) (g.final last))
     path_says q last [] there here final =
         subst (λ (n : N). Says kind (path_words g dist) q [] (times kind (one_of kind) (g.final n))) here
         (some_solid (g.final q) (λ none. final (ap g.final (sym here) ∙ none)) ∙ ap Some (sym (one_times kind (g.final q))))
     path_says q last (t ∷ path) there leads final =
-        let next : IsAccessible g t.arc.next = record { first = there.first; path = there.path ++ t ∷ []; starts = there.starts; leads = IsPath-append g there.path (t ∷ []) there.first q t.arc.next there.leads (leads.0, refl) } in (
+        let next : exact.kept t.arc.next ≡ true = exact.along q t.place t.arc there leads.0.1 in (
           t.arc.weight,
           t.arc.next,
           times kind (product kind (letters path)) (g.final last),
@@ -111,22 +110,24 @@ module _ {N : Type 0} (kind : ArcType) (g : Graph N) (dist : N → Cost) where
         )
 
     -- a name that is not at distance Zero is reached, and a path from it has this weight
-    pub best_path : (q : N) → (dist q ≡ infinite → ⊥) → IsAccessible g q × Finishes kind g q (dist q)
-    best_path q some = by (exact q)
+    pub best_path : (q : N) → (dist q ≡ infinite → ⊥) → (exact.kept q ≡ true) × Finishes kind g q (dist q)
+    best_path q some = by (cases_Bool (exact.kept q))
       where
-        by : (IsAccessible g q × IsFinalDistance kind g q (dist q)) ⊎ ((IsAccessible g q → ⊥) × (dist q ≡ infinite)) → IsAccessible g q × Finishes kind g q (dist q)
-        by (inr apart) = absurd (some apart.1)
-        by (inl (is, inl nothing)) = absurd (some nothing.1)
-        by (inl (is, inr least)) = (is, least.0)
+        shortest : IsFinalDistance kind g q (dist q) → Finishes kind g q (dist q)
+        shortest (inl nothing) = absurd (some nothing.1)
+        shortest (inr least) = least.0
+
+        by : (exact.kept q ≡ true) ⊎ (exact.kept q ≡ false) → (exact.kept q ≡ true) × Finishes kind g q (dist q)
+        by (inl is) = (is, shortest (exact.here q is))
+        by (inr apart) = absurd (some (exact.others q apart))
 
     -- and no path from it weighs less
     pub no_better : (q : N) (v : Cost) → (dist q ≡ infinite → ⊥) → Finishes kind g q v → plus (dist q) v ≡ dist q
-    no_better q v some done = by (exact q)
+    no_better q v some done = by (exact.here q (best_path q some).0)
       where
-        by : (IsAccessible g q × IsFinalDistance kind g q (dist q)) ⊎ ((IsAccessible g q → ⊥) × (dist q ≡ infinite)) → plus (dist q) v ≡ dist q
-        by (inr apart) = absurd (some apart.1)
-        by (inl (is, inl nothing)) = absurd (some nothing.1)
-        by (inl (is, inr least)) = least.1 v done
+        by : IsFinalDistance kind g q (dist q) → plus (dist q) v ≡ dist q
+        by (inl nothing) = absurd (some nothing.1)
+        by (inr least) = least.1 v done
 
     -- a best path is a word
     pub best_says : (q : N) → (dist q ≡ infinite → ⊥) → (word : List ℕ) × Says kind (path_words g dist) q word (dist q)
@@ -207,7 +208,7 @@ module _ {N : Type 0} (kind : ArcType) (g : Graph N) (dist : N → Cost) (exact 
   success_says b h =
       let first : h.first ≡ start = same_Some h.first start (sym h.starts ∙ starts) in
       subst (λ (w : Cost). Says kind (path_words g dist) start (arc_places b.path) w) (sym h.weight)
-      (path_says kind g dist exact firm start h.last b.path (record { first = start; path = []; starts = starts; leads = refl }) (subst (λ (n : N). IsPath g n b.path h.last) first h.leads) h.final)
+      (path_says kind g dist exact firm start h.last b.path (exact.start start starts) (subst (λ (n : N). IsPath g n b.path h.last) first h.leads) h.final)
 
   ascends_paths : (paths : List (WeightedPath N)) → WordsAscend (map word_of_path paths) → Ascends paths
   ascends_paths [] h = tt

@@ -1,14 +1,12 @@
 -- Words written down as paths.
-use Rattle.std.proofs.Common.{◌≡◌, ℕ, ◌+◌, ◌<◌, ◌≤◌, zero, suc, List, [], ◌∷◌, ◌++◌, Some, drop, take, length, map, get_or, slice_get, refl, sym, ap, ap₂, subst, ◌∙◌, arith}
-use Rattle.std.specs.List.{All}
+use Rattle.std.proofs.Common.{◌≡◌, ℕ, ◌+◌, ◌<◌, ◌≤◌, zero, suc, List, [], ◌∷◌, ◌++◌, Some, drop, take, length, map, slice_get, refl, sym, ap, ap₂, subst, ◌∙◌, arith}
 use Rattle.std.proofs.lemmas.List.{append_assoc, append-nil, length-append, length-map, map-append, take_all, take_more}
 use Rattle.std.proofs.lemmas.Option.{get_or_from_slice_get, same_Some, slice_get_within}
 use Rattle.fst_semiring.specs.Cost.{Cost}
 use Rattle.fst_machine.specs.Machine.{Arc}
 use Rattle.fst_machine.specs.Graph.{Graph}
 use Rattle.fst_machine.specs.Paths.{Transition, IsPath, places}
-use Rattle.fst_machine.specs.PathOrder.{WeightedPath, arc_places}
-use Rattle.fst_machine.specs.BreadthFirst.{Has}
+use Rattle.fst_machine.specs.PathOrder.{arc_places}
 use Rattle.fst_nbest.specs.Chains.{arc_at, no_arc}
 use Rattle.fst_nbest.specs.FirstPaths.{IsTraceable, traced}
 

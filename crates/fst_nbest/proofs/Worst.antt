@@ -1,10 +1,10 @@
 -- The worse of two weights, and the one total of paths whose weight is the worst of their arcs.
-use Rattle.std.proofs.Common.{◌≡◌, ◌≢◌, ◌⊎◌, inl, inr, ◌↔◌, ℕ, Bool, true, false, true≢false, refl, sym, ap, subst, ◌∙◌}
+use Rattle.std.proofs.Common.{◌≡◌, ◌⊎◌, inl, inr, Bool, true, false, true≢false, refl, sym, ap, subst, ◌∙◌}
 use Rattle.std.proofs.Common.{Ordering, Less, Equal, Greater}
 use Rattle.std.specs.Ordering.{is_eq, is_le, ordering_reverse}
 use Rattle.std.proofs.lemmas.Bool.{cases_Bool}
 use Rattle.fst_semiring.specs.Cost.{Cost, infinite, cost_cmp, cost_total, plus, ranked, worse}
-use Rattle.fst_semiring.proofs.Order.{cost_cmp_equal, cost_cmp_same, plus_antisym, plus_comm, plus_infinite, plus_least, plus_less, plus_same, plus_trans, plus_unless, worse_comm, worse_picks}
+use Rattle.fst_semiring.proofs.Order.{cost_cmp_equal, cost_cmp_same, plus_comm, plus_infinite, plus_least, plus_less, plus_same, plus_trans, worse_comm, worse_picks}
 use Rattle.fst_nbest.specs.Classes.{fits, reached_by}
 
 -- what is no better is the worse

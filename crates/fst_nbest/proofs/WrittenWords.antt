@@ -58,7 +58,7 @@ no_paths kind g dist exact firm start starts n none = record {
     successful = λ a there. absurd there;
     others = λ b h. absurd (
         let first : h.first ≡ start = same_Some h.first start (sym h.starts ∙ starts) in
-        reaches kind g dist exact firm h.first h.last b.path (record { first = h.first; path = []; starts = h.starts; leads = refl }) h.leads h.final (ap dist first ∙ none));
+        reaches kind g dist exact firm h.first h.last b.path (exact.start h.first h.starts) h.leads h.final (ap dist first ∙ none));
   };
   written = refl;
 }

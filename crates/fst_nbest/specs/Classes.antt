@@ -1,9 +1,8 @@
 -- The paths of one total weight in an arc type whose product is the worse of two weights, as words. A name is a state
 -- and whether the total has been reached on the way: below n the state itself, where it has, and n further on where not.
-use Rattle.std.specs.Prelude.{◌≡◌, ◌≢◌, ℕ, ◌+◌, ◌-◌, ◌<◌, pos, Bool, true, false, cond, nat_lt, List, [], length, get_or, slice_get, Option, None, Some, All}
+use Rattle.std.specs.Prelude.{◌≡◌, ℕ, ◌+◌, ◌-◌, ◌<◌, pos, Bool, true, false, cond, nat_lt, List, [], length, get_or, slice_get, Option, None, Some, All}
 use Rattle.std.specs.Ordering.{is_eq, is_le}
-use Rattle.fst_semiring.specs.Cost.{Cost, finite, infinite, cost_cmp, plus}
-use Rattle.fst_machine.specs.BreadthFirst.{Has}
+use Rattle.fst_semiring.specs.Cost.{Cost, finite, infinite, cost_cmp}
 use Rattle.fst_machine.specs.Machine.{Arc, Machine, valued}
 use Rattle.fst_machine.specs.Graph.{Graph, graph_of}
 use Rattle.fst_trim.specs.Links.{Link, turned_links}

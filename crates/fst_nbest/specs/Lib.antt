@@ -9,5 +9,6 @@ pub mod Turns
 pub mod PathWords
 pub mod Ready
 pub mod Counts
+pub mod Sweep
 pub mod Classes
 pub mod Totals

@@ -1,10 +1,9 @@
 -- The paths of a graph as words: the places of their arcs.
-use Rattle.std.specs.Prelude.{◌≡◌, ◌⊎◌, ℕ, ◌≤◌, List, length, Option, None, Some, slice_get}
+use Rattle.std.specs.Prelude.{◌≡◌, ℕ, ◌≤◌, Bool, true, false, List, length, Option, None, Some, slice_get}
 use Rattle.fst_semiring.specs.Cost.{Cost, best, finite, infinite}
 use Rattle.fst_semiring.specs.declared.arc_type.ArcType.{ArcType}
 use Rattle.fst_machine.specs.Machine.{Arc}
 use Rattle.fst_machine.specs.Graph.{Graph}
-use Rattle.fst_machine.specs.Cycles.{IsAccessible}
 use Rattle.fst_machine.specs.Distance.{IsFinalDistance}
 use Rattle.fst_semiring.specs.Semiring.{IsCost}
 use Rattle.fst_nbest.specs.Words.{Words, Says}
@@ -30,9 +29,14 @@ arc_step dist (Some a) = toward (dist a.next) (a.weight, a.next)
 abbrev pub path_words : {N : Type 0} → Graph N → (N → Cost) → Words N
 path_words g dist = record { stop = λ q. solid (g.final q); step = λ q k. arc_step dist (slice_get (g.arcs q) k) }
 
--- each name that a path leads to has its distance to the final names, each other one Zero
-abbrev pub AreDistances : {N : Type 0} → ArcType → Graph N → (N → Cost) → Type 0
-AreDistances kind g dist = (q : _) → (IsAccessible g q × IsFinalDistance kind g q (dist q)) ⊎ ((IsAccessible g q → ⊥) × (dist q ≡ infinite))
+-- The names that are kept, among which are the start and all to which their arcs lead, have their distances to the final
+-- names, and all others Zero.
+pub record AreDistances {N : Type 0} (kind : ArcType) (g : Graph N) (dist : N → Cost) : Type 0 where
+  pub kept : N → Bool
+  pub start : (q : N) → g.start ≡ Some q → kept q ≡ true
+  pub along : (q : N) (k : ℕ) (a : Arc Cost N) → kept q ≡ true → slice_get (g.arcs q) k ≡ Some a → kept a.next ≡ true
+  pub here : (q : N) → kept q ≡ true → IsFinalDistance kind g q (dist q)
+  pub others : (q : N) → kept q ≡ false → dist q ≡ infinite
 
 -- no arc has weight Zero, and each has a weight of the arc type
 pub record HasSolidArcs {N : Type 0} (kind : ArcType) (g : Graph N) : Type 0 where

@@ -19,6 +19,7 @@ use crate::enumerating::first_words;
 use crate::fault::NbestFault;
 use crate::measured::measured;
 use crate::path_system::PathSystem;
+use crate::sweeping::{Swept, prepared};
 use crate::tight::TightBack;
 use crate::traced::put_traced;
 use crate::values::is_zero_wide;
@@ -53,6 +54,38 @@ fn counts_ahead<W: Weight, V: Copy, M: Widens<W, V>>(
 }
 
 /// The first paths where factors cancel, so that the order of what is ahead of a state is the same behind each path.
+fn by_counts<W: Weight, V: Copy, M: Widens<W, V>, L: Ledger>(
+    alloc: Global,
+    fst: &M,
+    dist: &Vec<W::Wide>,
+    count: &Vec<u32>,
+    start: u32,
+    n: u32,
+    steps: &mut Steps<L>,
+) -> Result<Paths, AllocError>
+    requires cancels { cancels W.KIND ≡ true }
+    requires ready { IsReady W.KIND M.value W.wide_value M.known (M.machine fst.now) dist.now.items count.now.items }
+    requires start { (M.machine fst.now).start ≡ Some start }
+    requires low { start < length (M.machine fst.now).states }
+    requires live { dist_in W.wide_value dist.now.items start ≡ infinite → ⊥ }
+    ensures first { IfOk result (λ paths. AreFirstPaths W.KIND (graph_of (valued M.value (M.machine fst.now))) n (map written paths)) }
+    ensures steps { IfOk result (λ paths. steps.new ≡ steps.old + length paths) }
+{
+    // What holds of the machine.
+    let _states = fst.state_count();
+    let system = PathSystem {
+        fst,
+        dist,
+        count,
+        weight: PhantomData,
+    };
+    let words = first_words(alloc, &system, start, n as usize, steps)?;
+    let mut paths = Paths::new(alloc);
+    put_traced::<V, M>(alloc, &mut paths, fst, start, &words)?;
+    Ok(paths)
+}
+
+/// The same where the counts are not known yet.
 fn by_distances<W: Weight, V: Copy, M: Widens<W, V>, L: Ledger>(
     alloc: Global,
     fst: &M,
@@ -69,19 +102,8 @@ fn by_distances<W: Weight, V: Copy, M: Widens<W, V>, L: Ledger>(
     ensures first { IfOk result (λ paths. AreFirstPaths W.KIND (graph_of (valued M.value (M.machine fst.now))) n (map written paths)) }
     ensures steps { IfOk result (λ paths. steps.new ≡ steps.old + length paths) }
 {
-    // What holds of the machine.
-    let _states = fst.state_count();
     let count = counts_ahead::<W, V, M>(alloc, fst, dist)?;
-    let system = PathSystem {
-        fst,
-        dist,
-        count: &count,
-        weight: PhantomData,
-    };
-    let words = first_words(alloc, &system, start, n as usize, steps)?;
-    let mut paths = Paths::new(alloc);
-    put_traced::<V, M>(alloc, &mut paths, fst, start, &words)?;
-    Ok(paths)
+    by_counts::<W, V, M, L>(alloc, fst, dist, &count, start, n, steps)
 }
 
 /// The first paths of a machine with its distances.
@@ -108,8 +130,30 @@ fn first_paths<W: Weight, V: Copy, M: Widens<W, V>, L: Ledger>(
     by_classes::<W, V, M, L>(alloc, fst, dist, start, n, steps)
 }
 
-/// The first paths of any machine.
-fn best_paths<W: Weight, V: Copy, M: Widens<W, V>, L: Ledger>(
+/// The first paths of a machine that was swept.
+fn swept_paths<W: Weight, V: Copy, M: Widens<W, V>, L: Ledger>(
+    alloc: Global,
+    fst: &M,
+    swept: &Swept<W>,
+    n: u32,
+    steps: &mut Steps<L>,
+) -> Result<Paths, AllocError>
+    requires cancels { cancels W.KIND ≡ true }
+    requires ready { IsReady W.KIND M.value W.wide_value M.known (M.machine fst.now) swept.now.dist.items swept.now.count.items }
+    ensures first { IfOk result (λ paths. AreFirstPaths W.KIND (graph_of (valued M.value (M.machine fst.now))) n (map written paths)) }
+    ensures steps { IfOk result (λ paths. steps.new ≡ steps.old + length paths) }
+{
+    let Some(start) = fst.start_state() else {
+        return Ok(Paths::new(alloc));
+    };
+    if is_zero_wide::<W>(swept.dist[start as usize]) {
+        return Ok(Paths::new(alloc));
+    }
+    by_counts::<W, V, M, L>(alloc, fst, &swept.dist, &swept.count, start, n, steps)
+}
+
+/// The first paths of any machine, by a search.
+fn searched_paths<W: Weight, V: Copy, M: Widens<W, V>, L: Ledger>(
     alloc: Global,
     fst: &M,
     n: u32,
@@ -136,6 +180,36 @@ fn best_paths<W: Weight, V: Copy, M: Widens<W, V>, L: Ledger>(
     }
 }
 
+/// The first paths of any machine.
+fn best_paths<W: Weight, V: Copy, M: Widens<W, V>, L: Ledger>(
+    alloc: Global,
+    fst: &M,
+    n: u32,
+    steps: &mut Steps<L>,
+) -> Result<Paths, NbestFault>
+    requires known { All (λ s. All (λ a. M.known a.weight) s.arcs) (M.machine fst.now).states }
+    requires finals { All (λ s. M.known s.final) (M.machine fst.now).states }
+    ensures first { IfOk result (λ paths. AreFirstPaths W.KIND (graph_of (valued M.value (M.machine fst.now))) n (map written paths)) }
+    ensures none { OnOk result (NoneImproves W.KIND (graph_of (valued M.value (M.machine fst.now))) (IsUseful (graph_of (valued M.value (M.machine fst.now))))) }
+    ensures cycle { IfErr result (λ f. IfImproving f (IsListed W.KIND (graph_of (valued M.value (M.machine fst.now))) (IsUseful (graph_of (valued M.value (M.machine fst.now)))))) }
+    ensures steps { IfOk result (λ paths. steps.new ≡ steps.old + length paths) }
+{
+    if !W::CANCELS {
+        return searched_paths::<W, V, M, L>(alloc, fst, n, steps);
+    }
+    let Ok(found) = prepared::<W, V, M>(alloc, fst) else {
+        return Err(NbestFault::Memory);
+    };
+    let Some(done) = found else {
+        return searched_paths::<W, V, M, L>(alloc, fst, n, steps);
+    };
+    match swept_paths::<W, V, M, L>(alloc, fst, &done, n, steps) {
+        Ok(paths) => Ok(paths),
+        // A lack of memory becomes a fault here alone.
+        Err(_) => Err(NbestFault::Memory),
+    }
+}
+
 /// The first `n` successful paths of a machine: by weight, the better first, then by the number of their arcs, the
 /// fewer first, then by the places of their arcs; all of them where there are fewer. (Mohri 2009, section 3.3, n shortest
 /// paths; OpenFst manual, "ShortestPath".)
@@ -144,7 +218,7 @@ fn best_paths<W: Weight, V: Copy, M: Widens<W, V>, L: Ledger>(
 /// fault lists such a cycle. `Memory` may come in place of any answer. A step is one family of paths taken from the
 /// table of those that wait, and one is taken for each path that is listed.
 ///
-/// Time: that of the distances; linear in the states and the arcs; the arcs that are listed; and for each of these a
+/// Time: that of the distances, which is linear where there is no cycle and factors cancel; linear in the states and the arcs; the arcs that are listed; and for each of these a
 /// comparison of families, of which there are logarithmically many. The arcs of each state on a listed path are sorted
 /// once. In min-max all this but the distances is done for each weight of the listed paths. Space: linear in the states,
 /// the arcs and the arcs that are listed.

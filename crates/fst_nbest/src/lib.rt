@@ -24,6 +24,7 @@ mod measured;
 mod naming;
 mod orders;
 mod path_system;
+mod sweeping;
 mod system;
 mod tight;
 mod totals;

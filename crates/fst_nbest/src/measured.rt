@@ -32,7 +32,7 @@ fn is_any_better<W: Weight, V: Copy, M: Widens<W, V>>(arcs: &[FstArc<V>]) -> boo
 }
 
 /// Whether an arc of the machine is better than One.
-fn has_better<W: Weight, V: Copy, M: Widens<W, V>>(fst: &M) -> bool
+pub(crate) fn has_better<W: Weight, V: Copy, M: Widens<W, V>>(fst: &M) -> bool
     requires { All (λ s. All (λ a. M.known a.weight) s.arcs) (M.machine fst.now).states }
     ensures { (q k : ℕ) (a : Arc Cost ℕ) → slice_get ((graph_of (valued M.value (M.machine fst.now))).arcs q) k ≡ Some a → IsCost W.KIND a.weight }
 {

@@ -1,7 +1,6 @@
-use Rattle.std.proofs.Common.{◌≡◌, ◌<◌, ◌≤◌, ◌-◌, ◌++◌, inl, inr, true, false, true≢false, ℕ, List, [], None, Some, length, map, refl, sym, ap, ◌∙◌, subst, arith}
+use Rattle.std.proofs.Common.{◌≡◌, ◌-◌, ◌++◌, inl, inr, true≢false, ℕ, List, None, length, map, refl, sym, ap, ◌∙◌, subst, arith}
 use Rattle.std.specs.Option.{option_map}
 use Rattle.std.proofs.lemmas.List.{length-map}
-use Rattle.std.proofs.lemmas.List.Sorted.{IsPermutation-sym}
 use Rattle.fst_semiring.specs.Cost.{infinite}
 use Rattle.fst_semiring.specs.declared.arc_type.ArcType.{ArcType}
 use Rattle.fst_machine.specs.Machine.{valued}
@@ -14,7 +13,6 @@ use Rattle.fst_nbest.specs.Totals.{AreFirstOf, wide_cmp}
 use Rattle.fst_nbest.proofs.ClassLists.{IsOnTotals, not_cancelling, total_leaves, total_there, totals_begin, totals_end, totals_go_on, totals_skip}
 use Rattle.fst_nbest.proofs.Counted.{of_each}
 use Rattle.fst_nbest.proofs.Covering.{Has-permutation}
-use Rattle.fst_nbest.proofs.Preparing.{dist_is}
 use Rattle.fst_nbest.proofs.Searches.{map_Has}
 use Rattle.fst_nbest.proofs.SortedTurns.{fewer_left}
 use Rattle.fst_nbest.proofs.TotalHeaps.{taken_each}

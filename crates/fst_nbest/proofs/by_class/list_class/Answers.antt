@@ -1,13 +1,13 @@
-use Rattle.std.proofs.Common.{◌≡◌, ◌+◌, ◌-◌, ◌<◌, ◌≤◌, ◌++◌, Bool, true, false, ℕ, List, length, map, get_or, sym, ap, ap₂, ◌∙◌, subst, arith}
+use Rattle.std.proofs.Common.{◌≡◌, ◌+◌, ◌-◌, ◌<◌, ◌++◌, Bool, false, ℕ, List, length, map, ap, ap₂, ◌∙◌, subst, arith}
 use Rattle.std.proofs.lemmas.Bool.{lt-ltb}
-use Rattle.fst_semiring.specs.Cost.{Cost, best}
+use Rattle.fst_semiring.specs.Cost.{best}
 use Rattle.fst_semiring.specs.Semiring.{one_of}
 use Rattle.fst_machine.specs.Machine.{valued}
 use Rattle.fst_machine.specs.Graph.{graph_of}
 use Rattle.fst_machine.specs.PathOrder.{WeightedPath}
 use Rattle.fst_machine.specs.Paths.{places}
 use Rattle.fst_machine.specs.Steps.{written}
-use Rattle.fst_nbest.specs.Classes.{is_counted, name_at, reached_by}
+use Rattle.fst_nbest.specs.Classes.{name_at, reached_by}
 use Rattle.fst_nbest.specs.Counts.{count_of, uncounted}
 use Rattle.fst_nbest.specs.Totals.{AreFirstOf}
 use Rattle.fst_nbest.proofs.ClassLists.{adds_nothing, adds_words, class_traceable, not_cancelling}

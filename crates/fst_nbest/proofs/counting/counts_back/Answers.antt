@@ -1,5 +1,4 @@
-use Rattle.std.proofs.Common.{◌≡◌, ◌<◌, ◌≤◌, ◌+◌, ◌∙◌, suc, ℕ, List, Some, slice_get, sym, ap, subst, length, arith}
-use Rattle.std.proofs.lemmas.Option.{slice_get_within}
+use Rattle.std.proofs.Common.{◌≡◌, ◌<◌, ◌+◌, suc, ℕ, List, subst, length, arith}
 use Rattle.fst_machine.proofs.Elements.{at_Has}
 use Rattle.fst_nbest.specs.Counts.{Hops, MeetsAll, count_of}
 use Rattle.fst_nbest.proofs.Counted.{count_begins, count_goes_on, count_read, counted, item_at, names_few, of_each}

@@ -1,4 +1,4 @@
-use Rattle.std.proofs.Common.{◌<◌, ℕ, List, ◌∷◌, [], get_or, take, length, sym, ◌∙◌, subst, arith}
+use Rattle.std.proofs.Common.{◌<◌, ℕ, List, get_or, take, length, sym, ◌∙◌, subst, arith}
 use Rattle.std.proofs.lemmas.List.{take_more}
 use Rattle.fst_nbest.specs.Counts.{MeetsAll}
 use Rattle.fst_nbest.proofs.Counted.{meets_then}

@@ -1,4 +1,4 @@
-use Rattle.std.proofs.Common.{false, true, true≢false, length, sym, ◌∙◌, arith}
+use Rattle.std.proofs.Common.{true≢false, sym, ◌∙◌, arith}
 use Rattle.fst_nbest.proofs.Counted.{stops_more, stops_skip}
 use Rattle.fst_nbest.proofs.counting.meet_stops.Goals as goal
 

@@ -1,5 +1,5 @@
 use Rattle.std.proofs.Common.{◌≡◌, ◌<◌, ℕ, List, length, map, sym, ap, ◌∙◌, subst, arith}
-use Rattle.fst_semiring.specs.Cost.{infinite, is_infinite}
+use Rattle.fst_semiring.specs.Cost.{infinite}
 use Rattle.fst_machine.specs.Machine.{valued}
 use Rattle.fst_machine.specs.Graph.{graph_of}
 use Rattle.fst_machine.specs.Steps.{written}

@@ -1,4 +1,4 @@
-use Rattle.std.proofs.Common.{◌≡◌, ◌+◌, ◌++◌, ◌∷◌, [], ℕ, List, map, slice_get, sym, ap, ap₂, subst, ◌∙◌, arith}
+use Rattle.std.proofs.Common.{◌≡◌, ◌+◌, ◌++◌, ◌∷◌, [], ℕ, List, sym, ap, subst, ◌∙◌, arith}
 use Rattle.std.proofs.lemmas.List.{map-append}
 use Rattle.std.proofs.lemmas.Option.{slice_get-get_or}
 use Rattle.fst_machine.specs.Machine.{valued}
@@ -6,7 +6,6 @@ use Rattle.fst_machine.specs.Graph.{graph_of}
 use Rattle.fst_machine.specs.Steps.{written}
 use Rattle.fst_machine.specs.declared.path.Step.{Step}
 use Rattle.fst_nbest.specs.Chains.{arc_at, no_arc}
-use Rattle.fst_nbest.specs.FirstPaths.{traced}
 use Rattle.fst_nbest.proofs.TracedWords.{IsTracing, tracing_begins, tracing_ends, tracing_goes_on, tracing_within}
 use Rattle.fst_nbest.proofs.traced.traced_path.Goals as goal
 

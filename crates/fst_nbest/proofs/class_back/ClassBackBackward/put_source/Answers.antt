@@ -1,6 +1,6 @@
-use Rattle.std.proofs.Common.{◌≡◌, ◌<◌, ◌+◌, [], length, get_or, sym, ap, subst, arith}
+use Rattle.std.proofs.Common.{length, sym, ap, subst, arith}
 use Rattle.fst_machine.specs.BreadthFirst.{Has}
-use Rattle.fst_trim.specs.Links.{Link, turned_links}
+use Rattle.fst_trim.specs.Links.{Link}
 use Rattle.fst_nbest.specs.Classes.{Class, class_links, state_at}
 use Rattle.fst_nbest.proofs.ClassWords.{link_known, link_low}
 use Rattle.fst_nbest.proofs.class_back.ClassBackBackward.put_source.Goals as goal

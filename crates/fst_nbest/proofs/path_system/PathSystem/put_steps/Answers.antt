@@ -1,4 +1,4 @@
-use Rattle.std.proofs.Common.{◌≡◌, ◌+◌, ℕ, length, ap, ◌∙◌, subst, arith}
+use Rattle.std.proofs.Common.{◌≡◌, ◌+◌, ℕ, length, ap, subst, arith}
 use Rattle.fst_machine.specs.Machine.{most_arcs, valued}
 use Rattle.fst_machine.specs.Graph.{graph_of}
 use Rattle.fst_trim.proofs.Places.{few_arcs}

@@ -1,12 +1,11 @@
-use Rattle.std.proofs.Common.{◌≡◌, ◌≢◌, ◌+◌, ◌-◌, ◌<◌, ℕ, suc, List, Option, None, Some, length, get_or, refl, sym, ap, ap₂, subst, ◌∙◌, arith}
+use Rattle.std.proofs.Common.{◌≡◌, ◌≢◌, ◌-◌, ◌<◌, ℕ, suc, List, None, length, get_or, refl, sym, ap, ap₂, subst, ◌∙◌, arith}
 use Rattle.std.proofs.lemmas.Option.{get_or_from_slice_get, slice_get_read}
-use Rattle.fst_semiring.specs.Cost.{Cost}
 use Rattle.fst_semiring.specs.Semiring.{times}
 use Rattle.fst_machine.specs.Machine.{Arc, valued}
 use Rattle.fst_machine.specs.Graph.{graph_of}
 use Rattle.fst_nbest.specs.PathWords.{path_words}
 use Rattle.fst_nbest.specs.Ready.{Prepared, count_in, dist_in}
-use Rattle.fst_nbest.specs.Words.{Ahead, ahead_of}
+use Rattle.fst_nbest.specs.Words.{ahead_of}
 use Rattle.fst_nbest.proofs.Fronts.{front_wide}
 use Rattle.fst_nbest.proofs.TurnLists.{move_ahead, move_place}
 use Rattle.fst_nbest.proofs.path_system.PathSystemSystemWide.look_ahead.Goals as goal

@@ -1,5 +1,3 @@
-use Rattle.std.proofs.Common.{sym, ap, ◌∙◌}
-use Rattle.fst_semiring.specs.Semiring.{times}
 use Rattle.fst_nbest.proofs.Fronts.{front_next, front_wide}
 use Rattle.fst_nbest.proofs.path_system.PathSystemSystemWide.step.Goals as goal
 
