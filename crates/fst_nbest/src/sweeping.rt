@@ -236,8 +236,7 @@ fn is_started<V: Copy, M: AsMachine<V>>(fst: &M, count: &Vec<u32>) -> bool
     }
 }
 
-/// The distances and the counts, where one sweep finds them: where no arcs of states that the start reaches lead round a
-/// cycle, and none of the other states either.
+/// The distances and the counts, where one sweep finds them: where the machine has no cycle.
 ///
 /// Time: linear in the states and the arcs.
 pub(crate) fn prepared<W: Weight, V: Copy, M: Widens<W, V>>(
