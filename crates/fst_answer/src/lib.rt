@@ -20,4 +20,4 @@ pub use answer::{Answer, Answers, LineAnswer};
 pub use answering::answer_line;
 pub use batch::{BatchOptions, run_batch};
 pub use fault::LineFault;
-pub use telling::put_answer_lines;
+pub use telling::{put_answer_lines, put_number};

@@ -11,8 +11,8 @@ use fst_semiring::Weight;
 use itoa::Buffer;
 use std::alloc::AllocError;
 
-/// Appends a number.
-fn put_number(out: &mut Vec<u8>, number: u64) -> Result<(), AllocError>
+/// Appends a number in decimal digits.
+pub fn put_number(out: &mut Vec<u8>, number: u64) -> Result<(), AllocError>
     ensures { OnOk result (out.new.items ≡ out.old.items ++ decimal number) }
 {
     let mut buffer = Buffer::new();

@@ -1,12 +1,10 @@
 -- What a batch answers, with weights as values.
 use Rattle.std.proofs.Common.{◌≡◌, ◌⊎◌, inl, inr, ℕ, suc, ◌+◌, ◌≤◌, ◌+ℤ◌, ◌<◌, ◌^◌, All, Bool, true, false, cond, List, [], ◌∷◌, ◌++◌, Some, drop, length, map, slice_get, refl, sym, ap, ap₂, ◌∙◌, subst, append_assoc, arith}
-use Rattle.std.proofs.lemmas.List.{drop_more}
-use Rattle.std.proofs.lemmas.Option.{get_or_from_slice_get, slice_get_within}
 use Rattle.std.specs.List.{AllZip, flat_map}
 use Rattle.fst_fields.specs.Lines.{in_front, is_line_end, lines_of}
 use Rattle.fst_semiring.specs.Cost.{Cost}
 use Rattle.fst_semiring.specs.declared.arc_type.ArcType.{ArcType}
-use Rattle.fst_machine.specs.Graph.{Graph}
+use Rattle.fst_machine.specs.Graph.{Graph, graph_of}
 use Rattle.fst_machine.specs.Machine.{Machine, valued}
 use Rattle.fst_answer.specs.Answers.{IsAnswer}
 use Rattle.fst_answer.specs.AnswerText.{answer_text, path_line}
@@ -15,14 +13,14 @@ use Rattle.fst_answer.specs.declared.answer.LineAnswer.{LineAnswer}
 use Rattle.fst_answer.specs.declared.answer.LineAnswer.TheVariants.{Listed, Refused}
 use Rattle.fst_batch.specs.Lattice.{lattice}
 use Rattle.fst_compose.specs.Answers.{IsSorted}
-use Rattle.fst_compose.specs.Composition.{composition}
+use Rattle.fst_compose.specs.Composition.{composed, composition}
 use Rattle.fst_compose.specs.Faults.{compose_text}
 use Rattle.fst_compose.specs.declared.fault.ComposeFault.TheVariants.{NotSorted}
 use Rattle.fst_trim.specs.declared.side.Side.TheVariants.{Input, Output}
 use Rattle.fst_trim.proofs.Valued.{IsSortedOn-valued}
 use Rattle.fst_batch.specs.Expansions.{IsExpansions}
 use Rattle.fst_words.specs.declared.options.Options.{Options}
-use Rattle.fst_command.specs.Batching.{IsBatch, batch_text, lines_from, valued_answer}
+use Rattle.fst_command.specs.Batching.{AreAnswered, IsBatch, batch_text, lines_from, valued_answer}
 use Rattle.fst_command.specs.Causes.{faulty, refused, unmade}
 use Rattle.fst_command.specs.Composing.{state_limit}
 use Rattle.fst_command.specs.Listing.{path_count}
@@ -30,10 +28,7 @@ use Rattle.fst_command.specs.Meaning.{Declines, Passes, Stops, answered}
 use Rattle.fst_command.specs.Told.{IsMade}
 use Rattle.fst_command.specs.declared.refusal.Refusal.{Refusal}
 use Rattle.fst_command.proofs.Refusing.{declines_made}
-
--- what is left begins with the thing at its place
-drop_at : {X : Type 0} (xs : List X) (i : ℕ) (x : X) → slice_get xs i ≡ Some x → drop i xs ≡ x ∷ drop (i + 1) xs
-drop_at {X} xs i x e = drop_more xs i x (slice_get_within xs i x e) ∙ ap (λ (y : X). y ∷ drop (i + 1) xs) (get_or_from_slice_get xs i x x e)
+use Rattle.fst_nbest.proofs.Remaining.{drop_at}
 
 module _ {V : Type 0} (kind : ArcType) (value : V → Cost) where
   -- the text of an answer is that of its values
@@ -89,6 +84,18 @@ few_lines (c ∷ cs) = go (is_line_end c) (few_lines cs) where
 
 -- ---- the command
 
+-- so many paths are asked for, with this limit
+pub answered_by : (kind : ArcType) (a b : Machine Cost) (o : Options) (lines : List (List ℕ)) (answers : List (LineAnswer Cost)) (n limit expansions : ℕ) → n ≡ path_count o → limit ≡ state_limit o
+    → AllZip (λ line answer. IsAnswer kind (composed kind (graph_of a) (graph_of b)) n limit line (λ w. w) answer) lines answers → IsExpansions lines (composed kind (graph_of a) (graph_of b)) limit expansions
+    → AreAnswered kind a b o lines answers expansions
+answered_by kind a b o lines answers n limit expansions count most each needed =
+    let g = composed kind (graph_of a) (graph_of b) in
+    record {
+      each = subst (λ (k : ℕ). AllZip (λ line answer. IsAnswer kind g k (state_limit o) line (λ w. w) answer) lines answers) count
+          (subst (λ (k : ℕ). AllZip (λ line answer. IsAnswer kind g n k line (λ w. w) answer) lines answers) most each);
+      needed = subst (λ (k : ℕ). IsExpansions lines g k expansions) most needed;
+    }
+
 module _ {V : Type 0} (kind : ArcType) (value : V → Cost) (a b : Machine V) where
   sorted-valued : IsSorted a b → IsSorted (valued value a) (valued value b)
   sorted-valued (inl first) = inl ((IsSortedOn-valued value Output a).0 first)
@@ -114,11 +121,6 @@ module _ {V : Type 0} (kind : ArcType) (value : V → Cost) (a b : Machine V) wh
   is_batch o lines answers n limit expansions text count most each needed is = record {
     answers = map (valued_answer value) answers;
     expansions = expansions;
-    are = record {
-      each = subst (λ (k : ℕ). AllZip (λ line answer. IsAnswer kind (composition kind value a b) k (state_limit o) line (λ w. w) answer) lines (map (valued_answer value) answers)) count
-          (subst (λ (k : ℕ). AllZip (λ line answer. IsAnswer kind (composition kind value a b) n k line (λ w. w) answer) lines (map (valued_answer value) answers)) most
-          (answers-valued kind value (composition kind value a b) n limit lines answers each));
-      needed = subst (λ (k : ℕ). IsExpansions lines (composition kind value a b) k expansions) most needed;
-    };
+    are = answered_by kind (valued value a) (valued value b) o lines (map (valued_answer value) answers) n limit expansions count most (answers-valued kind value (composition kind value a b) n limit lines answers each) needed;
     is = ap (λ (t : List ℕ). answered t expansions) is;
   }

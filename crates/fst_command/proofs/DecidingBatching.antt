@@ -12,7 +12,7 @@ use Rattle.fst_answer.specs.Answers.{IsAnswer}
 use Rattle.fst_answer.specs.declared.answer.LineAnswer.{LineAnswer}
 use Rattle.fst_answer.proofs.OneAnswer.{one_answer}
 use Rattle.fst_words.specs.declared.options.Options.{Options}
-use Rattle.fst_command.specs.Batching.{IsBatch, batch_text}
+use Rattle.fst_command.specs.Batching.{AreAnswered, IsBatch, batch_text}
 use Rattle.fst_command.specs.Composing.{state_limit}
 use Rattle.fst_command.specs.Listing.{path_count}
 use Rattle.fst_command.specs.Meaning.{answered, bytes_of, for_two, Made}
@@ -36,12 +36,19 @@ one_list kind g n limit (l ∷ ls) (x ∷ xs) [] one two = absurd two
 one_list kind g n limit (l ∷ ls) (x ∷ xs) (y ∷ ys) one two =
     ap₂ (λ (x : LineAnswer Cost) (rest : List (LineAnswer Cost)). x ∷ rest) (one_answer kind g n limit l (λ w. w) (λ v w e. e) x y one.0 two.0) (one_list kind g n limit ls xs ys one.1 two.1)
 
+-- they are answered once
+pub one_answered : (kind : ArcType) (a b : Machine Cost) (o : Options) (lines : List (List ℕ)) (xs ys : List (LineAnswer Cost)) (d e : ℕ)
+    → AreAnswered kind a b o lines xs d → AreAnswered kind a b o lines ys e → (xs ≡ ys) × (d ≡ e)
+one_answered kind a b o lines xs ys d e one two =
+    let g = composed kind (graph_of a) (graph_of b) in (
+      one_list kind g (path_count o) (state_limit o) lines xs ys one.each two.each,
+      one_number lines g (state_limit o) d e one.needed two.needed,
+    )
+
 pub one_batch : (kind : ArcType) (a b : Machine Cost) (o : Options) (lines : List (List ℕ)) → One (IsBatch kind a b o lines)
 one_batch kind a b o lines x y one two =
-    let g = composed kind (graph_of a) (graph_of b) in
-    let answers = one_list kind g (path_count o) (state_limit o) lines one.answers two.answers one.are.each two.are.each in
-    let number = one_number lines g (state_limit o) one.expansions two.expansions one.are.needed two.are.needed in
-    one.is ∙ (ap₂ (λ (list : List (LineAnswer Cost)) (e : ℕ). answered (batch_text kind o lines list e) e) answers number ∙ sym two.is)
+    let same = one_answered kind a b o lines one.answers two.answers one.expansions two.expansions one.are two.are in
+    one.is ∙ (ap₂ (λ (list : List (LineAnswer Cost)) (e : ℕ). answered (batch_text kind o lines list e) e) same.0 same.1 ∙ sym two.is)
 
 -- it makes one output
 pub batch_count : (ms : List (Machine Cost)) (kind : ArcType) (o : Options) (lines : List (List ℕ)) (made : Made) → for_two ms (λ a b. IsBatch kind a b o lines made) → length (bytes_of made) ≡ 1

@@ -36,3 +36,5 @@ mod Measured
 mod Removed
 mod Meters
 mod Batched
+mod Drawn
+mod Making

@@ -94,7 +94,7 @@ made_count verbs.Encode labels o given made is = of_coding o.decode o.encode_wei
 made_count verbs.Determinize labels o given made is = one_of given.machines given.kind _ made is
 made_count verbs.Minimize labels o given made is = one_of given.machines given.kind _ made is
 made_count verbs.Batch labels o given made is = batch_count given.machines given.kind o (lines_of given.lines) made is
-made_count verbs.Make labels o given made is = absurd is
+made_count verbs.Make labels o given made is = ap (λ (m : Made). length (bytes_of m)) is.is
 
 -- the bytes of a command are as many as its outputs
 pub stored_fits : (plan : Plan) (held : Held) (bytes : List (List ℕ)) → IsWhole plan → IsWorked plan held bytes → length (outputs_of plan) ≡ length bytes

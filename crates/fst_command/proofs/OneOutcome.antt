@@ -32,6 +32,7 @@ use Rattle.fst_command.proofs.DecidingListing.{one_listed, one_unlisted}
 use Rattle.fst_command.proofs.DecidingRemoving.{one_removed_machine, one_unremoved}
 use Rattle.fst_command.proofs.DecidingMinimizing.{one_minimizing, one_unminimized}
 use Rattle.fst_command.proofs.DecidingPushing.{one_pushing, one_unpushed}
+use Rattle.fst_command.proofs.Making.{one_cascade}
 use Rattle.fst_command.proofs.DecidingSizes.{one_cause, one_too_large}
 use Rattle.fst_command.proofs.Measured.{one_distances, one_unmeasured}
 
@@ -95,7 +96,7 @@ one_meaning verbs.Batch labels o given = record {
   stopped = one_for_two _ (λ a b x y one two. one.1 ∙ sym two.1) given.machines;
   made = one_for_two _ (λ a b. one_batch given.kind a b o (lines_of given.lines)) given.machines;
 }
-one_meaning verbs.Make labels o given = record { stopped = one_never; made = λ x y one two. absurd one }
+one_meaning verbs.Make labels o given = record { stopped = one_never; made = one_cascade o }
 
 -- ---- a run
 

@@ -5,13 +5,14 @@ use Rattle.fst_words.specs.declared.plan.Plan.{Plan}
 use Rattle.fst_words.specs.declared.verb.Verb.{Verb}
 use Rattle.fst_words.specs.declared.verb.Verb.TheVariants as verbs
 use Rattle.fst_words.specs.Plans.{rule_labels}
-use Rattle.fst_command.specs.Meaning.{Meaning, never}
+use Rattle.fst_command.specs.Meaning.{Meaning}
 use Rattle.fst_command.specs.Batching.{batch_meaning}
 use Rattle.fst_command.specs.Coding.{encode_meaning}
 use Rattle.fst_command.specs.Composing.{compose_meaning}
 use Rattle.fst_command.specs.Determinizing.{determinize_meaning}
 use Rattle.fst_command.specs.Describing.{info_meaning}
 use Rattle.fst_command.specs.Listing.{listing_meaning}
+use Rattle.fst_command.specs.Making.{make_meaning}
 use Rattle.fst_command.specs.Measuring.{measure_meaning}
 use Rattle.fst_command.specs.Minimizing.{minimize_meaning}
 use Rattle.fst_command.specs.Pushing.{push_meaning}
@@ -20,10 +21,6 @@ use Rattle.fst_command.specs.Removing.{rmepsilon_meaning}
 use Rattle.fst_command.specs.Replacing.{replace_meaning}
 use Rattle.fst_command.specs.Texts.{compile_meaning, print_meaning}
 use Rattle.fst_command.specs.Trimming.{arcsort_meaning, connect_meaning}
-
--- a command that is not built: its words are refused before it is given anything
-abbrev pub unbuilt : Meaning
-unbuilt = record { stops = λ given. never; makes = λ given made. ⊥ }
 
 -- by the command, the labels of rules and the options
 abbrev pub meaning_by : Verb → List ℕ → Options → Meaning
@@ -49,7 +46,7 @@ meaning_by verbs.Encode labels o = encode_meaning o
 meaning_by verbs.Determinize labels o = determinize_meaning o
 meaning_by verbs.Minimize labels o = minimize_meaning
 meaning_by verbs.Batch labels o = batch_meaning o
-meaning_by verbs.Make labels o = unbuilt
+meaning_by verbs.Make labels o = make_meaning o
 
 -- what a plan means
 abbrev pub meaning_for : Plan → Meaning

@@ -7,8 +7,8 @@ use Rattle.fst_semiring.specs.Names.{name_of}
 use Rattle.fst_trim.specs.declared.summary.Info.{Info}
 
 -- a line: what it is of, a tab, and the value
-abbrev pub info_line : List ℕ → List ℕ → List ℕ
-info_line name value = concat (name ∷ codes "\t" ∷ value ∷ codes "\n" ∷ [])
+abbrev pub named_line : List ℕ → List ℕ → List ℕ
+named_line name value = concat (name ∷ codes "\t" ∷ value ∷ codes "\n" ∷ [])
 
 -- the start, if there is one
 abbrev pub start_text : Option ℕ → List ℕ
@@ -22,21 +22,21 @@ answer_text holds = if holds then codes "yes" else codes "no"
 -- the lines of a machine, in their order
 abbrev pub info_lines : Info → List (List ℕ)
 info_lines info =
-    info_line (codes "arc type") (name_of info.arc_type) ∷
-    info_line (codes "states") (decimal info.states) ∷
-    info_line (codes "arcs") (decimal info.arcs) ∷
-    info_line (codes "start") (start_text info.start) ∷
-    info_line (codes "final states") (decimal info.final_states) ∷
-    info_line (codes "input epsilons") (decimal info.input_epsilons) ∷
-    info_line (codes "output epsilons") (decimal info.output_epsilons) ∷
-    info_line (codes "input/output epsilons") (decimal info.both_epsilons) ∷
-    info_line (codes "accessible states") (decimal info.accessible) ∷
-    info_line (codes "coaccessible states") (decimal info.coaccessible) ∷
-    info_line (codes "connected states") (decimal info.connected) ∷
-    info_line (codes "acceptor") (answer_text info.acceptor) ∷
-    info_line (codes "input sorted") (answer_text info.input_sorted) ∷
-    info_line (codes "output sorted") (answer_text info.output_sorted) ∷
-    info_line (codes "deterministic") (answer_text info.deterministic) ∷
+    named_line (codes "arc type") (name_of info.arc_type) ∷
+    named_line (codes "states") (decimal info.states) ∷
+    named_line (codes "arcs") (decimal info.arcs) ∷
+    named_line (codes "start") (start_text info.start) ∷
+    named_line (codes "final states") (decimal info.final_states) ∷
+    named_line (codes "input epsilons") (decimal info.input_epsilons) ∷
+    named_line (codes "output epsilons") (decimal info.output_epsilons) ∷
+    named_line (codes "input/output epsilons") (decimal info.both_epsilons) ∷
+    named_line (codes "accessible states") (decimal info.accessible) ∷
+    named_line (codes "coaccessible states") (decimal info.coaccessible) ∷
+    named_line (codes "connected states") (decimal info.connected) ∷
+    named_line (codes "acceptor") (answer_text info.acceptor) ∷
+    named_line (codes "input sorted") (answer_text info.input_sorted) ∷
+    named_line (codes "output sorted") (answer_text info.output_sorted) ∷
+    named_line (codes "deterministic") (answer_text info.deterministic) ∷
     []
 
 -- the text of a machine

@@ -17,11 +17,11 @@ pub mod Minimizing
 pub mod Measuring
 pub mod Listing
 pub mod Batching
+pub mod Making
 pub mod Removing
 pub mod Pushing
 pub mod Coding
 pub mod Commands
-pub mod Plans
 pub mod Outcome
 pub mod OneOutcome
 pub mod Told

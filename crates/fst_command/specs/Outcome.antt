@@ -4,8 +4,7 @@ use Rattle.fst_desk.specs.Seen.{Files, Filed, Showing, Seen, Rises, raised}
 use Rattle.fst_desk.specs.Desk.{content_of, ToldHolds, ToldAppends}
 use Rattle.fst_words.specs.declared.plan.Plan.{Plan}
 use Rattle.fst_words.specs.Inputs.{Input, expands, plan_inputs}
-use Rattle.fst_words.specs.Plans.{outputs_of}
-use Rattle.fst_command.specs.Plans.{plan_of}
+use Rattle.fst_words.specs.Plans.{outputs_of, plan_of}
 use Rattle.fst_command.specs.Causes.{Cause, too_long, faulty, Fault, Answer, done, usage, refused, no_memory, unread, unwritten, status_of, line_of}
 use Rattle.fst_command.specs.Commands.{meaning_for}
 use Rattle.fst_command.specs.Given.{Given, Held, given_by, given_of, nothing, read_limit}

@@ -5,7 +5,6 @@ ghost use Rattle.fst_words.specs.Inputs.{expands};
 ghost use Rattle.fst_words.specs.PlanLaws.{IsWhole};
 ghost use Rattle.fst_words.specs.Plans.{outputs_of};
 ghost use Rattle.fst_command.specs.Metering.{IsFree, meter_seen};
-ghost use Rattle.fst_command.specs.Plans.{is_built};
 ghost use Rattle.fst_command.specs.Seeing.{bytes_seen};
 ghost use Rattle.fst_command.specs.Steps.{MetersEnd, Works, WorksAfter};
 
@@ -48,7 +47,6 @@ pub(crate) fn carry_out<R: Threads + Sync, D: Desk, M: Meter>(
     queues: Queues,
     meter: &mut M,
 ) -> Result<(), Refusal>
-    requires built { is_built plan.now.command ≡ true }
     requires whole { IsWhole plan.now }
     requires free { IsFree (meter_seen M.count M.parts_out M.is_part meter.old) }
     ensures works { Works (Some plan.now) (D.seen desk.old) (D.seen desk.new) result }

@@ -8,7 +8,6 @@ ghost use Rattle.fst_command.specs.Commands.{meaning_for};
 ghost use Rattle.fst_command.specs.Given.{read_limit};
 ghost use Rattle.fst_command.specs.Meaning.{Settles};
 ghost use Rattle.fst_command.specs.Metering.{IsFree, Raises, meter_seen};
-ghost use Rattle.fst_command.specs.Plans.{is_built};
 ghost use Rattle.fst_command.specs.Seeing.{given_seen, made_seen};
 
 mod batching;
@@ -17,8 +16,10 @@ mod composing;
 mod describing;
 mod determinizing;
 mod listing;
+mod making;
 mod measuring;
 mod minimizing;
+mod named;
 mod pushing;
 mod rational;
 mod removing;
@@ -47,7 +48,6 @@ pub(crate) fn made<R: Threads + Sync, W: Weight + Send + Sync, M: Meter>(
 ) -> Result<Made<W>, Refusal>
 where
     W::Wide: Send + Sync,
-    requires built { is_built plan.now.command ≡ true }
     requires whole { IsWhole plan.now }
     requires machines { length given.machines.items ≡ machine_count plan.now }
     requires codex { has_codex plan.now ≡ true → IsSome given.codex }
@@ -79,6 +79,6 @@ where
         Verb::Shortestpath => listing::listed(alloc, &plan.options, given),
         Verb::Push => pushing::pushed(alloc, &plan.options, given, queues),
         Verb::Batch => batching::answered(rt, alloc, &plan.options, given, meter),
-        Verb::Make => unreachable!(),
+        Verb::Make => making::drawn(rt, alloc, &plan.options, meter),
     }
 }

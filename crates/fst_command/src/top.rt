@@ -1,8 +1,8 @@
 //! The top call: words, work, and the line of a refusal.
 
 ghost use Rattle.std.specs.Prelude.{◌≡◌, map, string_bytes};
+ghost use Rattle.fst_words.specs.Plans.{plan_of};
 ghost use Rattle.fst_command.specs.Metering.{IsFree, meter_seen};
-ghost use Rattle.fst_command.specs.Plans.{is_built, plan_of};
 ghost use Rattle.fst_command.specs.Outcome.{Completes, Meters, Runs};
 ghost use Rattle.fst_command.specs.Steps.{MetersWords, Works};
 
@@ -11,40 +11,9 @@ use crate::queues::Queues;
 use crate::refusal::Refusal;
 use fst_delayed::Meter;
 use fst_desk::Desk;
-use fst_words::{Verb, WordsFault, read_words};
+use fst_words::{WordsFault, read_words};
 use std::alloc::Global;
 use std::thread::Threads;
-
-/// Whether a command is built.
-fn is_ready(verb: Verb) -> bool
-    ensures { result ≡ is_built verb }
-{
-    matches!(
-        verb,
-        Verb::Compile
-            | Verb::Print
-            | Verb::Info
-            | Verb::Invert
-            | Verb::Reverse
-            | Verb::Connect
-            | Verb::Union
-            | Verb::Concat
-            | Verb::Closure
-            | Verb::Project
-            | Verb::Relabel
-            | Verb::Arcsort
-            | Verb::Encode
-            | Verb::Replace
-            | Verb::Compose
-            | Verb::Determinize
-            | Verb::Rmepsilon
-            | Verb::Minimize
-            | Verb::Shortestdistance
-            | Verb::Shortestpath
-            | Verb::Batch
-            | Verb::Push
-    )
-}
 
 /// Does what the words ask for.
 fn work<R: Threads + Sync, D: Desk, M: Meter>(
@@ -60,12 +29,7 @@ fn work<R: Threads + Sync, D: Desk, M: Meter>(
     ensures works { Works (plan_of (map (λ w. string_bytes w) words.now)) (D.seen desk.old) (D.seen desk.new) result }
 {
     match read_words(alloc, words) {
-        Ok(plan) => {
-            if !is_ready(plan.command) {
-                return Err(Refusal::Usage);
-            }
-            carry_out(rt, alloc, desk, &plan, queues, meter)
-        }
+        Ok(plan) => carry_out(rt, alloc, desk, &plan, queues, meter),
         Err(WordsFault::Usage) => Err(Refusal::Usage),
         Err(WordsFault::Memory) => Err(Refusal::Memory),
     }

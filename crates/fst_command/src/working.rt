@@ -7,7 +7,6 @@ ghost use Rattle.fst_words.specs.Inputs.{has_codex, machine_count};
 ghost use Rattle.fst_words.specs.PlanLaws.{IsWhole};
 ghost use Rattle.fst_command.specs.Given.{kind_of, read_limit};
 ghost use Rattle.fst_command.specs.Metering.{IsFree, meter_seen};
-ghost use Rattle.fst_command.specs.Plans.{is_built};
 ghost use Rattle.fst_command.specs.Seeing.{bytes_seen, held_seen};
 ghost use Rattle.fst_command.specs.Steps.{Decides, MetersWork};
 
@@ -34,7 +33,6 @@ fn worked_as<R: Threads + Sync, W: Kinded + Send + Sync, M: Meter>(
 ) -> Result<Bytes, Refusal>
 where
     W::Wide: Send + Sync,
-    requires built { is_built plan.now.command ≡ true }
     requires whole { IsWhole plan.now }
     requires kind { kind_of plan.now.options (map typed held.machines.items) ≡ W.KIND }
     requires machines { length held.machines.items ≡ machine_count plan.now }
@@ -67,7 +65,6 @@ pub(crate) fn worked<R: Threads + Sync, M: Meter>(
     queues: Queues,
     meter: &mut M,
 ) -> Result<Bytes, Refusal>
-    requires built { is_built plan.now.command ≡ true }
     requires whole { IsWhole plan.now }
     requires machines { length held.machines.items ≡ machine_count plan.now }
     requires codex { has_codex plan.now ≡ true → IsSome held.codex }

@@ -43,7 +43,7 @@ static DESK: [Row; 28] = [
 const USAGE: &[u8] = b"fst: bad command line\n";
 
 /// A name that is missing is that of the standard streams; one name may stand in both places.
-static WORDS: [Row; 32] = [
+static WORDS: [Row; 31] = [
     Put("t", TICKET),
     Row::Fail(7, 0),
     Refuse("", 1, USAGE),
@@ -76,8 +76,6 @@ static WORDS: [Row; 32] = [
     Put("-", TICKET),
     Run("compile -- - -"),
     Holds("-", TICKET_FILE),
-    // A command of the form that is not built yet.
-    Refuse("make c", 1, USAGE),
 ];
 
 /// Names that begin with a dash.

@@ -1,7 +1,6 @@
 //! `batch`.
 
 ghost use Rattle.std.specs.Prelude.{◌≡◌, ◌+◌, ◌++◌, ◌<◌, ◌≤◌, IfOk, OnOk, length, map, true};
-ghost use Rattle.std.specs.Fmt.{decimal};
 ghost use Rattle.std.specs.Result.{result_map_both};
 ghost use Rattle.fst_machine.specs.Machine.{most_states};
 ghost use Rattle.fst_words.specs.PlanLaws.{HasNumbersInRange};
@@ -18,13 +17,12 @@ use crate::commands::listing::count_of;
 use crate::given::Given;
 use crate::made::Made;
 use crate::refusal::Refusal;
-use fst_answer::{BatchOptions, LineAnswer, put_answer_lines, run_batch};
+use fst_answer::{BatchOptions, LineAnswer, put_answer_lines, put_number, run_batch};
 use fst_batch::{BatchReport, Lines, OpenGate};
 use fst_compose::ComposeFault;
 use fst_delayed::{Delayed, Meter};
 use fst_semiring::Weight;
 use fst_words::Options;
-use itoa::Buffer;
 use std::alloc::{AllocError, Global};
 use std::thread::Threads;
 
@@ -40,7 +38,7 @@ fn workers_of(options: &Options) -> u32
 }
 
 /// What is asked of the batch.
-fn asked(options: &Options) -> BatchOptions
+pub(crate) fn asked(options: &Options) -> BatchOptions
     requires { HasNumbersInRange options.now }
     ensures paths { (result.nshortest ≡ path_count options.now) × (1 ≤ result.nshortest) × (result.nshortest ≤ 100000) }
     ensures workers { (0 < result.workers) × (result.workers ≤ 64) }
@@ -51,14 +49,6 @@ fn asked(options: &Options) -> BatchOptions
         workers: workers_of(options),
         max_states: limit_of(options),
     }
-}
-
-/// Appends a number.
-fn put_number(out: &mut Vec<u8>, number: u64) -> Result<(), AllocError>
-    ensures { OnOk result (out.new.items ≡ out.old.items ++ decimal number) }
-{
-    let mut buffer = Buffer::new();
-    out.extend_from_slice(buffer.format(number).as_bytes())
 }
 
 /// Appends the lines of all answers, in order.

@@ -1,14 +1,14 @@
 //! `info`: the text that is shown of a machine.
 
 ghost use Rattle.std.specs.Prelude.{◌≡◌, ◌++◌, IfOk, OnOk, codes, length, string_bytes};
-ghost use Rattle.std.specs.Fmt.{decimal};
 ghost use Rattle.std.specs.Result.{result_map_both};
 ghost use Rattle.fst_semiring.specs.Names.{name_of};
 ghost use Rattle.fst_command.specs.Describing.{info_meaning};
-ghost use Rattle.fst_command.specs.Descriptions.{answer_text, info_line, info_text, start_text};
+ghost use Rattle.fst_command.specs.Descriptions.{answer_text, named_line, info_text, start_text};
 ghost use Rattle.fst_command.specs.Meaning.{Settles};
 ghost use Rattle.fst_command.specs.Seeing.{given_seen, made_seen};
 
+use crate::commands::named::{add_line, add_number};
 use crate::given::Given;
 use crate::made::Made;
 use crate::refusal::Refusal;
@@ -23,40 +23,26 @@ fn answer(holds: bool) -> &'static str
     if holds { "yes" } else { "no" }
 }
 
-/// Appends a line.
-fn add_line(text: &mut String, name: &str, value: &str) -> Result<(), AllocError>
-    ensures { OnOk result (string_bytes text.new ≡ string_bytes text.old ++ info_line name.now value.now) }
-{
-    writeln!(text, "{name}\t{value}")
-}
-
 /// Appends the line of the arc type.
 fn add_type(text: &mut String, kind: ArcType) -> Result<(), AllocError>
-    ensures { OnOk result (string_bytes text.new ≡ string_bytes text.old ++ info_line (codes "arc type") (name_of kind)) }
+    ensures { OnOk result (string_bytes text.new ≡ string_bytes text.old ++ named_line (codes "arc type") (name_of kind)) }
 {
     add_line(text, "arc type", kind.name())
 }
 
-/// Appends the line of a count.
-fn add_count(text: &mut String, name: &str, count: u32) -> Result<(), AllocError>
-    ensures { OnOk result (string_bytes text.new ≡ string_bytes text.old ++ info_line name.now (decimal count)) }
-{
-    writeln!(text, "{name}\t{count}")
-}
-
 /// Appends the line of a property.
 fn add_answer(text: &mut String, name: &str, holds: bool) -> Result<(), AllocError>
-    ensures { OnOk result (string_bytes text.new ≡ string_bytes text.old ++ info_line name.now (answer_text holds)) }
+    ensures { OnOk result (string_bytes text.new ≡ string_bytes text.old ++ named_line name.now (answer_text holds)) }
 {
     add_line(text, name, answer(holds))
 }
 
 /// Appends the line of the start.
 fn add_start(text: &mut String, start: Option<u32>) -> Result<(), AllocError>
-    ensures { OnOk result (string_bytes text.new ≡ string_bytes text.old ++ info_line (codes "start") (start_text start)) }
+    ensures { OnOk result (string_bytes text.new ≡ string_bytes text.old ++ named_line (codes "start") (start_text start)) }
 {
     match start {
-        Some(state) => add_count(text, "start", state),
+        Some(state) => add_number(text, "start", state),
         None => add_line(text, "start", "none"),
     }
 }
@@ -67,16 +53,16 @@ fn text_of(alloc: Global, info: &Info) -> Result<Vec<u8>, AllocError>
 {
     let mut text = String::new(alloc);
     add_type(&mut text, info.arc_type)?;
-    add_count(&mut text, "states", info.states)?;
-    add_count(&mut text, "arcs", info.arcs)?;
+    add_number(&mut text, "states", info.states)?;
+    add_number(&mut text, "arcs", info.arcs)?;
     add_start(&mut text, info.start)?;
-    add_count(&mut text, "final states", info.final_states)?;
-    add_count(&mut text, "input epsilons", info.input_epsilons)?;
-    add_count(&mut text, "output epsilons", info.output_epsilons)?;
-    add_count(&mut text, "input/output epsilons", info.both_epsilons)?;
-    add_count(&mut text, "accessible states", info.accessible)?;
-    add_count(&mut text, "coaccessible states", info.coaccessible)?;
-    add_count(&mut text, "connected states", info.connected)?;
+    add_number(&mut text, "final states", info.final_states)?;
+    add_number(&mut text, "input epsilons", info.input_epsilons)?;
+    add_number(&mut text, "output epsilons", info.output_epsilons)?;
+    add_number(&mut text, "input/output epsilons", info.both_epsilons)?;
+    add_number(&mut text, "accessible states", info.accessible)?;
+    add_number(&mut text, "coaccessible states", info.coaccessible)?;
+    add_number(&mut text, "connected states", info.connected)?;
     add_answer(&mut text, "acceptor", info.acceptor)?;
     add_answer(&mut text, "input sorted", info.input_sorted)?;
     add_answer(&mut text, "output sorted", info.output_sorted)?;

@@ -32,3 +32,11 @@ returns-in-Replace-clause-settles g c =
     let kind = g.W.Weight.KIND in
     let value = g.W.Weight.value in
     subst (λ (v : Verb). Settles (meaning_by v (rule_labels plan) plan.options) (given_seen kind value c.args.given) (result_map_both (made_seen kind value) (λ e. e) c.replaced.result)) (sym c.in-Replace.is) c.replaced.ensures
+
+pub returns-in-Make-clause-settles : goal.returns-in-Make-clause-settles
+returns-in-Make-clause-settles g c =
+    let plan = c.args.plan.now in
+    let kind = g.W.Weight.KIND in
+    let value = g.W.Weight.value in
+    let given = given_seen kind value c.args.given in
+    subst (λ (v : Verb). Settles (meaning_by v (rule_labels plan) plan.options) given (result_map_both (made_seen kind value) (λ e. e) c.drawn.result)) (sym c.in-Make.is) (c.drawn.ensures.settles given)

@@ -5,4 +5,4 @@ use Rattle.fst_command.proofs.commands.describing.text_of.Goals as goal
 
 -- the calls from the last to the first
 pub returns : goal.returns
-returns c = rw (c.into_bytes.ensures.value, c.in_ok-add_answer-4.ensures, c.in_ok-add_answer-3.ensures, c.in_ok-add_answer-2.ensures, c.in_ok-add_answer.ensures, c.in_ok-add_count-9.ensures, c.in_ok-add_count-8.ensures, c.in_ok-add_count-7.ensures, c.in_ok-add_count-6.ensures, c.in_ok-add_count-5.ensures, c.in_ok-add_count-4.ensures, c.in_ok-add_count-3.ensures, c.in_ok-add_start.ensures, c.in_ok-add_count-2.ensures, c.in_ok-add_count.ensures, c.in_ok-add_type.ensures, c.new-text.ensures.bytes) (followed-concat [] (info_lines c.args.info.now))
+returns c = rw (c.into_bytes.ensures.value, c.in_ok-add_answer-4.ensures, c.in_ok-add_answer-3.ensures, c.in_ok-add_answer-2.ensures, c.in_ok-add_answer.ensures, c.in_ok-add_number-9.ensures, c.in_ok-add_number-8.ensures, c.in_ok-add_number-7.ensures, c.in_ok-add_number-6.ensures, c.in_ok-add_number-5.ensures, c.in_ok-add_number-4.ensures, c.in_ok-add_number-3.ensures, c.in_ok-add_start.ensures, c.in_ok-add_number-2.ensures, c.in_ok-add_number.ensures, c.in_ok-add_type.ensures, c.new-text.ensures.bytes) (followed-concat [] (info_lines c.args.info.now))
