@@ -12,6 +12,10 @@ same machine has its state numbers permuted and spread out, as multiples of the 
     machines.py --pair FIRST SECOND STATES
     machines.py --word WORD LEXICON LETTERS ARCS
     machines.py --hubs FIRST SECOND MATCHES ARCS
+    machines.py --epsilons PATH ARCS
+    machines.py --lattice PATH LAYERS WIDTH
+    machines.py --words PATH ARCS
+    machines.py --classes PATH ARCS
 
 With --symbols the labels are written by their names in a table of so many symbols, which is written too.
 With --chain each state has one arc, to the next one, and the last is final. With --pairs so many labels
@@ -19,7 +23,9 @@ below 5,000 are given new ones. With --rules a root and a rule of 100 arcs are w
 the rule by the label so often that with all calls replaced there are about so many arcs. With --pair two machines of so many states are written to be
 composed: 20 arcs a state over 60 labels, one in ten of which writes, or reads, epsilon. With --word a word of so many letters
 is written, and a lexicon of one state with so many arcs, in order, which reads them; with --hubs two machines whose starts have so
-many arcs in order, of which so many match.
+many arcs in order, of which so many match. With --epsilons half of the arcs are epsilon, within blocks of 16 states; with --lattice
+each state of a layer has five arcs to states of the next; with --words each word of a lexicon is a chain of arcs from one start; with
+--classes a deterministic acceptor with cycles is written, about eight of whose states behave as one once weights are pushed.
 """
 import random
 import sys
@@ -166,19 +172,107 @@ def write_hubs(first, second, matches, arcs, seed=1):
     write_hub(second, 1, labels[arcs - matches :], 0, draw)
 
 
+def write_epsilons(path, arcs, seed=1, block=16):
+    """Writes a machine of three arcs a state, about half of them epsilon and within blocks, a tenth of these back."""
+    draw = random.Random(seed)
+    states = arcs // 3
+
+    def plain(state, target):
+        return f"{state}\t{target}\t{draw.randrange(1, 100)}\t{draw.randrange(1, 100)}\t{draw.randrange(20)}\n"
+
+    with open(path, "w") as out:
+        for state in range(states):
+            first = state - state % block
+            last = min(states, first + block) - 1
+            out.write(plain(state, (state + 1) % states))
+            for _ in range(2):
+                turn = draw.random()
+                if turn < 0.7 and state < last:
+                    out.write(f"{state}\t{draw.randrange(state + 1, last + 1)}\t0\t0\t{draw.randrange(1, 21)}\n")
+                elif 0.7 <= turn < 0.78 and state > first:
+                    out.write(f"{state}\t{draw.randrange(first, state)}\t0\t0\t{draw.randrange(1, 21)}\n")
+                else:
+                    out.write(plain(state, draw.randrange(states)))
+            if draw.random() < 0.2 or state == states - 1:
+                out.write(f"{state}\t{draw.randrange(20)}\n")
+
+
+def write_lattice(path, layers, width, seed=1):
+    """Writes layers of states, each with five arcs to states of the next, behind a start with an arc to each of the first."""
+    draw = random.Random(seed)
+
+    def arc(state, target):
+        return f"{state}\t{target}\t{draw.randrange(1, 501)}\t{draw.randrange(1, 501)}\t{draw.randrange(1000)}\n"
+
+    with open(path, "w") as out:
+        out.writelines(arc(0, 1 + place) for place in range(width))
+        for layer in range(layers):
+            for place in range(width):
+                state = 1 + layer * width + place
+                if layer + 1 == layers:
+                    out.write(f"{state}\t{draw.randrange(1000)}\n")
+                else:
+                    out.writelines(arc(state, 1 + (layer + 1) * width + draw.randrange(width)) for _ in range(5))
+
+
+def write_words(path, arcs, seed=1):
+    """Writes different words, each a chain of arcs from one start, until there are so many arcs; some letters are rarer."""
+    draw = random.Random(seed)
+    words, state = set(), 0
+    with open(path, "w") as out:
+        while state < arcs:
+            word = tuple(1 + int(draw.random() ** 2 * 26) for _ in range(draw.randrange(3, 13)))
+            if word in words:
+                continue
+            words.add(word)
+            source = 0
+            for letter in word:
+                state += 1
+                out.write(f"{source}\t{state}\t{letter}\t{letter}\t{draw.randrange(3)}\n")
+                source = state
+            out.write(f"{state}\t{draw.randrange(10)}\n")
+
+
+def write_classes(path, arcs, seed=1, letters=10, alike=8):
+    """Writes a deterministic acceptor with cycles, whose states fall into classes behind weights that pushing takes away."""
+    draw = random.Random(seed)
+    states = arcs // letters
+    count = max(2, states // alike)
+    nexts = [[draw.randrange(count) for _ in range(letters)] for _ in range(count)]
+    weights = [[draw.randrange(10) for _ in range(letters)] for _ in range(count)]
+    finals = [draw.randrange(10) if draw.random() < 0.3 or own == 0 else None for own in range(count)]
+    hidden = [0] + [draw.randrange(50) for _ in range(states - 1)]
+    with open(path, "w") as out:
+        for state in range(states):
+            own = state % count
+            for letter in range(letters):
+                goal = nexts[own][letter]
+                target = goal + count * draw.randrange((states - goal + count - 1) // count)
+                weight = 100 + weights[own][letter] + hidden[state] - hidden[target]
+                out.write(f"{state}\t{target}\t{letter + 1}\t{letter + 1}\t{weight}\n")
+            if finals[own] is not None:
+                out.write(f"{state}\t{finals[own] + hidden[state]}\n")
+
+
+# What each mode writes, and how many files: their names come first, and numbers after them.
+MODES = {
+    "--chain": (write_chain, 1),
+    "--pairs": (write_pairs, 1),
+    "--rules": (write_rules, 2),
+    "--pair": (write_pair, 2),
+    "--word": (write_word, 2),
+    "--hubs": (write_hubs, 2),
+    "--epsilons": (write_epsilons, 1),
+    "--lattice": (write_lattice, 1),
+    "--words": (write_words, 1),
+    "--classes": (write_classes, 1),
+}
+
+
 if __name__ == "__main__":
-    if sys.argv[1] == "--chain":
-        write_chain(sys.argv[2], int(sys.argv[3]))
-    elif sys.argv[1] == "--pairs":
-        write_pairs(sys.argv[2], int(sys.argv[3]))
-    elif sys.argv[1] == "--rules":
-        write_rules(sys.argv[2], sys.argv[3], *map(int, sys.argv[4:6]))
-    elif sys.argv[1] == "--pair":
-        write_pair(sys.argv[2], sys.argv[3], int(sys.argv[4]))
-    elif sys.argv[1] == "--word":
-        write_word(sys.argv[2], sys.argv[3], *map(int, sys.argv[4:6]))
-    elif sys.argv[1] == "--hubs":
-        write_hubs(sys.argv[2], sys.argv[3], *map(int, sys.argv[4:6]))
+    if sys.argv[1] in MODES:
+        write, files = MODES[sys.argv[1]]
+        write(*sys.argv[2 : 2 + files], *map(int, sys.argv[2 + files :]))
     elif sys.argv[1] == "--symbols":
         write_symbols(sys.argv[2], int(sys.argv[3]))
         if len(sys.argv) > 4:

@@ -1,7 +1,7 @@
 #!/usr/bin/env python3
 """fst beside OpenFst's tools on the same inputs, in one run.
 
-    side_by_side.py [--fst PATH] [--sizes 10000,100000,1000000] [--rounds 5] [--only forms|operations] [--gate]
+    side_by_side.py [--fst PATH] [--sizes 10000,100000,1000000] [--rounds 5] [--only forms|operations|algebra] [--gate]
 
 The runs of the two programs alternate, so that a slow minute of the machine falls on both. For each run
 the processor time (user and system) and the peak resident size are taken; the table shows medians. With
@@ -59,6 +59,23 @@ CODING = [
     ("encode", "--encode_labels {0} {0}.codex"),
     ("encode --decode", "--decode {0}.encoded {0}.codex"),
 ]
+# The algebra: the row, the machine, the command and its words, and the bound on the ratio of time. The words are a lexicon of chains,
+# `trie` is its deterministic machine, and `classes` is deterministic with cycles.
+ALGEBRA = [
+    ("rmepsilon", "epsilons", "rmepsilon", "{0}", TIME),
+    ("rmepsilon, first in first out", "epsilons", "rmepsilon", "--queue_type=fifo {0}", TIME),
+    ("shortestdistance, best first", "epsilons", "shortestdistance", "--queue_type=shortest {0}", 1.0),
+    ("shortestdistance to the final states", "epsilons", "shortestdistance", "--reverse {0}", TIME),
+    ("shortestpath", "lattice", "shortestpath", "{0}", 1.0),
+    ("shortestpath, a thousand", "lattice", "shortestpath", "--nshortest=1000 {0}", TIME),
+    ("determinize, words", "words", "determinize", "{0}", TIME),
+    ("push, a trie", "trie", "push", "--push_weights {0}", TIME),
+    ("push, with cycles", "classes", "push", "--push_weights {0}", TIME),
+    ("minimize, a trie", "trie", "minimize", "{0}", TIME),
+    ("minimize, with cycles", "classes", "minimize", "{0}", TIME),
+]
+# How many layers a lattice has, and how many arcs a state of it.
+LAYERS, LATTICE_FAN = 100, 5
 # Those that go along the paths of a machine: they also take the longest chain.
 DEEP = ["connect", "info"]
 
@@ -275,6 +292,34 @@ def forms(fst, sizes, rounds, scratch):
     return is_over(found, sizes) or rate < 300 or call > 5 or max(gaps, wide_gaps) > 1.5
 
 
+def determinized(text, scratch, name):
+    """The text of the deterministic machine of a text, made by OpenFst."""
+    made = os.path.join(scratch, name + ".txt")
+    with open(made, "wb") as out:
+        first = subprocess.Popen(["fstcompile", text], stdout=subprocess.PIPE)
+        second = subprocess.Popen(["fstdeterminize"], stdin=first.stdout, stdout=subprocess.PIPE)
+        subprocess.run(["fstprint"], stdin=second.stdout, stdout=out, check=True)
+    if first.wait() or second.wait():
+        sys.exit(f"OpenFst does not determinize {text}")
+    return made
+
+
+def algebra_cases(fst, size, scratch):
+    """The rows of the algebra on machines of about that many arcs."""
+    texts = {name: os.path.join(scratch, f"{name}.{size}.txt") for name in ("epsilons", "words", "classes", "lattice")}
+    words = {name: (size,) for name in texts} | {"lattice": (LAYERS, max(2, size // (LAYERS * LATTICE_FAN)))}
+    for name, text in texts.items():
+        subprocess.run([sys.executable, MACHINES, "--" + name, text, *map(str, words[name])], check=True)
+    texts["trie"] = determinized(texts["words"], scratch, f"trie.{size}")
+    files = {name: machine_files(fst, text, scratch, name) for name, text in texts.items()}
+    most = {"determinize": f"--max_states={MOST_STATES}"}
+    rows = []
+    for row, machine, command, words, time in ALGEBRA:
+        ours, theirs = operation(fst, command, words, files[machine], None, scratch)
+        rows.append((row, [*ours[:2], *filter(None, [most.get(command)]), *ours[2:]], theirs, time, MEMORY))
+    return rows
+
+
 def grows(found, sizes):
     """Shows seconds for 10^6 arcs by size. Gives whether an operation takes too long for ten times the arcs."""
     print("\n| Seconds for 10^6 arcs | " + " | ".join(f"of {size}" for size in sizes) + " |")
@@ -304,19 +349,26 @@ def operations(fst, sizes, rounds, scratch):
     return over
 
 
+def algebra(fst, sizes, rounds, scratch):
+    """Shows the algebra beside OpenFst's tools. Gives whether a bound is passed."""
+    found = {size: shown_rows(size, algebra_cases(fst, size, scratch), rounds, scratch) for size in sizes}
+    over = is_over(found, sizes)
+    return grows(found, sizes) or over
+
+
 def main():
     words = argparse.ArgumentParser()
     words.add_argument("--fst", default="out/fst")
     words.add_argument("--sizes", default="10000,100000,1000000")
     words.add_argument("--rounds", type=int, default=5)
-    words.add_argument("--only", choices=["forms", "operations"])
+    words.add_argument("--only", choices=["forms", "operations", "algebra"])
     words.add_argument("--gate", action="store_true")
     words = words.parse_args()
     if not shutil.which("fstcompile"):
         sys.exit("OpenFst's tools are not here: apt-get install libfst-tools")
     sizes = sorted(map(int, words.sizes.split(",")))
     over = False
-    for name, part in ("forms", forms), ("operations", operations):
+    for name, part in ("forms", forms), ("operations", operations), ("algebra", algebra):
         if words.only not in (None, name):
             continue
         print("| Arcs | Command | fst: s, MiB | OpenFst: s, MiB | time | memory |")
