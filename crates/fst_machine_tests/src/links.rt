@@ -50,5 +50,10 @@ fn lists_the_kept_states(rt: HostRuntime) -> Result<(), Fail> {
     let fst: Fst<Tropical> = machine(rt.alloc(), b"1 0 1 1\n1 3 2 2\n0 3 3 3\n3\n")?;
     let Connected { machine, kept } = connect_kept(rt.alloc(), &fst)?;
     assert!(rt; kept.as_slice() == [0u32, 1, 3].as_slice());
-    is_text(&rt, rt.alloc(), machine.fst(), b"1 0 1 1\n1 2 2 2\n0 2 3 3\n2\n")
+    is_text(
+        &rt,
+        rt.alloc(),
+        machine.fst(),
+        b"1 0 1 1\n1 2 2 2\n0 2 3 3\n2\n",
+    )
 }
