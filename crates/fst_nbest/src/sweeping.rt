@@ -236,7 +236,60 @@ fn is_started<V: Copy, M: AsMachine<V>>(fst: &M, count: &Vec<u32>) -> bool
     }
 }
 
-/// The distances and the counts, where one sweep finds them: where the machine has no cycle.
+/// The distances and the counts by a sweep of these states; `None` where it does not get through, or not to the start.
+fn swept_by<W: Weight, V: Copy, M: Widens<W, V>>(
+    alloc: Global,
+    fst: &M,
+    order: &[u32],
+) -> Result<Option<Swept<W>>, AllocError>
+    requires cancels { cancels W.KIND ≡ true }
+    requires known { All (λ s. All (λ a. M.known a.weight) s.arcs) (M.machine fst.now).states }
+    requires finals { All (λ s. M.known s.final) (M.machine fst.now).states }
+    requires firm { HasSolidArcs W.KIND (graph_of (valued M.value (M.machine fst.now))) }
+    requires low { All (λ q. q < length (M.machine fst.now).states) order.now }
+    requires few { length order.now ≤ 4194304 }
+    ensures ready { IfOk result (λ o. IfSome o (λ s. IsReady W.KIND M.value W.wide_value M.known (M.machine fst.now) s.dist.items s.count.items)) }
+    ensures none { IfOk result (λ o. IfSome o (λ s. NoneImproves W.KIND (graph_of (valued M.value (M.machine fst.now))) (IsUseful (graph_of (valued M.value (M.machine fst.now)))))) }
+{
+    let Some(swept) = sweep::<W, V, M>(alloc, fst, order)? else {
+        return Ok(None);
+    };
+    if !is_started::<V, M>(fst, &swept.count) {
+        return Ok(None);
+    }
+    Ok(Some(swept))
+}
+
+/// All states by number.
+fn by_number(alloc: Global, states: u32) -> Result<Vec<u32>, AllocError>
+    ensures low { IfOk result (λ v. All (λ q. q < states) v.items) }
+    ensures size { IfOk result (λ v. length v.items ≡ states) }
+{
+    let mut order = Vec::with_capacity(alloc, states as usize)?;
+    for state in 0..states {
+        order.push(state)?;
+    }
+    Ok(order)
+}
+
+/// The same by a sweep of all states, from the greatest number on.
+fn swept_by_number<W: Weight, V: Copy, M: Widens<W, V>>(
+    alloc: Global,
+    fst: &M,
+) -> Result<Option<Swept<W>>, AllocError>
+    requires cancels { cancels W.KIND ≡ true }
+    requires known { All (λ s. All (λ a. M.known a.weight) s.arcs) (M.machine fst.now).states }
+    requires finals { All (λ s. M.known s.final) (M.machine fst.now).states }
+    requires firm { HasSolidArcs W.KIND (graph_of (valued M.value (M.machine fst.now))) }
+    ensures ready { IfOk result (λ o. IfSome o (λ s. IsReady W.KIND M.value W.wide_value M.known (M.machine fst.now) s.dist.items s.count.items)) }
+    ensures none { IfOk result (λ o. IfSome o (λ s. NoneImproves W.KIND (graph_of (valued M.value (M.machine fst.now))) (IsUseful (graph_of (valued M.value (M.machine fst.now)))))) }
+{
+    let order = by_number(alloc, fst.state_count())?;
+    swept_by::<W, V, M>(alloc, fst, order.as_slice())
+}
+
+/// The distances and the counts, where one sweep finds them: where the machine has no cycle. Most such machines are
+/// numbered so that each arc leads to a later state, which a sweep finds out; only for the others an order is made.
 ///
 /// Time: linear in the states and the arcs.
 pub(crate) fn prepared<W: Weight, V: Copy, M: Widens<W, V>>(
@@ -251,15 +304,12 @@ pub(crate) fn prepared<W: Weight, V: Copy, M: Widens<W, V>>(
 {
     let states = fst.state_count();
     let _better = has_better::<W, V, M>(fst);
+    if let Some(swept) = swept_by_number::<W, V, M>(alloc, fst)? {
+        return Ok(Some(swept));
+    }
     let order = order_of::<V, M>(alloc, fst)?;
     if order.len() != states as usize {
         return Ok(None);
     }
-    let Some(swept) = sweep::<W, V, M>(alloc, fst, order.as_slice())? else {
-        return Ok(None);
-    };
-    if !is_started::<V, M>(fst, &swept.count) {
-        return Ok(None);
-    }
-    Ok(Some(swept))
+    swept_by::<W, V, M>(alloc, fst, order.as_slice())
 }
