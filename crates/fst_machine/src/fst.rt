@@ -47,7 +47,7 @@ impl From<AllocError> for GrowFault {
 /// is final where its final weight is not Zero. (OpenFst manual, "VectorFst".)
 ///
 /// A machine whose arcs are added state by state keeps them side by side, 24 bytes each for a weight of 8
-/// bytes, and 40 bytes a state.
+/// bytes, and 16 bytes a state.
 #[derive(Drop)]
 pub struct Fst<W: Weight> {
     kept: Kept<W>,

@@ -6,7 +6,7 @@ ghost use Rattle.fst_machine.specs.Machine.{Machine, arc_total, bare_state, chan
 
 use crate::arc::FstArc;
 use crate::fst::{GrowFault, MOST_ARCS, MOST_STATES};
-use crate::slot::Slot;
+use crate::slot::{Apart, Slot};
 use std::alloc::Global;
 use std::marker::Model;
 
@@ -19,6 +19,8 @@ pub(crate) struct Kept<V> {
     pub(crate) slots: Vec<Slot<V>>,
     /// The arcs that the states have in common.
     pub(crate) store: Vec<FstArc<V>>,
+    /// The arcs of the states whose part of the store could not grow.
+    pub(crate) apart: Vec<Apart<V>>,
     /// The number of arcs of all states together.
     pub(crate) total: u32,
 }
@@ -30,9 +32,9 @@ impl<V> Model for Kept<V> {
 
     ghost Value = { Machine V };
 
-    ghost view = { λ m. record { start = m.start; states = kept_states m.store.items m.slots.items } };
+    ghost view = { λ m. record { start = m.start; states = kept_states m.store.items m.apart.items m.slots.items } };
 
-    ghost invariant = { λ m. IsKept m.slots.items m.store.items m.total };
+    ghost invariant = { λ m. IsKept m.slots.items m.store.items m.apart.items m.total };
 }
 
 impl<V: Copy> Kept<V> {
@@ -44,11 +46,13 @@ impl<V: Copy> Kept<V> {
             start: None,
             slots: Vec::new(alloc),
             store: Vec::new(alloc),
+            apart: Vec::new(alloc),
             total: 0,
         }
     }
 
     /// Adds a state with this final weight and no arcs behind the others, and gives its number.
+    #[tactic(auto, using(crate::proofs::Keeping::kept_length))]
     pub(crate) fn add_state(&mut self, last: V) -> Result<u32, GrowFault>
         ensures number { IfOk result (λ n. n ≡ length self.old.states) }
         ensures ok { OnOk result (self.new ≡ record self.old { states = self.old.states ++ bare_state last ∷ [] }) }
@@ -60,14 +64,14 @@ impl<V: Copy> Kept<V> {
         if number >= MOST_STATES {
             return Err(GrowFault::TooManyStates);
         }
-        let alloc = *self.slots.allocator();
-        let Ok(()) = self.slots.push(Slot::new(alloc, last)) else {
+        let Ok(()) = self.slots.push(Slot::new(last)) else {
             return Err(GrowFault::Memory);
         };
         Ok(number as u32)
     }
 
     /// Adds an arc behind the others of a state.
+    #[tactic(auto, using(crate::proofs::Keeping::kept_length))]
     pub(crate) fn add_arc(&mut self, state: u32, arc: FstArc<V>) -> Result<(), GrowFault>
         requires { state < length self.old.states }
         ensures ok { OnOk result (self.new ≡ record self.old { states = changed (with_arc arc) self.old.states state }) }
@@ -79,7 +83,7 @@ impl<V: Copy> Kept<V> {
             return Err(GrowFault::TooManyArcs);
         }
         let slot = &mut self.slots[state as usize];
-        slot.put(&mut self.store, arc)?;
+        slot.put(state, &mut self.store, &mut self.apart, arc)?;
         self.total += 1;
         Ok(())
     }
@@ -92,6 +96,7 @@ impl<V: Copy> Kept<V> {
     }
 
     /// Sets the final weight of a state.
+    #[tactic(auto, using(crate::proofs::Keeping::kept_length))]
     pub(crate) fn set_final(&mut self, state: u32, weight: V)
         requires { state < length self.old.states }
         ensures { self.new ≡ record self.old { states = changed (with_final weight) self.old.states state } }
@@ -108,6 +113,7 @@ impl<V: Copy> Kept<V> {
     }
 
     /// The number of states.
+    #[tactic(auto, using(crate::proofs::Keeping::kept_length))]
     pub(crate) fn states(&self) -> u32
         ensures { result ≡ length self.now.states }
     {
@@ -122,15 +128,17 @@ impl<V: Copy> Kept<V> {
     }
 
     /// The arcs of a state, in order.
+    #[tactic(auto, using(crate::proofs::Keeping::kept_length))]
     pub(crate) fn arcs(&self, state: u32) -> &[FstArc<V>]
         requires { state < length self.now.states }
         ensures { option_map (λ s. s.arcs) (slice_get self.now.states state) ≡ Some result.now }
     {
         let slot = &self.slots[state as usize];
-        slot.arcs(self.store.as_slice())
+        slot.arcs(state, self.store.as_slice(), self.apart.as_slice())
     }
 
     /// The final weight of a state.
+    #[tactic(auto, using(crate::proofs::Keeping::kept_length))]
     pub(crate) fn final_weight(&self, state: u32) -> V
         requires { state < length self.now.states }
         ensures { option_map (λ s. s.final) (slice_get self.now.states state) ≡ Some result }

@@ -19,15 +19,15 @@ pub struct StateList<W: Weight> {
 }
 
 impl<W: Weight> Model for StateList<W> {
-    ghost use Rattle.std.specs.Prelude.{List, ◌≡◌, length, All};
+    ghost use Rattle.std.specs.Prelude.{List, [], ◌≡◌, length, All};
     ghost use Rattle.fst_machine.specs.Machine.{State, arc_total};
     ghost use Rattle.fst_machine.specs.Store.{kept_states, LiesIn};
 
     ghost Value = { List (State W) };
 
-    ghost view = { λ l. kept_states l.store.items l.slots.items };
+    ghost view = { λ l. kept_states l.store.items [] l.slots.items };
 
-    ghost invariant = { λ l. (length l.store.items ≡ arc_total (kept_states l.store.items l.slots.items)) × All (LiesIn (length l.store.items)) l.slots.items };
+    ghost invariant = { λ l. (length l.store.items ≡ arc_total (kept_states l.store.items [] l.slots.items)) × All (LiesIn (length l.store.items)) l.slots.items };
 }
 
 impl<W: Weight> StateList<W> {
@@ -51,17 +51,11 @@ impl<W: Weight> StateList<W> {
         ensures ok { OnOk result (self.new ≡ self.old ++ record { final = last; arcs = arcs.now } ∷ []) }
         ensures err { OnErr result (self.new ≡ self.old) }
     {
-        let alloc = *self.slots.allocator();
         let first = self.store.len() as u32;
         let count = arcs.len() as u32;
         self.slots.reserve(1)?;
         self.store.extend_from_slice(arcs)?;
-        self.slots.push_reserved(Slot {
-            last,
-            first,
-            count,
-            own: Vec::new(alloc),
-        });
+        self.slots.push_reserved(Slot { last, first, count });
         Ok(())
     }
 
@@ -77,12 +71,14 @@ impl<W: Weight> StateList<W> {
         requires { IsMachine W.value (record { start = start; states = self }) }
         ensures { result ≡ record { start = start; states = self } }
     {
+        let alloc = *self.slots.allocator();
         let total = self.store.len() as u32;
         Fst {
             kept: Kept {
                 start,
                 slots: self.slots,
                 store: self.store,
+                apart: Vec::new(alloc),
                 total,
             },
         }

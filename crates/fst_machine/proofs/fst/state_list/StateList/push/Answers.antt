@@ -10,9 +10,8 @@ after g c =
     let slots = c.self.inside.slots.items in
     let behind : c.len-first.result ≡ length store = omega (arith, c.len-first.ensures) in
     let put : c.push_reserved.new.self.items ≡ slots ++ slot_behind store c.args.last c.args.arcs.now ∷ [] =
-    c.push_reserved.ensures.items ∙ ap (λ ss. ss ++ record { final = c.args.last; first = c.len-first.result; count = length c.args.arcs.now; own = c.new.result.items } ∷ []) c.in_ok-reserve.ensures.items
-    ∙ ap (λ n. slots ++ record { final = c.args.last; first = n; count = length c.args.arcs.now; own = c.new.result.items } ∷ []) behind
-    ∙ ap (λ own. slots ++ record { final = c.args.last; first = length store; count = length c.args.arcs.now; own = own } ∷ []) c.new.ensures.items in
+    c.push_reserved.ensures.items ∙ ap (λ ss. ss ++ record { final = c.args.last; first = c.len-first.result; count = length c.args.arcs.now } ∷ []) c.in_ok-reserve.ensures.items
+    ∙ ap (λ n. slots ++ record { final = c.args.last; first = n; count = length c.args.arcs.now } ∷ []) behind in
     pushed store c.args.arcs.now c.extend_from_slice.new.self.items slots c.push_reserved.new.self.items c.args.last c.self.invariant.1 c.self.invariant.0 c.in_ok-extend_from_slice.ensures.items put
 
 pub invariant_of-self-2 : goal.invariant_of-self-2
