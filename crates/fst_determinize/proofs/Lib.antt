@@ -15,5 +15,6 @@ pub mod Forms
 pub mod Runs
 pub mod Puts
 pub mod Machines
+pub mod OneMember
 pub mod Answering
 pub mod Holding

@@ -74,6 +74,10 @@ module _ (kind : ArcType) where
   abbrev pub arcs_by : List Way → List (Arc Cost (List Member))
   arcs_by ys = grouped (λ y. y.label) arc_by ys
 
+  -- the arc of a way that is the only one with its label
+  abbrev pub single_arc : Way → Arc Cost (List Member)
+  single_arc y = arc_by y.label (y ∷ [])
+
   -- the final weight of a subset: the best, over its members, of residual Times final weight
   abbrev pub final_by : Graph ℕ → List Member → Cost
   final_by g members = best_by (λ m. times kind m.residual (g.final m.state)) members

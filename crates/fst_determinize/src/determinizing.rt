@@ -13,6 +13,7 @@ ghost use Rattle.fst_determinize.specs.Weighed.{AreMembers, HasGoodArcs, IsWeigh
 use crate::fault::ArcFault;
 use crate::making::put_arcs;
 use crate::residual::Residual;
+use crate::single::{labels_ascend, put_single_arcs};
 use crate::subset::{Held, SubsetOf, subset_of_one};
 use crate::way::{WayOn, further, put_arc_ways, put_ways, sort_ways};
 use fst_machine::Fst;
@@ -66,8 +67,8 @@ pub(crate) fn last_weight<W: Weight, R: Residual<W>>(fst: &Fst<W>, subset: &Subs
     best
 }
 
-/// Puts the arcs of a subset after the others.
-pub(crate) fn put_subset_arcs<W: Weight, R: Residual<W>>(
+/// Puts the arcs of a subset after the others, by way of all ways in order.
+fn put_sorted_arcs<W: Weight, R: Residual<W>>(
     scratch: &mut Scratch<R, W::Wide>,
     out: &mut Vec<NameArc<SubsetOf<R>, W>>,
     fst: &Fst<W>,
@@ -88,6 +89,28 @@ pub(crate) fn put_subset_arcs<W: Weight, R: Residual<W>>(
         scratch.ways.as_slice(),
         scratch.alloc,
     )
+}
+
+/// Puts the arcs of a subset after the others.
+pub(crate) fn put_subset_arcs<W: Weight, R: Residual<W>>(
+    scratch: &mut Scratch<R, W::Wide>,
+    out: &mut Vec<NameArc<SubsetOf<R>, W>>,
+    fst: &Fst<W>,
+    subset: &SubsetOf<R>,
+) -> Result<(), ArcFault>
+    requires weighed { IsWeighed W.KIND W.value fst.now }
+    requires members { AreMembers (length fst.now.states) subset.now }
+    ensures { OnOk result (map (key_arc W.wide_value) out.new.items ≡ map (key_arc W.wide_value) out.old.items ++ (subsets W.KIND (graph_of (valued W.value fst.now))).arcs subset.now) }
+{
+    let (first, rest) = subset.members();
+    if rest.is_empty() {
+        let arcs = fst.arcs(first.state);
+        // Nothing is to be sorted or to be put together.
+        if labels_ascend(arcs) {
+            return put_single_arcs(out, arcs, first, scratch.alloc);
+        }
+    }
+    put_sorted_arcs(scratch, out, fst, subset)
 }
 
 /// The graph of the subsets of a machine, with residuals in one form.

@@ -16,6 +16,7 @@ pub mod laws;
 mod making;
 mod on_demand;
 mod residual;
+mod single;
 mod subset;
 mod way;
 mod weighing;

@@ -1,16 +1,16 @@
 //! The arcs of a subset, of its ways in order.
 
-ghost use Rattle.std.specs.Prelude.{◌≡◌, ◌≢◌, ◌≤◌, ◌++◌, ◌∷◌, [], Some, OnOk, All, length, map, slice_get, take};
+ghost use Rattle.std.specs.Prelude.{◌≡◌, ◌≢◌, ◌≤◌, ◌++◌, ◌∷◌, [], IfOk, Some, OnOk, All, length, map, slice_get, take};
 ghost use Rattle.fst_semiring.specs.Cost.{infinite};
 ghost use Rattle.fst_semiring.specs.Semiring.{IsWide};
 ghost use Rattle.fst_machine.specs.BreadthFirst.{Has};
 ghost use Rattle.fst_walk.specs.Names.{key_arc};
-ghost use Rattle.fst_determinize.specs.Kept.{AreDivided, AreGoodWays, IsGoodWay, RisesBy, WayAs, members_as, rank, ways_as};
-ghost use Rattle.fst_determinize.specs.Ways.{arc_by, arcs_by, best_of, members_of};
+ghost use Rattle.fst_determinize.specs.Kept.{AreDivided, AreGoodWays, IsGoodWay, RisesBy, WayAs, members_as, rank, way_as, ways_as};
+ghost use Rattle.fst_determinize.specs.Ways.{arc_by, arcs_by, best_of, members_of, single_arc};
 
 use crate::fault::ArcFault;
 use crate::residual::Residual;
-use crate::subset::{Held, SubsetOf, subset_of};
+use crate::subset::{Held, SubsetOf, subset_of, subset_of_one};
 use crate::way::WayOn;
 use fst_semiring::Weight;
 use fst_walk::NameArc;
@@ -60,7 +60,7 @@ fn best_way<W: Weight>(ways: &[WayOn<W::Wide>]) -> W::Wide
 }
 
 /// Puts an item after the others.
-fn put<T: Drop>(out: &mut Vec<T>, item: T) -> Result<(), AllocError>
+pub(crate) fn put<T: Drop>(out: &mut Vec<T>, item: T) -> Result<(), AllocError>
     ensures { OnOk result (out.new.items ≡ out.old.items ++ item ∷ []) }
 {
     out.push(item)?;
@@ -95,6 +95,30 @@ fn put_members<W: Weight, R: Residual<W>>(
         rest = others;
     }
     Ok(())
+}
+
+/// The arc of a way that is the only one with its label: it leads to the subset of its state alone. Takes no memory.
+pub(crate) fn single_arc<W: Weight, R: Residual<W>>(
+    alloc: Global,
+    way: WayOn<W::Wide>,
+) -> Result<NameArc<SubsetOf<R>, W>, ArcFault>
+    requires not_zero { W.wide_value way.weight ≢ infinite }
+    requires wide { IsWide (W.wide_value way.weight) }
+    ensures { IfOk result (λ a. key_arc W.wide_value a ≡ single_arc W.KIND (way_as W.wide_value way)) }
+{
+    let Some(residual) = R::keep(W::wide_divide(way.weight, way.weight)) else {
+        return Err(ArcFault::NotKept);
+    };
+    let member = Held {
+        state: way.state,
+        residual,
+    };
+    Ok(NameArc {
+        ilabel: way.label,
+        olabel: way.label,
+        weight: way.weight,
+        next: subset_of_one(alloc, member),
+    })
 }
 
 /// Puts the arcs of these ways after the others, by label. The members of each subset are made in a list.

@@ -4,7 +4,7 @@ ghost use Rattle.std.specs.Prelude.{◌≡◌, ◌<◌, ◌≤◌, ◌+◌, ◌*
 ghost use Rattle.fst_semiring.specs.Semiring.{Within, times};
 ghost use Rattle.fst_machine.specs.Graph.{graph_of};
 ghost use Rattle.fst_machine.specs.Machine.{valued, valued_arc};
-ghost use Rattle.fst_determinize.specs.Kept.{IsModest, member_as, members_as, rank, ways_as};
+ghost use Rattle.fst_determinize.specs.Kept.{IsModest, member_as, members_as, rank, way_as, ways_as};
 ghost use Rattle.fst_determinize.specs.Ways.{way_by, ways};
 ghost use Rattle.std.specs.List.Sorted.{IsNonDecreasingBy, IsPermutation};
 
@@ -44,6 +44,18 @@ pub(crate) fn further<W: Weight, R: Residual<W>>(residual: R, weight: W) -> W::W
     W::wide_times(residual.wide(), weight.widen())
 }
 
+/// The way of a member by an arc.
+pub(crate) fn way_of<W: Weight, R: Residual<W>>(member: Held<R>, arc: FstArc<W>) -> WayOn<W::Wide>
+    requires { IsModest (R.value member.residual) }
+    ensures { way_as W.wide_value result ≡ way_by W.KIND (member_as R.value member) (valued_arc W.value arc) }
+{
+    WayOn {
+        label: arc.ilabel,
+        state: arc.next,
+        weight: further(member.residual, arc.weight),
+    }
+}
+
 /// Puts the ways of a member by these arcs after the others.
 pub(crate) fn put_arc_ways<W: Weight, R: Residual<W>>(
     out: &mut Vec<WayOn<W::Wide>>,
@@ -54,11 +66,7 @@ pub(crate) fn put_arc_ways<W: Weight, R: Residual<W>>(
     ensures { OnOk result (ways_as W.wide_value out.new.items ≡ ways_as W.wide_value out.old.items ++ map (way_by W.KIND (member_as R.value member)) (map (valued_arc W.value) arcs.now)) }
 {
     for arc in arcs {
-        out.push(WayOn {
-            label: arc.ilabel,
-            state: arc.next,
-            weight: further(member.residual, arc.weight),
-        })?;
+        out.push(way_of(member, *arc))?;
     }
     Ok(())
 }
