@@ -4,7 +4,7 @@
 //! that a machine needs no memory of its own for each state. A state whose part of the store is not at the
 //! end when an arc is added gets a list apart from the store, once.
 
-ghost use Rattle.std.specs.Prelude.{◌≡◌, ◌≢◌, ◌≤◌, ◌<◌, ◌+◌, ◌∷◌, ◌++◌, [], Some, OnOk, OnErr, IfOk, MatchOption, length, take, drop, slice_get};
+ghost use Rattle.std.specs.Prelude.{◌≡◌, ◌≤◌, ◌<◌, ◌+◌, ◌∷◌, ◌++◌, [], Some, OnOk, OnErr, IfOk, MatchOption, length, take, drop, slice_get};
 ghost use Rattle.std.specs.Option.{option_map};
 ghost use Rattle.fst_machine.specs.Store.{LiesIn, arcs_apart, slot_arcs};
 ghost use Rattle.fst_machine.specs.Putting.{Puts};
