@@ -88,8 +88,8 @@ pub record AreDivided {V : Type 0} (value : V → Cost) (by : Cost) (ys : List (
 -- a number with a member more; nothing hangs on which one it is
 unfoldable pub number_more : ℕ → Member → ℕ
 number_more n m =
-    let once = (n * 11400714819323198485 % 2 ^ 64 + m.state) % 2 ^ 64 in
-    (once * 15485907386658061715 % 2 ^ 64 + unsigned_abs (first_of m.residual) % 2 ^ 64) % 2 ^ 64
+    let once = (n * 11400714819323198485 % 2 ^ 64 + unsigned_abs (first_of m.residual) % 2 ^ 64) % 2 ^ 64 in
+    (once * 15485907386658061715 % 2 ^ 64 + m.state) % 2 ^ 64
 
 -- the number by which a subset is found
 abbrev pub subset_number : List Member → ℕ

@@ -107,16 +107,16 @@ const SECOND_FACTOR: u64 = 0xD6E8FEB86659FD93;
 /// One more than the greatest number of 64 bits.
 const HALF: u128 = 18_446_744_073_709_551_616;
 
-/// A number with a member more.
+/// A number with a member more. That of one member with a residual of 0 is its state, so that a list by number has
+/// place for it.
 #[tactic(auto, unfolding(crate::specs::Kept::number_more))]
 fn number_more<R: Kept>(number: u64, member: Held<R>) -> u64
     ensures { result ≡ number_more number (member_as R.value member) }
 {
-    let once = number
-        .wrapping_mul(FIRST_FACTOR)
-        .wrapping_add(u64::from(member.state));
     let residual = (member.residual.key().first.unsigned_abs() % HALF) as u64;
-    once.wrapping_mul(SECOND_FACTOR).wrapping_add(residual)
+    let once = number.wrapping_mul(FIRST_FACTOR).wrapping_add(residual);
+    once.wrapping_mul(SECOND_FACTOR)
+        .wrapping_add(u64::from(member.state))
 }
 
 /// A number with these members more.
@@ -153,7 +153,7 @@ pub(crate) fn subset_of<R: Kept>(
 {
     let first = members[0];
     let (_, others) = members.split_at(1);
-    let mut rest = Vec::new(alloc);
+    let mut rest = Vec::with_capacity(alloc, others.len())?;
     rest.extend_from_slice(others)?;
     Ok(SubsetOf { first, rest })
 }

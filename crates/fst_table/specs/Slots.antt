@@ -15,6 +15,7 @@ use Rattle.std.specs.Prelude.{
   List,
   drop,
   get_or,
+  nat_lt,
   length,
   Option,
   Some,
@@ -75,3 +76,7 @@ IsProbed slots = (k : ℕ) → place_at slots k ≢ 4294967295 → probe_end slo
 -- one more number with its place
 abbrev pub with_place : (ℕ → Option ℕ) → ℕ → ℕ → ℕ → Option ℕ
 with_place found n place m = if m == n then Some place else found m
+
+-- numbers below the bound stand in the list by number, and others in the slots
+abbrev pub found_among : ℕ → List ℕ → List Slot → ℕ → Option ℕ
+found_among bound dense sparse n = if nat_lt n bound then place_in_slot (get_or dense n 4294967295) else placed_in sparse n

@@ -13,7 +13,6 @@ pub mod Prints
 pub mod Reading
 pub mod Rereading
 pub mod Rooms
-pub mod Slots
 pub mod SymbolTables
 pub mod TextLines
 pub mod WeightTexts

@@ -1,31 +1,5 @@
 -- A machine that is being built line by line.
-use Rattle.std.specs.Prelude.{
-  ◌≡◌,
-  ◌≢◌,
-  ◌≤◌,
-  ℕ,
-  true,
-  ◌+◌,
-  ◌-◌,
-  ◌<◌,
-  ◌==◌,
-  Bool,
-  List,
-  [],
-  ◌∷◌,
-  ◌++◌,
-  length,
-  replicate,
-  nat_le,
-  nat_lt,
-  Option,
-  Some,
-  None,
-  IfSome,
-  Result,
-  Ok,
-  if◌then◌else◌,
-}
+use Rattle.std.specs.Prelude.{◌≡◌, ◌≢◌, ◌≤◌, ℕ, true, ◌+◌, ◌-◌, ◌<◌, Bool, List, [], ◌∷◌, ◌++◌, length, replicate, nat_le, nat_lt, Option, Some, None, IfSome, Result, Ok, if◌then◌else◌}
 use Rattle.fst_semiring.specs.declared.arc_type.ArcType.{ArcType}
 use Rattle.fst_semiring.specs.Cost.{Cost, infinite}
 use Rattle.fst_machine.specs.Machine.{
@@ -44,10 +18,9 @@ use Rattle.fst_machine.specs.Machine.{
 }
 use Rattle.fst_text.specs.declared.fault.TextFault.{TextFault}
 use Rattle.fst_text.specs.Options.{Options}
-use Rattle.fst_text.specs.declared.places.Places.{Places}
 use Rattle.fst_text.specs.declared.builder.Builder.{Builder}
 pub use Rattle.fst_table.specs.Slots.{with_place}
-use Rattle.fst_text.specs.Slots.{found_among}
+pub use Rattle.fst_table.specs.Found.{found_in}
 use Rattle.fst_text.specs.Entries.{Entry, arc_entry, final_entry}
 use Rattle.fst_fields.specs.Reading.{◌>>=◌}
 use Rattle.fst_fields.specs.Texts.{read_text}
@@ -59,10 +32,6 @@ use Rattle.fst_text.specs.Grammar.{Room, entry_of_fields}
 pub record Building : Type 0 where
   pub found : ℕ → Option ℕ
   pub machine : Machine Cost
-
--- what is known of a number
-abbrev pub found_in : Places → ℕ → Option ℕ
-found_in places n = found_among places.bound places.dense.items places.sparse.slots.items n
 
 -- the building that a builder stands for
 abbrev pub built : {W V : Type 0} → (W → Cost) → Builder W V → Building

@@ -4,5 +4,4 @@ pub mod Grammar
 pub mod Laws
 pub mod Options
 pub mod Printed
-pub mod Slots
 pub mod Faults

@@ -13,11 +13,11 @@ ghost use Rattle.fst_text.specs.Building.{HasRoomFor, IsPlaced, after_line, buil
 use crate::entry::LineEntry;
 use crate::fault::TextFault;
 use crate::options::TextOptions;
-use crate::places::Places;
 use fst_fields::{next_field, read_decimal};
 use fst_machine::{Fst, FstArc, GrowFault, MOST_ARCS, MOST_STATES};
 use fst_semiring::{Weight, is_zero};
 use fst_symbols::SymbolTable;
+use fst_table::Places;
 use std::alloc::{AllocError, Global};
 
 /// The machine of the lines so far.

@@ -10,7 +10,6 @@ mod entry;
 mod fault;
 mod laws;
 mod options;
-mod places;
 mod printing;
 
 pub use compiling::compile;

@@ -2,25 +2,25 @@
 
 ghost use Rattle.std.specs.Prelude.{◌≡◌, ◌<◌, ◌≤◌, ◌∷◌, [], ℕ, IfOk, IfErr, IfSome, MatchOption, None, OnErr, Some, length, slice_get};
 ghost use Rattle.std.specs.Bool.{Decides};
-ghost use Rattle.fst_table.specs.Slots.{placed_in};
+ghost use Rattle.fst_table.specs.Found.{found_in};
 ghost use Rattle.fst_walk.specs.Making.{IsFound, Passes};
 ghost use Rattle.fst_walk.specs.Tables.{IsAsBefore, IsLater, IsPut, Leads};
 
 use crate::coded::Coded;
-use fst_table::FlatTable;
+use fst_table::Places;
 use std::alloc::{AllocError, Global};
 use std::marker::Model;
 
 /// The place of a name among those with its number, of which the first stands in this place; or the place of the last
 /// of these, where it is not one of them.
-fn search<K: Coded>(names: &[K], laters: &FlatTable, key: &K, first: u32) -> Result<u32, u32>
+fn search<K: Coded>(names: &[K], laters: &Places, key: &K, first: u32) -> Result<u32, u32>
     requires same { (a b : K) → Decides (K.PartialEq.eq a b) (a ≡ b) }
     requires first { first < length names.now }
-    requires later { (p q : ℕ) → placed_in laters.now.slots.items p ≡ Some q → IsLater (length names.now) p q }
+    requires later { (p q : ℕ) → found_in laters.now p ≡ Some q → IsLater (length names.now) p q }
     ensures there { IfOk result (λ place. slice_get names.now place ≡ Some key.now) }
-    ensures apart { IfErr result (λ last. (i : ℕ) → slice_get names.now i ≡ Some key.now → Leads (placed_in laters.now.slots.items) first i → ⊥) }
-    ensures leads { IfErr result (λ last. Leads (placed_in laters.now.slots.items) first last) }
-    ensures last { IfErr result (λ last. placed_in laters.now.slots.items last ≡ None) }
+    ensures apart { IfErr result (λ last. (i : ℕ) → slice_get names.now i ≡ Some key.now → Leads (found_in laters.now) first i → ⊥) }
+    ensures leads { IfErr result (λ last. Leads (found_in laters.now) first last) }
+    ensures last { IfErr result (λ last. found_in laters.now last ≡ None) }
 {
     let mut at = first;
     while names[at as usize] != *key {
@@ -36,17 +36,17 @@ fn search<K: Coded>(names: &[K], laters: &FlatTable, key: &K, first: u32) -> Res
 /// the limit.
 fn put<K: Coded>(
     names: &mut Vec<K>,
-    places: &mut FlatTable,
+    places: &mut Places,
     key: K,
     number: u64,
     limit: u32,
 ) -> Result<Option<u32>, AllocError>
-    requires absent { placed_in places.old.slots.items number ≡ None }
-    ensures put { IfOk result (λ found. IfSome found (λ place. IsPut names.old.items names.new.items key number place (placed_in places.old.slots.items) (placed_in places.new.slots.items))) }
+    requires absent { found_in places.old number ≡ None }
+    ensures put { IfOk result (λ found. IfSome found (λ place. IsPut names.old.items names.new.items key number place (found_in places.old) (found_in places.new))) }
     ensures full { IfOk result (λ found. found ≡ None → limit ≤ length names.old.items) }
     ensures few { IfOk result (λ found. IfSome found (λ place. place < limit)) }
-    ensures none { IfOk result (λ found. found ≡ None → IsAsBefore names.old.items names.new.items (placed_in places.old.slots.items) (placed_in places.new.slots.items)) }
-    ensures err { OnErr result (IsAsBefore names.old.items names.new.items (placed_in places.old.slots.items) (placed_in places.new.slots.items)) }
+    ensures none { IfOk result (λ found. found ≡ None → IsAsBefore names.old.items names.new.items (found_in places.old) (found_in places.new)) }
+    ensures err { OnErr result (IsAsBefore names.old.items names.new.items (found_in places.old) (found_in places.new)) }
 {
     let place = names.len();
     if place >= limit as usize {
@@ -63,21 +63,21 @@ fn put<K: Coded>(
 pub struct NameTable<K: Coded> {
     names: Vec<K>,
     /// For each number the place of the first name that has it.
-    firsts: FlatTable,
+    firsts: Places,
     /// For the place of a name the place of the next one with its number.
-    laters: FlatTable,
+    laters: Places,
 }
 
 impl<K: Coded> Model for NameTable<K> {
     ghost use Rattle.std.specs.Prelude.{List};
-    ghost use Rattle.fst_table.specs.Slots.{placed_in};
+    ghost use Rattle.fst_table.specs.Found.{found_in};
     ghost use Rattle.fst_walk.specs.Tables.{AreLinked};
 
     ghost Value = { List K };
 
     ghost view = { λ t. t.names.items };
 
-    ghost invariant = { λ t. AreLinked K.code t.names.items (placed_in t.firsts.slots.items) (placed_in t.laters.slots.items) };
+    ghost invariant = { λ t. AreLinked K.code t.names.items (found_in t.firsts) (found_in t.laters) };
 }
 
 impl<K: Coded> NameTable<K> {
@@ -85,10 +85,17 @@ impl<K: Coded> NameTable<K> {
     pub fn new(alloc: Global) -> NameTable<K>
         ensures { result ≡ [] }
     {
+        Self::with_bound(alloc, 0)
+    }
+
+    /// No names. Those with a number below the bound are looked up in a list by number. Takes no memory.
+    pub(crate) fn with_bound(alloc: Global, bound: usize) -> NameTable<K>
+        ensures { result ≡ [] }
+    {
         NameTable {
             names: Vec::new(alloc),
-            firsts: FlatTable::new(alloc),
-            laters: FlatTable::new(alloc),
+            firsts: Places::new(alloc, bound),
+            laters: Places::new(alloc, 0),
         }
     }
 

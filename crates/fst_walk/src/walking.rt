@@ -104,7 +104,7 @@ fn begin<K: Coded, W: Weight>(
     ensures total { IfOk result (λ o. o.total ≡ 0) }
     ensures overflow { IfOk result (λ o. o.overflow ≡ None) }
 {
-    let mut names = NameTable::new(alloc);
+    let mut names = NameTable::with_bound(alloc, room.states);
     let _place = names.find(start, limit)?;
     Ok(Output {
         names,

@@ -1,13 +1,13 @@
 use Rattle.std.proofs.Common.{◌≡◌, ◌<◌, ◌-◌, ℕ, Some, length, slice_get}
-use Rattle.fst_table.specs.Slots.{placed_in}
+use Rattle.fst_table.specs.Found.{found_in}
 use Rattle.fst_walk.specs.Tables.{Leads}
 use Rattle.fst_walk.proofs.table.search.Given as goal
 
 abbrev pub invariant-loop-at : goal.invariant-loop-at
 invariant-loop-at g l = record {
   low : l.at < length l.names;
-  leads : Leads (placed_in l.laters.slots.items) l.fn.first l.at;
-  rest : (i : ℕ) → slice_get l.names i ≡ Some l.key → Leads (placed_in l.laters.slots.items) l.fn.first i → Leads (placed_in l.laters.slots.items) l.at i;
+  leads : Leads (found_in l.laters) l.fn.first l.at;
+  rest : (i : ℕ) → slice_get l.names i ≡ Some l.key → Leads (found_in l.laters) l.fn.first i → Leads (found_in l.laters) l.at i;
 }
 
 abbrev pub decreases-loop-at : goal.decreases-loop-at

@@ -1,31 +1,33 @@
-//! Where the state of each written number stands.
+//! A table from numbers to places, where the lesser numbers stand in a list by number.
 
-ghost use Rattle.std.specs.Prelude.{◌≡◌, ◌<◌, ◌≤◌, ℕ, None, Some, OnOk, length};
+ghost use Rattle.std.specs.Prelude.{◌≡◌, ◌<◌, ◌≤◌, ℕ, None, Some, OnErr, OnOk, length};
 ghost use Rattle.std.specs.Option.{ForSome};
-ghost use Rattle.fst_text.specs.Slots.{found_among};
+ghost use Rattle.fst_table.specs.Slots.{found_among};
 
-use fst_table::FlatTable;
+use crate::flat_table::FlatTable;
 use std::alloc::{AllocError, Global};
 
 /// The slot of a number that is not known.
 const ABSENT: u32 = u32::MAX;
 
-/// The places of the numbers that are known: those below a bound in a table by number, the others in a table of slots.
+/// The places of the numbers that are known: those below a bound in a list by number, the others in a flat table of
+/// slots. A place in the list takes four bytes, and costs a look-up no search.
 #[derive(Drop)]
 pub struct Places {
     bound: usize,
     dense: Vec<u32>,
     sparse: FlatTable,
-    // The source of the line before, since the arcs of a state mostly come one after another.
+    // The number that was asked for last as one that is likely to be asked for again.
     recent: Option<(u64, u32)>,
     ghost room: { length dense.items ≤ bound },
     ghost remembered: { ForSome recent (λ r. found_among bound dense.items sparse.slots.items r.0 ≡ Some r.1) },
 }
 
 impl Places {
-    ghost use Rattle.fst_text.specs.Building.{found_in, with_place};
+    ghost use Rattle.fst_table.specs.Found.{found_in};
+    ghost use Rattle.fst_table.specs.Slots.{with_place};
 
-    /// No number is known. The table takes no more than `bound` slots. Takes no memory.
+    /// No number is known. The list takes no more than `bound` places. Takes no memory.
     pub fn new(alloc: Global, bound: usize) -> Places
         ensures none { (n : ℕ) → found_in result n ≡ None }
         ensures bound { result.bound ≡ bound }
@@ -68,7 +70,7 @@ impl Places {
         found
     }
 
-    /// Makes the table long enough for a slot: at least twice as long, but no longer than the bound.
+    /// Makes the list long enough for a slot: at least twice as long, but no longer than the bound.
     fn grow(&mut self, slot: usize) -> Result<(), AllocError>
         requires { slot < self.old.bound }
         ensures ok { OnOk result (slot < length self.new.dense.items) }
@@ -84,11 +86,12 @@ impl Places {
         Ok(())
     }
 
-    /// Adds a number with its place.
+    /// Adds a number with its place. Where memory runs out, what is known stays.
     pub fn add(&mut self, number: u64, place: u32) -> Result<(), AllocError>
         requires place { place < 4294967295 }
         requires absent { found_in self.old number ≡ None }
-        ensures { OnOk result ((n : ℕ) → found_in self.new n ≡ with_place (found_in self.old) number place n) }
+        ensures added { OnOk result ((n : ℕ) → found_in self.new n ≡ with_place (found_in self.old) number place n) }
+        ensures err { OnErr result ((n : ℕ) → found_in self.new n ≡ found_in self.old n) }
     {
         if number >= self.bound as u64 {
             self.sparse.add(number, place)?;

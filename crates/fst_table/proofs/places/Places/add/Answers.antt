@@ -1,11 +1,11 @@
 use Rattle.std.proofs.Common.{ap, ◌∙◌, cond, Some, ◌==◌, arith}
-use Rattle.fst_text.specs.Building.{found_in}
-use Rattle.fst_text.specs.Slots.{placed_in}
-use Rattle.fst_text.proofs.Slots.{slot-kept, slot-set}
-use Rattle.fst_text.proofs.places.Places.add.Goals as goal
+use Rattle.fst_table.specs.Found.{found_in}
+use Rattle.fst_table.specs.Slots.{placed_in}
+use Rattle.fst_table.proofs.Placing.{slot-kept, slot-set}
+use Rattle.fst_table.proofs.places.Places.add.Goals as goal
 
-pub returns : goal.returns
-returns c = λ n.
+pub returns-clause-added : goal.returns-clause-added
+returns-clause-added c = λ n.
     slot-set c.grow.new.self.dense.items c.grow.new.self.bound c.args.number c.args.place n (placed_in c.grow.new.self.sparse.slots.items n) (omega (arith, c.in_ok-grow.ensures.ok)) (omega arith) (omega arith)
     ∙ ap (cond (n == c.args.number) (Some c.args.place)) (c.grow.ensures.same n)
 
