@@ -92,7 +92,7 @@ where
     Ok(())
 }
 
-/// Walks all lines, at most 4,096 at once, and answers them.
+/// Walks all lines, at most 256 at once, and answers them.
 fn run_all_lines<R: Threads + Sync, W: Weight + Send + Sync, G: Gate, M: Meter, A: Answering<W, M>>(
     rt: &R,
     alloc: Global,
@@ -117,10 +117,11 @@ where
     ensures known { OnOk result ((number : ℕ) (line : List ℕ) (n : Name ℕ ℕ) → number < length lines.now → slice_get lines.now number ≡ Some line → IsNeeded line (delayed_graph W.KIND W.value delayed.now) limit n → Has (keys cache.new) n) }
     ensures answers { OnOk result (AllZip (A.answers answering.now delayed.now) lines.now answers.new.items) }
 {
+    // What the walks of open lines have found is held in memory until they are answered.
     let count = lines.count();
     let mut from = 0;
     while from < count {
-        let to = from + (count - from).min(4_096);
+        let to = from + (count - from).min(256);
         run_some(
             rt, alloc, delayed, lines, from, to, answering, limit, cache, workers, gate, answers,
         )?;
@@ -140,7 +141,7 @@ pub struct BatchReport<X: Drop, W: Weight> {
     pub cache: Cache<W>,
 }
 
-/// Answers lines by 1 to 64 workers. At most 4,096 lines are open at once: these are dealt to the workers, walked in phases
+/// Answers lines by 1 to 64 workers. At most 256 lines are open at once: these are dealt to the workers, walked in phases
 /// until all walks are over, and answered. Each name of the composition that the lines need is expanded once, whatever the
 /// number of workers.
 pub fn run_lines<R: Threads + Sync, W: Weight + Send + Sync, G: Gate, M: Meter, A: Answering<W, M>>(

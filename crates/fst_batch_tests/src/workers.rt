@@ -145,3 +145,35 @@ fn each_name_is_expanded_once(rt: HostRuntime) -> Result<(), Fail> {
     assert!(rt; one == 956 && three == 956 && many == 956);
     Ok(())
 }
+
+/// More lines than are open at once, each answered by its own length.
+#[test]
+fn answers_stand_in_line_order(rt: HostRuntime) -> Result<(), Fail> {
+    let cascade = make_cascade(rt.alloc(), 1, 0)?;
+    let mut lines = Lines::new(rt.alloc());
+    for index in 0..300usize {
+        lines.push(rt.alloc(), &b"abc"[..index % 3])?;
+    }
+    assert!(rt; lines.count() == 300);
+    let answering = Lengths { limit: 1000 };
+    let mut meter = CountMeter::new();
+    let Ok(delayed) = Delayed::new(&cascade.first, &cascade.second) else {
+        panic!(rt; "the arcs of the second machine are not sorted")
+    };
+    let report = run_lines(
+        &rt,
+        rt.alloc(),
+        &delayed,
+        &lines,
+        &answering,
+        3,
+        1000,
+        &OpenGate,
+        &mut meter,
+    )?;
+    assert!(rt; report.answers.len() == 300);
+    for index in 0..300usize {
+        assert!(rt; report.answers[index] == (index % 3) as u64);
+    }
+    Ok(())
+}

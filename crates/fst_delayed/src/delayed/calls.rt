@@ -107,7 +107,10 @@ impl<'m, W: Weight, M: Meter> Delayed<'m, W, M> {
         // The pass is asked for so that no name is expanded whose code was not won.
         let _pass = pass;
         meter.raise();
-        expand(alloc, self.a, self.b, key)
+        let mut arcs = expand(alloc, self.a, self.b, key)?;
+        // They are kept as long as the batch lasts.
+        arcs.shrink_to_fit();
+        Ok(arcs)
     }
 }
 
