@@ -231,6 +231,19 @@ module _ {V D : Type 0} (kind : ArcType) (value : V → Cost) (wide : D → Cost
         number (inr e) = subst (Within (steps * 1180591620717411303424 + 1180591620717411303424)) (sym e.0)
             (Within-more (1180591620717411303424 + steps * 1180591620717411303424) (steps * 1180591620717411303424 + 1180591620717411303424) _ (omega arith) (Within-times kind 1180591620717411303424 (steps * 1180591620717411303424) a.weight (dist_in wide dist a.next) range (s.numbers a.next)))
 
+    -- a state that is left out
+    pub sweep_waits : IsSwept kind value wide m (steps + 1) dist count
+    sweep_waits = record {
+      dist_size = s.dist_size;
+      count_size = s.count_size;
+      near = s.near;
+      along = s.along;
+      others = s.others;
+      few = λ p done. let before = s.few p done in omega (arith, before);
+      numbers = λ p. Within-more (steps * 1180591620717411303424) ((steps + 1) * 1180591620717411303424) (dist_in wide dist p) (omega arith) (s.numbers p);
+      kinds = s.kinds;
+    }
+
     -- a further state
     pub sweep_further : (q : ℕ) (x : D) (c : ℕ) → q < length m.states → steps < uncounted → IsAheadBelow kind value m steps count (length ((graph_of (valued value m)).arcs q)) q (wide x) c → IsSwept kind value wide m (steps + 1) (set dist q x) (set count q c)
     sweep_further q x c low small h = record {

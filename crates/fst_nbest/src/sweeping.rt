@@ -117,19 +117,19 @@ fn zeros<W: Weight>(alloc: Global, states: u32) -> Result<Vec<W::Wide>, AllocErr
     Ok(dist)
 }
 
-/// Sweeps the states of this order, from the last on; `None` where an arc leads to a state that is not swept yet.
+/// Sweeps the states of this order, from the last on, but for those that have an arc to a state that is not swept.
 fn sweep<W: Weight, V: Copy, M: Widens<W, V>>(
     alloc: Global,
     fst: &M,
     order: &[u32],
-) -> Result<Option<Swept<W>>, AllocError>
+) -> Result<Swept<W>, AllocError>
     requires cancels { cancels W.KIND ≡ true }
     requires known { All (λ s. All (λ a. M.known a.weight) s.arcs) (M.machine fst.now).states }
     requires finals { All (λ s. M.known s.final) (M.machine fst.now).states }
     requires firm { HasSolidArcs W.KIND (graph_of (valued M.value (M.machine fst.now))) }
     requires low { All (λ q. q < length (M.machine fst.now).states) order.now }
     requires few { length order.now ≤ 4194304 }
-    ensures { IfOk result (λ o. IfSome o (λ s. (steps : ℕ) × (steps ≤ 4194304) × IsSwept W.KIND M.value W.wide_value (M.machine fst.now) steps s.dist.items s.count.items)) }
+    ensures { IfOk result (λ s. (steps : ℕ) × (steps ≤ 4194304) × IsSwept W.KIND M.value W.wide_value (M.machine fst.now) steps s.dist.items s.count.items) }
 {
     let states = fst.state_count();
     let mut dist = zeros::<W>(alloc, states)?;
@@ -138,13 +138,12 @@ fn sweep<W: Weight, V: Copy, M: Widens<W, V>>(
     while 0 < left {
         left -= 1;
         let state = order[left];
-        let Some(near) = ahead::<W, V, M>(fst, &dist, &count, state) else {
-            return Ok(None);
-        };
-        dist[state as usize] = near.total;
-        count[state as usize] = near.arcs;
+        if let Some(near) = ahead::<W, V, M>(fst, &dist, &count, state) {
+            dist[state as usize] = near.total;
+            count[state as usize] = near.arcs;
+        }
     }
-    Ok(Some(Swept { dist, count }))
+    Ok(Swept { dist, count })
 }
 
 /// Counts arcs by the states to which they lead.
@@ -236,7 +235,7 @@ fn is_started<V: Copy, M: AsMachine<V>>(fst: &M, count: &Vec<u32>) -> bool
     }
 }
 
-/// The distances and the counts by a sweep of these states; `None` where it does not get through, or not to the start.
+/// The distances and the counts by a sweep of these states; `None` where it does not get to the start.
 fn swept_by<W: Weight, V: Copy, M: Widens<W, V>>(
     alloc: Global,
     fst: &M,
@@ -251,9 +250,7 @@ fn swept_by<W: Weight, V: Copy, M: Widens<W, V>>(
     ensures ready { IfOk result (λ o. IfSome o (λ s. IsReady W.KIND M.value W.wide_value M.known (M.machine fst.now) s.dist.items s.count.items)) }
     ensures none { IfOk result (λ o. IfSome o (λ s. NoneImproves W.KIND (graph_of (valued M.value (M.machine fst.now))) (IsUseful (graph_of (valued M.value (M.machine fst.now)))))) }
 {
-    let Some(swept) = sweep::<W, V, M>(alloc, fst, order)? else {
-        return Ok(None);
-    };
+    let swept = sweep::<W, V, M>(alloc, fst, order)?;
     if !is_started::<V, M>(fst, &swept.count) {
         return Ok(None);
     }
@@ -288,8 +285,9 @@ fn swept_by_number<W: Weight, V: Copy, M: Widens<W, V>>(
     swept_by::<W, V, M>(alloc, fst, order.as_slice())
 }
 
-/// The distances and the counts, where one sweep finds them: where the machine has no cycle. Most such machines are
-/// numbered so that each arc leads to a later state, which a sweep finds out; only for the others an order is made.
+/// The distances and the counts, where one sweep finds them: where no cycle can be reached. Most such machines are numbered
+/// so that each arc between states that can be reached leads to a later one, which a sweep finds out; only for the others
+/// an order is made.
 ///
 /// Time: linear in the states and the arcs.
 pub(crate) fn prepared<W: Weight, V: Copy, M: Widens<W, V>>(

@@ -2,7 +2,7 @@ use Rattle.std.proofs.Common.{◌≡◌, ◌-◌, ◌+◌, ◌<◌, ℕ, List, l
 use Rattle.std.proofs.lemmas.List.{length-replicate}
 use Rattle.fst_nbest.specs.Counts.{count_of, uncounted}
 use Rattle.fst_nbest.specs.Sweep.{IsSwept}
-use Rattle.fst_nbest.proofs.Sweeps.{blank_counts, sweep_begins, sweep_further}
+use Rattle.fst_nbest.proofs.Sweeps.{blank_counts, sweep_begins, sweep_further, sweep_waits}
 use Rattle.fst_nbest.proofs.sweeping.sweep.Goals as goal
 
 pub loop-left-init : goal.loop-left-init
@@ -24,8 +24,8 @@ loop-left-init g c =
           (sweep_begins kind value wide m dist count (c.in_ok-dist.ensures.size ∙ states) long c.in_ok-dist.ensures.zero (λ q. ap (λ (l : List ℕ). count_of l q) blank ∙ blank_counts n q));
     }
 
-pub loop-left-preserved : goal.loop-left-preserved
-loop-left-preserved g c =
+pub loop-left-preserved-in-Some : goal.loop-left-preserved-in-Some
+loop-left-preserved-in-Some g c =
     let kind = g.W.Weight.KIND in
     let value = g.M.AsMachine.value in
     let wide = g.W.Weight.wide_value in
@@ -45,4 +45,22 @@ loop-left-preserved g c =
       few = omega (arith, few);
       swept = subst (λ (k : ℕ). IsSwept kind value wide m k (set dist q c.in-Some.near.total) (set count q c.in-Some.near.arcs)) next
           (sweep_further kind value wide m (length order - left) dist count inv.swept q c.in-Some.near.total c.in-Some.near.arcs low (omega (arith, short)) (c.in-Some.ensures (length order - left) inv.swept));
+    }
+
+pub loop-left-preserved : goal.loop-left-preserved
+loop-left-preserved g c =
+    let kind = g.W.Weight.KIND in
+    let value = g.M.AsMachine.value in
+    let wide = g.W.Weight.wide_value in
+    let m = g.M.AsMachine.machine c.args.fst.now in
+    let dist = c.loop-left.dist.items in
+    let count = c.loop-left.count.items in
+    let order = c.args.order.now in
+    let left = c.loop-left.left in
+    let few = c.loop-left.invariant.few in
+    let more = c.loop-left-test.true in
+    let next : (length order - left) + 1 ≡ length order - (left - 1) = omega (arith, few, more) in
+    record {
+      few = omega (arith, few);
+      swept = subst (λ (k : ℕ). IsSwept kind value wide m k dist count) next (sweep_waits kind value wide m (length order - left) dist count c.loop-left.invariant.swept);
     }
