@@ -15,18 +15,23 @@ static NAMES: [(&[u8], Option<ArcType>); 9] = [
     (b"standard", None),
 ];
 
+/// Numbers of bytes that no name has.
+static NO_LENGTHS: [usize; 5] = [0, 5, 9, 12, 14];
+
+/// Whether an arc type has this name, and names may be so long.
+fn has_name(kind: ArcType, name: &[u8]) -> bool {
+    kind.name().as_bytes() == name && ArcType::is_length_of_name(name.len())
+}
+
 #[test]
 fn finds_an_arc_type_by_its_name(rt: HostRuntime) {
     for (name, want) in &NAMES {
         let found = ArcType::named(name);
         assert!(rt; found == *want, "{name:?} gives {found:?}");
-        if let Some(kind) = found {
-            assert_eq!(rt; kind.name().as_bytes(), *name);
-            assert!(rt; ArcType::is_length_of_name(name.len()), "{name:?}");
-        }
+        assert!(rt; found.is_none_or(|kind| has_name(kind, name)), "{name:?}");
     }
-    for count in [0, 5, 9, 12, 14] {
-        assert!(rt; !ArcType::is_length_of_name(count), "{count}");
+    for count in &NO_LENGTHS {
+        assert!(rt; !ArcType::is_length_of_name(*count), "{count}");
     }
 }
 
@@ -46,14 +51,16 @@ impl ByWeight for Kind {
     }
 }
 
+static KINDS: [ArcType; 4] = [
+    ArcType::Boolean,
+    ArcType::Tropical,
+    ArcType::MinMax,
+    ArcType::Lexicographic,
+];
+
 #[test]
 fn chooses_the_weights_of_an_arc_type(rt: HostRuntime) {
-    for kind in [
-        ArcType::Boolean,
-        ArcType::Tropical,
-        ArcType::MinMax,
-        ArcType::Lexicographic,
-    ] {
-        assert!(rt; by_arc_type(kind, Kind) == kind, "{kind:?}");
+    for kind in &KINDS {
+        assert!(rt; by_arc_type(*kind, Kind) == *kind, "{kind:?}");
     }
 }

@@ -1,10 +1,10 @@
 //! Machines, wide machines and paths as their calls make them, and the walk.
 
-use crate::machines::{is_text, machine};
 use fst_machine::{
     Fst, FstArc, GrowFault, MOST_STATES, NarrowFault, Path, Paths, Step, WideArc, WideFst,
     narrow_all, walk,
 };
+use fst_samples::{is_text, machine};
 use fst_semiring::{Tropical, Weight, WideTropical};
 use std::alloc::Global;
 use std::process::Abort;
@@ -39,12 +39,9 @@ fn keeps_arcs_in_the_order_of_each_state(rt: HostRuntime) -> Result<(), Fail> {
     assert!(rt; states == 3);
     fst.set_start(2);
     fst.set_final(1, Tropical::one());
-    is_text(
-        &rt,
-        rt.alloc(),
-        &fst,
-        b"2 0 2 0\n2 0 5 0\n2 0 8 0\n0 0 3 0\n0 0 6 0\n1 0 1 0\n1 0 4 0\n1 0 7 0\n1\n",
-    )
+    let text = b"2 0 2 0\n2 0 5 0\n2 0 8 0\n0 0 3 0\n0 0 6 0\n1 0 1 0\n1 0 4 0\n1 0 7 0\n1\n";
+    assert!(rt; is_text(rt.alloc(), &fst, text)?);
+    Ok(())
 }
 
 #[test]
@@ -142,12 +139,8 @@ fn a_wide_machine_in_range_is_narrowed(rt: HostRuntime) -> Result<(), Fail> {
     let last = product(&rt, ("-5", "0"));
     let wide = wide_machine(&rt, rt.alloc(), weight, last)?;
     let fst = narrow_all(rt.alloc(), &wide)?;
-    is_text(
-        &rt,
-        rt.alloc(),
-        &fst,
-        b"1 0 3 4 1000000000000000000\n0 -5\n",
-    )
+    assert!(rt; is_text(rt.alloc(), &fst, b"1 0 3 4 1000000000000000000\n0 -5\n")?);
+    Ok(())
 }
 
 #[test]

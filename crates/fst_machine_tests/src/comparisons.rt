@@ -1,17 +1,16 @@
 //! Each operation beside what the plain programs compute, on machines of each arc type: one without epsilon
 //! cycles, one with them, one without a start, and the one without states. `ARCS` says what is compared.
 
-use crate::machines::machines;
 use crate::operations::{Change, apply, changed};
-use crate::products::{composed, concatenated, count_pairs, united};
-use crate::relation::{ARCS, add_arcs, relation, said, says};
+use crate::products::{add_arcs, composed, concatenated, count_pairs, united};
 use fst_compose::compose;
 use fst_machine::Fst;
 use fst_plain::{PlainCost, breadth_first, distances_to_final};
 use fst_rational::{concat, union};
+use fst_samples::{ARCS, Triple, machines, relation, said, says};
 use fst_semiring::{Boolean, Lexicographic, MinMax, Tropical, Weight};
 use fst_trim::{Side, arcsort, is_sorted};
-use std::alloc::Global;
+use std::alloc::{AllocError, Global};
 use std::process::Abort;
 use std::test::Fail;
 
@@ -29,18 +28,19 @@ static CHANGES: [Change; 10] = [
     Change::Plus,
 ];
 
-/// Asks that by the plain programs the start reaches each state, and each reaches a final state by at most
-/// `ARCS` arcs.
-fn is_useful<W: Weight>(rt: &impl Abort, alloc: Global, fst: &Fst<W>) -> Result<(), Fail> {
+/// Whether by the plain program the start reaches each state.
+fn is_accessible<W: Weight>(alloc: Global, fst: &Fst<W>) -> Result<bool, AllocError> {
     let Some(start) = fst.start() else {
-        assert_eq!(rt; fst.states(), 0);
-        return Ok(());
+        return Ok(fst.states() == 0);
     };
     let reached = breadth_first(alloc, fst, start)?;
-    assert_eq!(rt; reached.len(), fst.states() as usize);
+    Ok(reached.len() == fst.states() as usize)
+}
+
+/// Whether by the plain program each state reaches a final state by at most `ARCS` arcs.
+fn is_coaccessible<W: Weight>(alloc: Global, fst: &Fst<W>) -> Result<bool, AllocError> {
     let distances = distances_to_final(alloc, fst, ARCS)?;
-    assert!(rt; !distances.as_slice().contains(&PlainCost::Infinite));
-    Ok(())
+    Ok(!distances.as_slice().contains(&PlainCost::Infinite))
 }
 
 /// Asks what an operation makes sure of beside the relation.
@@ -53,7 +53,9 @@ fn compare_form<W: Weight>(
     match change {
         Change::SortInput => assert!(rt; is_sorted(made, Side::Input)),
         Change::SortOutput => assert!(rt; is_sorted(made, Side::Output)),
-        Change::Connect => is_useful(rt, alloc, made)?,
+        Change::Connect => {
+            assert!(rt; is_accessible(alloc, made)? && is_coaccessible(alloc, made)?);
+        }
         _ => {}
     }
     Ok(())
@@ -69,7 +71,7 @@ fn compare_change<W: Weight>(
     let triples = relation(alloc, fst)?;
     let wanted = changed(rt, alloc, W::KIND, change, triples.as_slice())?;
     let made = apply(alloc, change, fst)?;
-    says(rt, alloc, &made, wanted.as_slice())?;
+    assert!(rt; says(alloc, &made, wanted.as_slice())?, "{change:?}");
     compare_form(rt, alloc, change, &made)
 }
 
@@ -79,6 +81,36 @@ fn compare_changes<W: Weight>(rt: &impl Abort, alloc: Global, fst: &Fst<W>) -> R
         compare_change(rt, alloc, *change, fst)?;
     }
     Ok(())
+}
+
+/// Whether the union of two machines relates what both relate.
+fn unites<W: Weight>(
+    rt: &impl Abort,
+    alloc: Global,
+    a: &Fst<W>,
+    b: &Fst<W>,
+    front: &[Triple],
+    back: &[Triple],
+) -> Result<bool, Fail> {
+    let wanted = united(rt, alloc, front, back)?;
+    let made = union(alloc, a, b)?;
+    let same = says(alloc, &made, wanted.as_slice())?;
+    Ok(same)
+}
+
+/// Whether the concatenation of two machines relates the products of what both relate.
+fn joins<W: Weight>(
+    rt: &impl Abort,
+    alloc: Global,
+    a: &Fst<W>,
+    b: &Fst<W>,
+    front: &[Triple],
+    back: &[Triple],
+) -> Result<bool, Fail> {
+    let wanted = concatenated(rt, alloc, W::KIND, front, back)?;
+    let made = concat(alloc, a, b)?;
+    let same = says(alloc, &made, wanted.as_slice())?;
+    Ok(same)
 }
 
 /// Asks of the union and the concatenation of two machines.
@@ -91,32 +123,40 @@ fn compare_joins<W: Weight>(
     let front = relation(alloc, a)?;
     let back = relation(alloc, b)?;
     let (front, back) = (front.as_slice(), back.as_slice());
-    let wanted = united(rt, alloc, front, back)?;
-    says(rt, alloc, &union(alloc, a, b)?, wanted.as_slice())?;
-    let wanted = concatenated(rt, alloc, W::KIND, front, back)?;
-    says(rt, alloc, &concat(alloc, a, b)?, wanted.as_slice())?;
+    assert!(rt; unites(rt, alloc, a, b, front, back)?);
+    assert!(rt; joins(rt, alloc, a, b, front, back)?);
     Ok(())
 }
 
-/// Asks of the composition of two machines: its triples, and that it has one path for each matching pair of paths.
-/// Gives how many these are.
+/// Asks that a machine relates the composition of two lists of triples, one for each path, and has one path for each
+/// matching pair of paths. Gives how many these are.
+fn compare_pairs<W: Weight>(
+    rt: &impl Abort,
+    alloc: Global,
+    made: &Fst<W>,
+    first: &[Triple],
+    second: &[Triple],
+) -> Result<usize, Fail> {
+    let wanted = composed(rt, alloc, W::KIND, first, second)?;
+    assert!(rt; says(alloc, made, wanted.as_slice())?);
+    let count = said(alloc, made)?.len();
+    assert_eq!(rt; count, count_pairs(rt, first, second));
+    Ok(count)
+}
+
+/// Asks of the composition of two machines. Gives how many paths it has.
 fn compare_composition<W: Weight>(
     rt: &impl Abort,
     alloc: Global,
     a: &Fst<W>,
     b: &Fst<W>,
 ) -> Result<usize, Fail> {
-    let first = said(alloc, a)?;
-    let second = said(alloc, b)?;
-    let (first, second) = (first.as_slice(), second.as_slice());
     let sorted = arcsort(alloc, a, Side::Output)?;
     let made = compose(alloc, &sorted, b, 1_000)?;
-    let wanted = composed(rt, alloc, W::KIND, first, second)?;
-    says(rt, alloc, &made.fst, wanted.as_slice())?;
     assert_eq!(rt; made.names.len(), made.fst.states() as usize);
-    let paths = said(alloc, &made.fst)?;
-    assert_eq!(rt; paths.len(), count_pairs(rt, first, second));
-    Ok(paths.len())
+    let first = said(alloc, a)?;
+    let second = said(alloc, b)?;
+    compare_pairs(rt, alloc, &made.fst, first.as_slice(), second.as_slice())
 }
 
 /// Asks of a machine with each of others after it. Gives how many paths the compositions have together.
@@ -138,7 +178,7 @@ fn compare_row<W: Weight>(
 /// and 630, that of the paths of the compositions, were counted by a program of another language, which follows arcs
 /// and pairs paths as the definitions say.
 fn compare<W: Weight>(rt: &impl Abort, alloc: Global, sizes: &[usize; 4]) -> Result<(), Fail> {
-    let list = machines::<W>(rt, alloc)?;
+    let list = machines::<W>(alloc)?;
     assert_eq!(rt; list.len(), 4);
     let mut count = 0;
     for (a, size) in list.iter().zip(sizes) {

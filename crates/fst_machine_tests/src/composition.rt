@@ -1,10 +1,12 @@
 //! Compositions of small tropical machines, written out from the definition by hand.
 
-use crate::machines::{chain, is_text, machine, same};
 use fst_compose::{ComposeFault, ComposeKey, compose, expand, key_final};
 use fst_machine::Fst;
+use fst_samples::{chain, is_text, machine, same};
 use fst_semiring::{Tropical, Weight};
 use fst_trim::{Side, is_sorted};
+use std::alloc::Global;
+use std::process::Abort;
 use std::test::Fail;
 
 /// A path that writes epsilon after its label, and one that reads epsilon before its label.
@@ -47,20 +49,30 @@ fn composes(rt: HostRuntime) -> Result<(), Fail> {
     for (a, b, want) in &GIVEN {
         let (a, b) = (machine::<Tropical>(alloc, a)?, machine(alloc, b)?);
         let made = compose(alloc, &a, &b, 9)?;
-        is_text(&rt, alloc, &made.fst, want)?;
+        assert!(rt; is_text(alloc, &made.fst, want)?);
         assert_eq!(rt; made.names.len(), made.fst.states() as usize);
     }
     Ok(())
+}
+
+/// Why two machines have no composition with at most so many states.
+fn refusal(
+    rt: &impl Abort,
+    alloc: Global,
+    a: &[u8],
+    b: &[u8],
+    limit: u32,
+) -> Result<Option<ComposeFault>, Fail> {
+    let (a, b) = (machine::<Tropical>(alloc, a)?, machine(alloc, b)?);
+    assert!(rt; limit > 0 && limit < 10);
+    Ok(compose(alloc, &a, &b, limit).err())
 }
 
 #[test]
 fn refuses_what_has_no_composition(rt: HostRuntime) -> Result<(), Fail> {
     let alloc = rt.alloc();
     for (a, b, limit, want) in &REFUSED {
-        let (a, b) = (machine::<Tropical>(alloc, a)?, machine(alloc, b)?);
-        assert!(rt; *limit > 0 && *limit < 10);
-        let fault = compose(alloc, &a, &b, *limit).err();
-        assert!(rt; fault == Some(*want), "{fault:?}");
+        assert_eq!(rt; refusal(&rt, alloc, a, b, *limit)?, Some(*want));
     }
     Ok(())
 }
@@ -105,17 +117,19 @@ fn gives_the_arcs_of_one_name(rt: HostRuntime) -> Result<(), Fail> {
     Ok(())
 }
 
+/// Whether the composition of two machines is the first of them, with as many states as the limit.
+fn stays(alloc: Global, a: &Fst<Tropical>, b: &Fst<Tropical>) -> Result<bool, Fail> {
+    let made = compose(alloc, a, b, 6_001)?;
+    Ok(same(&made.fst, a))
+}
+
 #[test]
 fn makes_as_many_names_as_the_limit(rt: HostRuntime) -> Result<(), Fail> {
     let alloc = rt.alloc();
-    let mut a = chain(&rt, alloc, 6_001, true)?;
-    let states = a.states();
-    assert!(rt; states == 6_001);
-    a.set_start(0);
-    a.set_final(6_000, Tropical::one());
+    let a = chain(alloc, 6_000)?;
+    assert_eq!(rt; a.states(), 6_001);
     let b = machine(alloc, b"0 0 1 1\n0\n")?;
-    let made = compose(alloc, &a, &b, 6_001)?;
-    same(&rt, &made.fst, &a);
+    assert!(rt; stays(alloc, &a, &b)?);
     let fault = compose(alloc, &a, &b, 6_000).err();
     assert!(rt; fault == Some(ComposeFault::StateLimit { limit: 6_000 }));
     Ok(())

@@ -1,12 +1,13 @@
 //! What is told of small tropical machines, with answers from the definitions.
 
-use crate::machines::machine;
 use fst_machine::{Fst, Step};
+use fst_samples::machine;
 use fst_semiring::{ArcType, Tropical};
 use fst_trim::{
     Info, Side, info, is_acceptor, is_deterministic, is_sorted, not_acceptor_at,
     not_deterministic_at,
 };
+use std::alloc::Global;
 use std::test::Fail;
 
 /// Two arcs with one label, the other labels between them going down.
@@ -23,22 +24,29 @@ static FIRST_ARCS: [(&[u8], Option<(u32, u32)>, Option<(u32, u32)>); 7] = [
     (b"1 0 2 2\n1 0 2 2\n1 1 2 2\n", None, Some((1, 1))),
 ];
 
+/// The step of a state and a place.
+fn step(at: Option<(u32, u32)>) -> Option<Step> {
+    let (state, place) = at?;
+    Some(Step { state, place })
+}
+
+/// Whether the first arc with two labels is this one, and the machine an acceptor exactly where there is none.
+fn splits_at(fst: &Fst<Tropical>, split: Option<Step>) -> bool {
+    not_acceptor_at(fst) == split && is_acceptor(fst) == split.is_none()
+}
+
+/// Whether the first arc with a repeated label is this one, and the machine deterministic exactly where there is none.
+fn repeats_at(alloc: Global, fst: &Fst<Tropical>, repeat: Option<Step>) -> bool {
+    not_deterministic_at(alloc, fst) == repeat && is_deterministic(alloc, fst) == repeat.is_none()
+}
+
 #[test]
 fn finds_the_first_arc(rt: HostRuntime) -> Result<(), Fail> {
     let alloc = rt.alloc();
-    let step = |at: Option<(u32, u32)>| at.map(|(state, place)| Step { state, place });
     for (text, split, repeat) in &FIRST_ARCS {
         let fst: Fst<Tropical> = machine(alloc, text)?;
-        assert!(rt; not_acceptor_at(&fst) == step(*split), "{text:?}");
-        assert!(rt; is_acceptor(&fst) == split.is_none(), "{text:?}");
-        assert!(rt;
-            not_deterministic_at(alloc, &fst) == step(*repeat),
-            "{text:?}"
-        );
-        assert!(rt;
-            is_deterministic(alloc, &fst) == repeat.is_none(),
-            "{text:?}"
-        );
+        assert!(rt; splits_at(&fst, step(*split)), "{text:?}");
+        assert!(rt; repeats_at(alloc, &fst, step(*repeat)), "{text:?}");
     }
     Ok(())
 }
@@ -55,8 +63,8 @@ static ORDERS: [(&[u8], bool, bool); 4] = [
 fn tests_the_order_of_one_side(rt: HostRuntime) -> Result<(), Fail> {
     for (text, input, output) in &ORDERS {
         let fst: Fst<Tropical> = machine(rt.alloc(), text)?;
-        assert!(rt; is_sorted(&fst, Side::Input) == *input, "{text:?}");
-        assert!(rt; is_sorted(&fst, Side::Output) == *output, "{text:?}");
+        let sorted = (is_sorted(&fst, Side::Input), is_sorted(&fst, Side::Output));
+        assert!(rt; sorted == (*input, *output), "{text:?}");
     }
     Ok(())
 }

@@ -1,12 +1,11 @@
-//! Tests of weights, machines and the operations on machines.
+//! Tests of weights, machines, the walk, and the operations that build, compose and trim machines.
 //!
 //! The crate has nothing but tests, and no other crate stands on it. It has two kinds. Tables of arc types, weights and
-//! small machines, written as texts, with what the definitions make of them, worked out by hand: `arc_types`, `weights`,
-//! `building`, `results`, `replacement`, `composition`, `description`, `determinization`, `distances`,
-//! `epsilon_removal`, `links`, `minimization`, `plain`, `pushing`, `queues`, `runs`, `shortest_paths` and `walks`. And
-//! `comparisons`: a test lists the relation of the operands by `fst_plain`, computes from this list by the definition of
-//! the operation what the relation of the result must be, and compares that with what `fst_plain` says of the machine
-//! that the operation made. The contracts of the operations say the same of all machines, and those of the plain
+//! small machines, written as texts, with what the definitions make of them, worked out by hand: `arc_types`,
+//! `weights`, `building`, `results`, `replacement`, `composition`, `description`, `links`, `plain`, `runs` and `walks`.
+//! And `comparisons`: a test lists the relation of the operands by `fst_plain`, computes from this list by the
+//! definition of the operation what the relation of the result must be, and compares that with what `fst_plain` says of
+//! the machine that the operation made. The contracts of the operations say the same of all machines, and those of the plain
 //! programs are the definitions; the tests show, in running code, that the two speak of one thing.
 #![tactic(auto)]
 
@@ -21,17 +20,7 @@ mod composition;
 #[cfg(test)]
 mod description;
 #[cfg(test)]
-mod determinization;
-#[cfg(test)]
-mod distances;
-#[cfg(test)]
-mod epsilon_removal;
-#[cfg(test)]
 mod links;
-#[cfg(test)]
-mod machines;
-#[cfg(test)]
-mod minimization;
 #[cfg(test)]
 mod operations;
 #[cfg(test)]
@@ -39,19 +28,11 @@ mod plain;
 #[cfg(test)]
 mod products;
 #[cfg(test)]
-mod pushing;
-#[cfg(test)]
-mod queues;
-#[cfg(test)]
-mod relation;
-#[cfg(test)]
 mod replacement;
 #[cfg(test)]
 mod results;
 #[cfg(test)]
 mod runs;
-#[cfg(test)]
-mod shortest_paths;
 #[cfg(test)]
 mod walks;
 #[cfg(test)]

@@ -1,7 +1,7 @@
 //! Lists of links, and the states that connecting keeps, of small tropical machines, by hand.
 
-use crate::machines::{is_text, machine};
 use fst_machine::{Fst, WideFst};
+use fst_samples::{is_text, machine};
 use fst_semiring::Tropical;
 use fst_trim::{Connected, Link, Links, connect_kept};
 use std::test::Fail;
@@ -50,10 +50,7 @@ fn lists_the_kept_states(rt: HostRuntime) -> Result<(), Fail> {
     let fst: Fst<Tropical> = machine(rt.alloc(), b"1 0 1 1\n1 3 2 2\n0 3 3 3\n3\n")?;
     let Connected { machine, kept } = connect_kept(rt.alloc(), &fst)?;
     assert!(rt; kept.as_slice() == [0u32, 1, 3].as_slice());
-    is_text(
-        &rt,
-        rt.alloc(),
-        machine.fst(),
-        b"1 0 1 1\n1 2 2 2\n0 2 3 3\n2\n",
-    )
+    let text = b"1 0 1 1\n1 2 2 2\n0 2 3 3\n2\n";
+    assert!(rt; is_text(rt.alloc(), machine.fst(), text)?);
+    Ok(())
 }

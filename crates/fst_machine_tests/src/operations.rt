@@ -1,9 +1,9 @@
 //! The operations on one machine, and by definition what they make of a relation.
 
-use crate::products::closed;
-use crate::relation::{Triple, add_arcs, put};
+use crate::products::{add_arcs, closed};
 use fst_machine::Fst;
 use fst_rational::{closure, invert, project, read_pairs, relabel, reverse};
+use fst_samples::{Triple, put};
 use fst_semiring::{ArcType, Weight};
 use fst_trim::{Side, arcsort, connect};
 use std::alloc::{AllocError, Global};
@@ -31,10 +31,15 @@ const INPUT_PAIRS: &[(u32, u32)] = &[(1, 2), (3, 0)];
 /// Old output labels, each with its new label. A new label is an old one, too.
 const OUTPUT_PAIRS: &[(u32, u32)] = &[(1, 2), (2, 0)];
 
-/// Relabels a machine by texts of `INPUT_PAIRS` and `OUTPUT_PAIRS`.
-fn with_new_labels<W: Weight>(alloc: Global, fst: &Fst<W>) -> Result<Fst<W>, Fail> {
-    let input = read_pairs(alloc, b"1 2\n3 0\n")?;
-    let output = read_pairs(alloc, b"1 2\n2 0\n")?;
+/// Relabels a machine by texts of pairs, of the input and of the output side.
+pub(crate) fn with_new_labels<W: Weight>(
+    alloc: Global,
+    fst: &Fst<W>,
+    input: &[u8],
+    output: &[u8],
+) -> Result<Fst<W>, Fail> {
+    let input = read_pairs(alloc, input)?;
+    let output = read_pairs(alloc, output)?;
     let made = relabel(alloc, fst, &input, &output)?;
     Ok(made)
 }
@@ -50,7 +55,8 @@ pub(crate) fn apply<W: Weight>(
         Change::Invert => invert(alloc, fst)?,
         Change::ProjectInput => project(alloc, fst, false)?,
         Change::ProjectOutput => project(alloc, fst, true)?,
-        Change::Relabel => with_new_labels(alloc, fst)?,
+        // The texts of `INPUT_PAIRS` and `OUTPUT_PAIRS`.
+        Change::Relabel => with_new_labels(alloc, fst, b"1 2\n3 0\n", b"1 2\n2 0\n")?,
         Change::SortInput => arcsort(alloc, fst, Side::Input)?,
         Change::SortOutput => arcsort(alloc, fst, Side::Output)?,
         Change::Connect => connect(alloc, fst)?,

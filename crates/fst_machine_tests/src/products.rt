@@ -1,9 +1,47 @@
 //! Unions, products and compositions of relations, by definition.
 
-use crate::relation::{ARCS, Triple, add_arcs, matches, one, put, shared_arcs, times};
+use fst_plain::PlainCost;
+use fst_samples::{ARCS, Triple, is_better, one, put};
 use fst_semiring::ArcType;
 use std::alloc::{AllocError, Global};
 use std::process::Abort;
+
+/// Whether a path says what another reads.
+fn matches(a: &Triple, b: &Triple) -> bool {
+    a.output.as_slice() == b.input.as_slice()
+}
+
+/// The number of arcs of the path of a composition that goes along two paths that match: they share an arc for each
+/// label of the string between them.
+fn shared_arcs(rt: &impl Abort, a: &Triple, b: &Triple) -> usize {
+    let both = add_arcs(rt, a.arcs, b.arcs);
+    both.checked_sub(a.output.len())
+        .expect(rt, "as many arcs as labels")
+}
+
+/// Two numbers of arcs together.
+pub(crate) fn add_arcs(rt: &impl Abort, a: usize, b: usize) -> usize {
+    a.checked_add(b).expect(rt, "few arcs")
+}
+
+/// The sum of each part of two values.
+fn sum(rt: &impl Abort, a: PlainCost, b: PlainCost) -> PlainCost {
+    match (a, b) {
+        (PlainCost::Finite(first, second), PlainCost::Finite(third, fourth)) => PlainCost::Finite(
+            first.checked_add(third).expect(rt, "a small number"),
+            second.checked_add(fourth).expect(rt, "a small number"),
+        ),
+        _ => PlainCost::Infinite,
+    }
+}
+
+/// Times of an arc type: the worse of two values of min-max, else their sum.
+fn times(rt: &impl Abort, kind: ArcType, a: PlainCost, b: PlainCost) -> PlainCost {
+    match kind {
+        ArcType::MinMax => { if is_better(a, b) { b } else { a } }
+        _ => sum(rt, a, b),
+    }
+}
 
 /// Two strings, one after the other.
 fn joined(alloc: Global, front: &[u32], back: &[u32]) -> Result<Vec<u32>, AllocError> {

@@ -1,11 +1,12 @@
 //! What each operation makes of small tropical machines, by hand.
 
-use crate::machines::{chain, is_text, machine, without_start};
-use crate::operations::{Change, apply};
+use crate::operations::{Change, apply, with_new_labels};
 use fst_machine::{Fst, MOST_STATES};
-use fst_rational::{PairsFault, RationalFault, concat, read_pairs, relabel, union};
-use fst_semiring::{Tropical, Weight};
+use fst_rational::{PairsFault, RationalFault, concat, read_pairs, union};
+use fst_samples::{bare_states, chain, is_text, machine, without_start};
+use fst_semiring::Tropical;
 use fst_trim::connect;
+use std::alloc::Global;
 use std::test::Fail;
 
 /// One arc from state 0 to state 1.
@@ -67,7 +68,8 @@ fn changes_one_machine(rt: HostRuntime) -> Result<(), Fail> {
     let alloc = rt.alloc();
     for (change, text, want) in &CHANGES {
         let fst: Fst<Tropical> = machine(alloc, text)?;
-        is_text(&rt, alloc, &apply(alloc, *change, &fst)?, want)?;
+        let made = apply(alloc, *change, &fst)?;
+        assert!(rt; is_text(alloc, &made, want)?, "{change:?} of {text:?}");
     }
     Ok(())
 }
@@ -83,9 +85,8 @@ fn changes_labels(rt: HostRuntime) -> Result<(), Fail> {
     let alloc = rt.alloc();
     let ticket: Fst<Tropical> = machine(alloc, TICKET)?;
     for (input, output, want) in &RELABELED {
-        let input = read_pairs(alloc, input)?;
-        let made = relabel(alloc, &ticket, &input, &read_pairs(alloc, output)?)?;
-        is_text(&rt, alloc, &made, want)?;
+        let made = with_new_labels(alloc, &ticket, input, output)?;
+        assert!(rt; is_text(alloc, &made, want)?, "{want:?}");
     }
     Ok(())
 }
@@ -123,16 +124,28 @@ static JOINED: [(&[u8], &[u8], &[u8]); 2] = [
     (TICKET, b"", b"0 1 1 2 5\n"),
 ];
 
+/// The union of the machines of two texts.
+fn united(alloc: Global, a: &[u8], b: &[u8]) -> Result<Fst<Tropical>, Fail> {
+    let (a, b) = (machine(alloc, a)?, machine(alloc, b)?);
+    let made = union(alloc, &a, &b)?;
+    Ok(made)
+}
+
+/// The concatenation of the machines of two texts.
+fn joined(alloc: Global, a: &[u8], b: &[u8]) -> Result<Fst<Tropical>, Fail> {
+    let (a, b) = (machine(alloc, a)?, machine(alloc, b)?);
+    let made = concat(alloc, &a, &b)?;
+    Ok(made)
+}
+
 #[test]
 fn joins_two_machines(rt: HostRuntime) -> Result<(), Fail> {
     let alloc = rt.alloc();
     for (a, b, want) in &UNITED {
-        let made = union::<Tropical>(alloc, &machine(alloc, a)?, &machine(alloc, b)?)?;
-        is_text(&rt, alloc, &made, want)?;
+        assert!(rt; is_text(alloc, &united(alloc, a, b)?, want)?, "{want:?}");
     }
     for (a, b, want) in &JOINED {
-        let made = concat::<Tropical>(alloc, &machine(alloc, a)?, &machine(alloc, b)?)?;
-        is_text(&rt, alloc, &made, want)?;
+        assert!(rt; is_text(alloc, &joined(alloc, a, b)?, want)?, "{want:?}");
     }
     Ok(())
 }
@@ -140,8 +153,8 @@ fn joins_two_machines(rt: HostRuntime) -> Result<(), Fail> {
 #[test]
 fn has_a_greatest_size(rt: HostRuntime) -> Result<(), Fail> {
     let alloc = rt.alloc();
-    let half = chain(&rt, alloc, 2_097_152, false)?;
-    let less = chain(&rt, alloc, 2_097_151, false)?;
+    let half = bare_states(alloc, 2_097_152)?;
+    let less = bare_states(alloc, 2_097_151)?;
     assert!(rt; union(alloc, &half, &half).err() == Some(RationalFault::TooManyStates));
     let most = union(alloc, &half, &less)?;
     assert_eq!(rt; most.states(), 4_194_304);
@@ -152,11 +165,8 @@ fn has_a_greatest_size(rt: HostRuntime) -> Result<(), Fail> {
 #[test]
 fn connects_a_chain_of_all_states(rt: HostRuntime) -> Result<(), Fail> {
     let most = MOST_STATES as u32;
-    let mut fst = chain(&rt, rt.alloc(), most, true)?;
-    let count = fst.states();
-    assert!(rt; count == most);
-    fst.set_start(0);
-    fst.set_final(most - 1, Tropical::one());
+    let fst = chain(rt.alloc(), most - 1)?;
+    assert_eq!(rt; fst.states(), most);
     let connected = connect(rt.alloc(), &fst)?;
     assert!(rt; connected.states() == most && connected.arc_count() == most - 1);
     assert!(rt; connected.start() == Some(0));
@@ -166,6 +176,7 @@ fn connects_a_chain_of_all_states(rt: HostRuntime) -> Result<(), Fail> {
 #[test]
 fn connects_nothing_without_a_start(rt: HostRuntime) -> Result<(), Fail> {
     let fst: Fst<Tropical> = machine(rt.alloc(), b"0 1 1 1\n1\n")?;
-    let made = connect(rt.alloc(), &without_start(&rt, rt.alloc(), &fst)?)?;
-    is_text(&rt, rt.alloc(), &made, b"")
+    let made = connect(rt.alloc(), &without_start(rt.alloc(), &fst)?)?;
+    assert!(rt; is_text(rt.alloc(), &made, b"")?);
+    Ok(())
 }

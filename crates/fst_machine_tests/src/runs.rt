@@ -2,9 +2,9 @@
 
 ghost use Rattle.std.specs.Prelude.{◌≡◌, ◌<◌};
 
-use crate::machines::machine;
 use fst_compose::{ComposeKey, KeyArc, expand, expand_counted};
 use fst_machine::{Fst, FstArc, Steps};
+use fst_samples::machine;
 use fst_semiring::Tropical;
 use fst_trim::{Side, find_run, is_sorted, run_from, stands_by};
 use std::alloc::{AllocError, Global};

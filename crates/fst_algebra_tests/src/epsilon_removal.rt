@@ -1,45 +1,15 @@
 //! Machines without their epsilon arcs: what is left by every queue, what is refused, and the weights of the pairs beside
 //! those that the slow programs compute.
 
-use crate::machines::{is_text, machine};
-use crate::relation::{ARCS, Triple, relation};
+use crate::worst_first::WorstFirst;
 use fst_epsilon::{EpsilonFault, rmepsilon};
 use fst_machine::Fst;
-use fst_plain::pair_weight;
 use fst_queue::{BestFirst, Fifo, Lifo, StateQueue};
-use fst_semiring::{Boolean, Key, Lexicographic, MinMax, Tropical, Weight};
+use fst_samples::{is_text, machine, relation, weigh_alike};
+use fst_semiring::{Boolean, Lexicographic, MinMax, Tropical, Weight};
 use std::alloc::{AllocError, Global};
 use std::process::Abort;
 use std::test::Fail;
-
-/// A queue that gives a state with the worst key first, which is a bad order.
-#[derive(Drop)]
-struct WorstFirst {
-    inner: BestFirst,
-}
-
-impl StateQueue for WorstFirst {
-    ghost use Rattle.fst_queue.specs.Heap.{states_of};
-
-    ghost members = { λ q. states_of q.inner };
-
-    fn put(&mut self, state: u32, key: Key) -> Result<(), AllocError> {
-        let turned = Key {
-            class: key.class,
-            first: 0i128.wrapping_sub(key.first),
-            second: 0i128.wrapping_sub(key.second),
-        };
-        self.inner.put(state, turned)
-    }
-
-    fn take(&mut self) -> Option<u32> {
-        self.inner.take()
-    }
-
-    fn is_empty(&self) -> bool {
-        self.inner.is_empty()
-    }
-}
 
 /// What is left of a machine by a queue, or the fault.
 fn left<W: Weight>(
@@ -59,72 +29,22 @@ fn by_fifo<W: Weight>(
     alloc: Global,
     fst: &Fst<W>,
 ) -> Result<Result<Fst<W>, EpsilonFault>, AllocError> {
-    let queue = Fifo::new(alloc);
-    let queue = Box::new(alloc, queue)?;
-    Ok(left(rt, alloc, fst, queue))
+    Ok(left(rt, alloc, fst, Box::new(alloc, Fifo::new(alloc))?))
 }
 
-/// What is left where the last state leaves first.
-fn by_lifo<W: Weight>(
+/// Asks that a queue leaves the machine of a text.
+fn leaves(
     rt: &impl Abort,
     alloc: Global,
-    fst: &Fst<W>,
-) -> Result<Result<Fst<W>, EpsilonFault>, AllocError> {
-    let queue = Lifo::new(alloc);
-    let queue = Box::new(alloc, queue)?;
-    Ok(left(rt, alloc, fst, queue))
-}
-
-/// What is left where the best state leaves first.
-fn by_best<W: Weight>(
-    rt: &impl Abort,
-    alloc: Global,
-    fst: &Fst<W>,
-) -> Result<Result<Fst<W>, EpsilonFault>, AllocError> {
-    let queue = BestFirst::new(alloc);
-    let queue = Box::new(alloc, queue)?;
-    Ok(left(rt, alloc, fst, queue))
-}
-
-/// What is left where the worst state leaves first.
-fn by_worst<W: Weight>(
-    rt: &impl Abort,
-    alloc: Global,
-    fst: &Fst<W>,
-) -> Result<Result<Fst<W>, EpsilonFault>, AllocError> {
-    let queue = WorstFirst {
-        inner: BestFirst::new(alloc),
-    };
-    let queue = Box::new(alloc, queue)?;
-    Ok(left(rt, alloc, fst, queue))
-}
-
-/// Asks that this is the machine of a text.
-fn is_left<W: Weight>(
-    rt: &impl Abort,
-    alloc: Global,
-    made: &Result<Fst<W>, EpsilonFault>,
+    fst: &Fst<Tropical>,
+    queue: Box<dyn StateQueue>,
     wanted: &[u8],
 ) -> Result<(), Fail> {
-    match made {
-        Ok(made) => is_text(rt, alloc, made, wanted)?,
+    match left(rt, alloc, fst, queue) {
+        Ok(made) => assert!(rt; is_text(alloc, &made, wanted)?, "{wanted:?}"),
         Err(_) => assert!(rt; false, "no machine"),
     }
     Ok(())
-}
-
-/// Asks what is left of a machine by each queue.
-fn leaves<W: Weight>(
-    rt: &impl Abort,
-    alloc: Global,
-    text: &[u8],
-    wanted: &[u8],
-) -> Result<(), Fail> {
-    let fst: Fst<W> = machine(alloc, text)?;
-    is_left(rt, alloc, &by_fifo(rt, alloc, &fst)?, wanted)?;
-    is_left(rt, alloc, &by_lifo(rt, alloc, &fst)?, wanted)?;
-    is_left(rt, alloc, &by_best(rt, alloc, &fst)?, wanted)?;
-    is_left(rt, alloc, &by_worst(rt, alloc, &fst)?, wanted)
 }
 
 /// Tropical machines, and what is left of them. In the first two ways of epsilon arcs lead to state 1, and their best has
@@ -150,7 +70,23 @@ static TROPICAL: [(&[u8], &[u8]); 4] = [
 fn what_is_left_of_tropical_machines(rt: HostRuntime) -> Result<(), Fail> {
     let alloc = rt.alloc();
     for (text, wanted) in &TROPICAL {
-        leaves::<Tropical>(&rt, alloc, text, wanted)?;
+        let fst: Fst<Tropical> = machine(alloc, text)?;
+        leaves(&rt, alloc, &fst, Box::new(alloc, Fifo::new(alloc))?, wanted)?;
+        leaves(&rt, alloc, &fst, Box::new(alloc, Lifo::new(alloc))?, wanted)?;
+        leaves(
+            &rt,
+            alloc,
+            &fst,
+            Box::new(alloc, BestFirst::new(alloc))?,
+            wanted,
+        )?;
+        leaves(
+            &rt,
+            alloc,
+            &fst,
+            Box::new(alloc, WorstFirst::new(alloc))?,
+            wanted,
+        )?;
     }
     Ok(())
 }
@@ -198,31 +134,12 @@ fn what_stops(rt: HostRuntime) -> Result<(), Fail> {
     Ok(())
 }
 
-/// Asks that two machines give each of these pairs one weight, by the slow program.
-fn weigh_alike<W: Weight>(rt: &impl Abort, a: &Fst<W>, b: &Fst<W>, pairs: &[Triple]) {
-    let (Some(first), Some(second)) = (a.start(), b.start()) else {
-        return;
-    };
-    for pair in pairs {
-        let input = pair.input.as_slice();
-        let output = pair.output.as_slice();
-        let one = pair_weight(a, ARCS, first, input, output);
-        let two = pair_weight(b, ARCS, second, input, output);
-        assert!(rt; one == two, "{pair:?} has two weights");
-    }
-}
-
 /// Asks that a machine without its epsilon arcs gives the same pairs the same weights. All its paths have few arcs.
 fn keeps<W: Weight>(rt: &impl Abort, alloc: Global, text: &[u8], count: usize) -> Result<(), Fail> {
     let fst: Fst<W> = machine(alloc, text)?;
-    let before = relation(alloc, &fst)?;
-    assert_eq!(rt; before.len(), count);
+    assert_eq!(rt; relation(alloc, &fst)?.len(), count);
     match by_fifo(rt, alloc, &fst)? {
-        Ok(made) => {
-            let after = relation(alloc, &made)?;
-            weigh_alike(rt, &fst, &made, before.as_slice());
-            weigh_alike(rt, &fst, &made, after.as_slice());
-        }
+        Ok(made) => assert!(rt; weigh_alike(alloc, &fst, &made)?),
         Err(_other) => assert!(rt; false, "no machine"),
     }
     Ok(())

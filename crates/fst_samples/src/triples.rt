@@ -4,7 +4,6 @@ use fst_machine::Fst;
 use fst_plain::{PlainCost, PlainPath, pair_weight, successful_paths};
 use fst_semiring::{ArcType, Weight};
 use std::alloc::{AllocError, Global};
-use std::process::Abort;
 
 /// The greatest number of arcs of the paths that are compared.
 ///
@@ -14,15 +13,15 @@ use std::process::Abort;
 /// arcs that it adds, whose number is known. So the triples that the operands have over such paths, each with the
 /// number of arcs, give every triple that the result has over such paths, and no other. Nothing is left out of
 /// this for epsilon cycles, nor for cycles that improve weights without end.
-pub(crate) const ARCS: u32 = 6;
+pub const ARCS: u32 = 6;
 
 /// A triple of a relation, and how many arcs a path has that says it.
 #[derive(Debug, Drop)]
-pub(crate) struct Triple {
-    pub(crate) arcs: usize,
-    pub(crate) input: Vec<u32>,
-    pub(crate) output: Vec<u32>,
-    pub(crate) weight: PlainCost,
+pub struct Triple {
+    pub arcs: usize,
+    pub input: Vec<u32>,
+    pub output: Vec<u32>,
+    pub weight: PlainCost,
 }
 
 /// Puts a label, unless it is epsilon, after a string.
@@ -66,7 +65,7 @@ fn is_among(triples: &[Triple], triple: &Triple) -> bool {
 
 /// Puts a triple after others, if its path has at most `ARCS` arcs and they have none with its strings, weight
 /// and number of arcs.
-pub(crate) fn put(triples: &mut Vec<Triple>, triple: Triple) -> Result<(), AllocError> {
+pub fn put(triples: &mut Vec<Triple>, triple: Triple) -> Result<(), AllocError> {
     let is_long = triple.arcs > ARCS as usize;
     let stands = triples.iter().any(|other| other.arcs == triple.arcs
         && same_triple(other, &triple));
@@ -76,26 +75,8 @@ pub(crate) fn put(triples: &mut Vec<Triple>, triple: Triple) -> Result<(), Alloc
     Ok(())
 }
 
-/// Whether a path says what another reads.
-pub(crate) fn matches(a: &Triple, b: &Triple) -> bool {
-    a.output.as_slice() == b.input.as_slice()
-}
-
-/// The number of arcs of the path of a composition that goes along two paths that match: they share an arc for each
-/// label of the string between them.
-pub(crate) fn shared_arcs(rt: &impl Abort, a: &Triple, b: &Triple) -> usize {
-    let both = add_arcs(rt, a.arcs, b.arcs);
-    both.checked_sub(a.output.len())
-        .expect(rt, "as many arcs as labels")
-}
-
-/// Two numbers of arcs together.
-pub(crate) fn add_arcs(rt: &impl Abort, a: usize, b: usize) -> usize {
-    a.checked_add(b).expect(rt, "few arcs")
-}
-
 /// The triples of the successful paths of at most `ARCS` arcs, one for each path.
-pub(crate) fn said<W: Weight>(alloc: Global, fst: &Fst<W>) -> Result<Vec<Triple>, AllocError> {
+pub fn said<W: Weight>(alloc: Global, fst: &Fst<W>) -> Result<Vec<Triple>, AllocError> {
     let mut triples = Vec::new(alloc);
     for path in &successful_paths(alloc, fst, ARCS)? {
         triples.push(triple_of(alloc, path)?)?;
@@ -104,7 +85,7 @@ pub(crate) fn said<W: Weight>(alloc: Global, fst: &Fst<W>) -> Result<Vec<Triple>
 }
 
 /// The triples that the plain program lists, over successful paths of at most `ARCS` arcs.
-pub(crate) fn relation<W: Weight>(alloc: Global, fst: &Fst<W>) -> Result<Vec<Triple>, AllocError> {
+pub fn relation<W: Weight>(alloc: Global, fst: &Fst<W>) -> Result<Vec<Triple>, AllocError> {
     let mut triples = Vec::new(alloc);
     for path in &successful_paths(alloc, fst, ARCS)? {
         put(&mut triples, triple_of(alloc, path)?)?;
@@ -113,7 +94,7 @@ pub(crate) fn relation<W: Weight>(alloc: Global, fst: &Fst<W>) -> Result<Vec<Tri
 }
 
 /// One of an arc type.
-pub(crate) fn one(kind: ArcType) -> PlainCost {
+pub fn one(kind: ArcType) -> PlainCost {
     match kind {
         ArcType::MinMax => PlainCost::Best,
         _ => PlainCost::Finite(0, 0),
@@ -121,7 +102,7 @@ pub(crate) fn one(kind: ArcType) -> PlainCost {
 }
 
 /// Whether a value is better than another.
-fn is_better(a: PlainCost, b: PlainCost) -> bool {
+pub fn is_better(a: PlainCost, b: PlainCost) -> bool {
     match (a, b) {
         (PlainCost::Finite(first, second), PlainCost::Finite(third, fourth)) => {
             first < third || (first == third && second < fourth)
@@ -129,25 +110,6 @@ fn is_better(a: PlainCost, b: PlainCost) -> bool {
         (PlainCost::Best, _) => b != PlainCost::Best,
         (PlainCost::Finite(_, _), _) => b == PlainCost::Infinite,
         (PlainCost::Infinite, _) => false,
-    }
-}
-
-/// The sum of each part of two values.
-fn sum(rt: &impl Abort, a: PlainCost, b: PlainCost) -> PlainCost {
-    match (a, b) {
-        (PlainCost::Finite(first, second), PlainCost::Finite(third, fourth)) => PlainCost::Finite(
-            first.checked_add(third).expect(rt, "a small number"),
-            second.checked_add(fourth).expect(rt, "a small number"),
-        ),
-        _ => PlainCost::Infinite,
-    }
-}
-
-/// Times of an arc type: the worse of two values of min-max, else their sum.
-pub(crate) fn times(rt: &impl Abort, kind: ArcType, a: PlainCost, b: PlainCost) -> PlainCost {
-    match kind {
-        ArcType::MinMax => { if is_better(a, b) { b } else { a } }
-        _ => sum(rt, a, b),
     }
 }
 
@@ -162,43 +124,56 @@ fn best_weight(triples: &[Triple], pair: &Triple) -> PlainCost {
     best
 }
 
-/// Asks that each triple is among others.
-fn lies_in(rt: &impl Abort, triples: &[Triple], others: &[Triple]) {
-    for triple in triples {
-        assert!(rt;
-            is_among(others, triple),
-            "{triple:?} is in one relation alone"
-        );
-    }
+/// Whether each triple is among others.
+fn lie_in(triples: &[Triple], others: &[Triple]) -> bool {
+    triples.iter().all(|triple| is_among(others, triple))
 }
 
-/// Asks that the plain program gives each pair the best of the weights that the triples have for it.
-fn weighs_pairs<W: Weight>(rt: &impl Abort, fst: &Fst<W>, wanted: &[Triple]) {
+/// Whether the plain program gives each pair the best of the weights that the triples have for it.
+fn weighs_pairs<W: Weight>(fst: &Fst<W>, wanted: &[Triple]) -> bool {
     let Some(start) = fst.start() else {
-        return;
+        return true;
     };
     for triple in wanted {
         let input = triple.input.as_slice();
         let output = triple.output.as_slice();
         let weight = pair_weight(fst, ARCS, start, input, output);
-        assert!(rt;
-            weight == best_weight(wanted, triple),
-            "{triple:?} is not the best"
-        );
+        if weight != best_weight(wanted, triple) {
+            return false;
+        }
     }
+    true
 }
 
-/// Asks that these are the triples of a machine over paths of at most `ARCS` arcs, by both plain programs: the
-/// listed paths say them all and no others, and the weight of each pair is the best that they have for it.
-pub(crate) fn says<W: Weight>(
-    rt: &impl Abort,
-    alloc: Global,
-    fst: &Fst<W>,
-    wanted: &[Triple],
-) -> Result<(), AllocError> {
+/// Whether these are the triples of a machine over paths of at most `ARCS` arcs, by both plain programs: the listed
+/// paths say them all and no others, and the weight of each pair is the best that they have for it.
+pub fn says<W: Weight>(alloc: Global, fst: &Fst<W>, wanted: &[Triple]) -> Result<bool, AllocError> {
     let found = relation(alloc, fst)?;
-    lies_in(rt, found.as_slice(), wanted);
-    lies_in(rt, wanted, found.as_slice());
-    weighs_pairs(rt, fst, wanted);
-    Ok(())
+    let found = found.as_slice();
+    Ok(lie_in(found, wanted) && lie_in(wanted, found) && weighs_pairs(fst, wanted))
+}
+
+/// Whether two machines give the pair of each of these triples one weight. A machine without a start gives no pair a
+/// weight, so that there may then be no triples.
+fn weigh_pairs_alike<W: Weight>(a: &Fst<W>, b: &Fst<W>, triples: &[Triple]) -> bool {
+    let (Some(first), Some(second)) = (a.start(), b.start()) else {
+        return triples.is_empty();
+    };
+    for triple in triples {
+        let input = triple.input.as_slice();
+        let output = triple.output.as_slice();
+        let weight = pair_weight(a, ARCS, first, input, output);
+        if weight != pair_weight(b, ARCS, second, input, output) {
+            return false;
+        }
+    }
+    true
+}
+
+/// Whether two machines give each pair one weight that paths of at most `ARCS` arcs of either of them say, by the plain
+/// programs.
+pub fn weigh_alike<W: Weight>(alloc: Global, a: &Fst<W>, b: &Fst<W>) -> Result<bool, AllocError> {
+    let first = relation(alloc, a)?;
+    let second = relation(alloc, b)?;
+    Ok(weigh_pairs_alike(a, b, first.as_slice()) && weigh_pairs_alike(a, b, second.as_slice()))
 }

@@ -1,9 +1,9 @@
 //! What minimization makes of small machines, by hand, and why it makes none.
 
-use crate::machines::{is_text, machine};
 use fst_machine::Fst;
 use fst_minimize::{MinimizeFault, minimize};
 use fst_queue::Fifo;
+use fst_samples::{is_text, machine};
 use fst_semiring::{MinMax, Tropical};
 use std::test::Fail;
 
@@ -35,12 +35,14 @@ fn states_that_do_the_same_are_one(rt: HostRuntime) -> Result<(), Fail> {
     for (text, wanted) in &MADE {
         let fst: Fst<Tropical> = machine(alloc, text)?;
         match minimize(alloc, &fst, &mut Fifo::new(alloc)) {
-            Ok(made) => is_text(&rt, alloc, &made, wanted)?,
+            Ok(made) => assert!(rt; is_text(alloc, &made, wanted)?, "{text:?}"),
             Err(_) => assert!(rt; false, "{text:?}"),
         }
     }
     Ok(())
 }
+
+const MIN_MAX: &[u8] = b"0 1 1 1\n0 2 2 2\n1 3 1 1 6\n1 3 2 2\n2 3 1 1\n2 3 2 2\n3 6\n";
 
 #[test]
 fn no_value_is_divided_in_min_max(rt: HostRuntime) -> Result<(), Fail> {
@@ -50,12 +52,7 @@ fn no_value_is_divided_in_min_max(rt: HostRuntime) -> Result<(), Fail> {
         b"0 1 1 1 6\n0 2 2 2 6\n1 3 1 1 6\n1 3 2 2 5\n2 3 1 1 5\n2 3 2 2 5\n3 -Infinity\n",
     )?;
     match minimize(alloc, &fst, &mut Fifo::new(alloc)) {
-        Ok(made) => is_text(
-            &rt,
-            alloc,
-            &made,
-            b"0 1 1 1\n0 2 2 2\n1 3 1 1 6\n1 3 2 2\n2 3 1 1\n2 3 2 2\n3 6\n",
-        )?,
+        Ok(made) => assert!(rt; is_text(alloc, &made, MIN_MAX)?),
         Err(_) => assert!(rt; false),
     }
     Ok(())

@@ -1,11 +1,10 @@
 //! Pushed machines beside what the plain programs compute, for each arc type.
 
-use crate::machines::{is_text, machine, machines};
-use crate::relation::{ARCS, add_arcs, one, relation, says};
 use fst_machine::{Fst, narrow_all};
 use fst_plain::distances_to_final;
 use fst_pushing::{PushFault, push, push_wide};
 use fst_queue::{BestFirst, Fifo, Lifo};
+use fst_samples::{ARCS, is_text, machine, machines, one, relation, says};
 use fst_semiring::{Boolean, Lexicographic, MinMax, Tropical, Weight};
 use std::alloc::Global;
 use std::process::Abort;
@@ -24,7 +23,7 @@ fn is_normal<W: Weight>(rt: &impl Abort, alloc: Global, fst: &Fst<W>) -> Result<
 /// it has a pushed machine, and not an improving cycle.
 fn compare_pushed<W: Weight>(rt: &impl Abort, alloc: Global, fst: &Fst<W>) -> Result<bool, Fail> {
     match push(alloc, fst, false, &mut Fifo::new(alloc)) {
-        Ok(made) => says(rt, alloc, &made, relation(alloc, fst)?.as_slice())?,
+        Ok(made) => assert!(rt; says(alloc, &made, relation(alloc, fst)?.as_slice())?),
         Err(PushFault::ImprovingCycle { cycle: _cycle }) => return Ok(false),
         Err(_other) => assert!(rt; false, "no pushed machine"),
     }
@@ -35,25 +34,23 @@ fn compare_pushed<W: Weight>(rt: &impl Abort, alloc: Global, fst: &Fst<W>) -> Re
     Ok(true)
 }
 
-/// Asks of the machines of an arc type, so many of which have a pushed machine.
-fn compare<W: Weight>(rt: &impl Abort, alloc: Global, wanted: usize) -> Result<(), Fail> {
-    let mut count = 0;
-    for fst in &machines::<W>(rt, alloc)? {
-        if compare_pushed(rt, alloc, fst)? {
-            count = add_arcs(rt, count, 1);
-        }
+/// Asks of the machines of an arc type; of each is said whether it has a pushed machine.
+fn compare<W: Weight>(rt: &impl Abort, alloc: Global, wanted: [bool; 4]) -> Result<(), Fail> {
+    let list = machines::<W>(alloc)?;
+    assert_eq!(rt; list.len(), 4);
+    for (fst, is_pushed) in list.iter().zip(&wanted) {
+        assert_eq!(rt; compare_pushed(rt, alloc, fst)?, *is_pushed);
     }
-    assert_eq!(rt; count, wanted);
     Ok(())
 }
 
 #[test]
 fn pushed_machines_relate_the_same(rt: HostRuntime) -> Result<(), Fail> {
     let alloc = rt.alloc();
-    compare::<Boolean>(&rt, alloc, 4)?;
-    compare::<Tropical>(&rt, alloc, 3)?;
-    compare::<MinMax>(&rt, alloc, 4)?;
-    compare::<Lexicographic>(&rt, alloc, 3)
+    compare::<Boolean>(&rt, alloc, [true; 4])?;
+    compare::<Tropical>(&rt, alloc, [true, false, true, true])?;
+    compare::<MinMax>(&rt, alloc, [true; 4])?;
+    compare::<Lexicographic>(&rt, alloc, [true, false, true, true])
 }
 
 /// Machines, each with its pushed machine without the total, and the total.
@@ -84,7 +81,8 @@ fn wide_weights_stand_beside_their_total(rt: HostRuntime) -> Result<(), Fail> {
         let fst: Fst<Tropical> = machine(alloc, text)?;
         match push_wide(alloc, &fst, &mut BestFirst::new(alloc)) {
             Ok(pushed) => {
-                is_text(&rt, alloc, &narrow_all(alloc, &pushed.fst)?, wanted)?;
+                let fst = narrow_all(alloc, &pushed.fst)?;
+                assert!(rt; is_text(alloc, &fst, wanted)?, "{text:?}");
                 assert!(rt; Tropical::key(pushed.total).first == *total, "{text:?}");
             }
             Err(_) => assert!(rt; false, "{text:?}"),

@@ -1,10 +1,8 @@
 //! Deterministic machines of small acceptors, written out from the definition by hand, and the weights of all pairs.
 
-use crate::machines::{chain, is_text, machine, same};
-use crate::relation::{ARCS, Triple, relation};
 use fst_determinize::{DeterminizeFault, determinize};
 use fst_machine::Fst;
-use fst_plain::pair_weight;
+use fst_samples::{chain, is_text, machine, same, weigh_alike};
 use fst_semiring::{Boolean, Lexicographic, MinMax, Tropical, Weight};
 use std::alloc::Global;
 use std::process::Abort;
@@ -69,33 +67,22 @@ static REFUSED: [(&[u8], u32, DeterminizeFault); 3] = [
     ),
 ];
 
-/// Asks that two machines give each pair that the triples have one weight.
-fn same_pairs<W: Weight>(rt: &impl Abort, a: &Fst<W>, b: &Fst<W>, triples: &[Triple]) {
-    let (Some(first), Some(second)) = (a.start(), b.start()) else {
-        assert!(rt; triples.is_empty());
-        return;
-    };
-    for triple in triples {
-        let input = triple.input.as_slice();
-        let output = triple.output.as_slice();
-        let one = pair_weight(a, ARCS, first, input, output);
-        let other = pair_weight(b, ARCS, second, input, output);
-        assert!(rt; one == other, "{triple:?}");
-    }
+/// Whether a machine has this deterministic one, with the same weight of each pair of either.
+fn becomes<W: Weight>(alloc: Global, text: &[u8], want: &[u8]) -> Result<bool, Fail> {
+    let fst: Fst<W> = machine(alloc, text)?;
+    let made = determinize(alloc, &fst, 9)?;
+    let alike = weigh_alike(alloc, &fst, &made.fst)?;
+    Ok(alike && is_text(alloc, &made.fst, want)?)
 }
 
-/// Determinizes each machine, and asks that the result is the other, with the same weight of each pair of either.
+/// Asks this of each machine and the other.
 fn determinizes<W: Weight>(
     rt: &impl Abort,
     alloc: Global,
     given: &[(&[u8], &[u8])],
 ) -> Result<(), Fail> {
     for (text, want) in given {
-        let fst: Fst<W> = machine(alloc, text)?;
-        let made = determinize(alloc, &fst, 9)?;
-        is_text(rt, alloc, &made.fst, want)?;
-        same_pairs(rt, &fst, &made.fst, relation(alloc, &fst)?.as_slice());
-        same_pairs(rt, &fst, &made.fst, relation(alloc, &made.fst)?.as_slice());
+        assert!(rt; becomes::<W>(alloc, text, want)?, "{text:?}");
     }
     Ok(())
 }
@@ -109,29 +96,39 @@ fn makes_the_machine_of_subsets(rt: HostRuntime) -> Result<(), Fail> {
     determinizes::<Boolean>(&rt, alloc, &BOOLEAN)
 }
 
+/// Why a machine has no deterministic one with at most so many states.
+fn refusal(
+    rt: &impl Abort,
+    alloc: Global,
+    text: &[u8],
+    limit: u32,
+) -> Result<Option<DeterminizeFault>, Fail> {
+    let fst: Fst<Tropical> = machine(alloc, text)?;
+    assert!(rt; limit > 0 && limit < 10);
+    Ok(determinize(alloc, &fst, limit).err())
+}
+
 #[test]
 fn tells_why_there_is_no_deterministic_machine(rt: HostRuntime) -> Result<(), Fail> {
     let alloc = rt.alloc();
     for (text, limit, want) in &REFUSED {
-        let fst: Fst<Tropical> = machine(alloc, text)?;
-        assert!(rt; *limit > 0 && *limit < 10);
-        let fault = determinize(alloc, &fst, *limit).err();
-        assert!(rt; fault == Some(*want), "{fault:?}");
+        assert_eq!(rt; refusal(&rt, alloc, text, *limit)?, Some(*want));
     }
     Ok(())
 }
 
+/// Whether a deterministic machine is made as it is, with as many states as the limit.
+fn stays(alloc: Global, fst: &Fst<Tropical>) -> Result<bool, Fail> {
+    let made = determinize(alloc, fst, 6_001)?;
+    Ok(same(&made.fst, fst))
+}
+
 #[test]
 fn makes_as_many_subsets_as_the_limit(rt: HostRuntime) -> Result<(), Fail> {
-    let alloc = rt.alloc();
-    let mut fst = chain(&rt, alloc, 6_001, true)?;
-    let states = fst.states();
-    assert!(rt; states == 6_001);
-    fst.set_start(0);
-    fst.set_final(6_000, Tropical::one());
-    let made = determinize(alloc, &fst, 6_001)?;
-    same(&rt, &made.fst, &fst);
-    let fault = determinize(alloc, &fst, 6_000).err();
+    let fst = chain(rt.alloc(), 6_000)?;
+    assert_eq!(rt; fst.states(), 6_001);
+    assert!(rt; stays(rt.alloc(), &fst)?);
+    let fault = determinize(rt.alloc(), &fst, 6_000).err();
     assert!(rt; fault == Some(DeterminizeFault::StateLimit { limit: 6_000 }));
     Ok(())
 }

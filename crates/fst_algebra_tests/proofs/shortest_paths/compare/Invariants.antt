@@ -1,4 +1,4 @@
-use Rattle.fst_machine_tests.proofs.shortest_paths.compare.Given as goal
+use Rattle.fst_algebra_tests.proofs.shortest_paths.compare.Given as goal
 
 abbrev pub ghosts-firsts : goal.ghosts-firsts
 ghosts-firsts g a = record { name = a.blank.name; parts = a.blank.parts }

@@ -2,11 +2,12 @@
 
 ghost use Rattle.std.specs.Prelude.{◌≡◌, []};
 
-use crate::machines::machine;
+use crate::worst_first::WorstFirst;
 use fst_distance::{Direction, DistanceFault, distance, useful_distances};
 use fst_machine::{Fst, Path, Step};
 use fst_plain::{PlainCost, distances_to_final};
 use fst_queue::{BestFirst, Fifo, Lifo, StateQueue};
+use fst_samples::machine;
 use fst_semiring::{Tropical, Weight};
 use std::alloc::Global;
 use std::test::Fail;
@@ -20,8 +21,13 @@ const APART: &[u8] = b"1 0 0 0\n0 0 0 0 -1\n1 5\n";
 /// Here such a cycle is on successful paths.
 const MET: &[u8] = b"0 1 1 1 2\n1 2 2 2\n2 1 3 3 -1\n1\n";
 
+/// Three times two ways lead on, of which the longer one is better. A search that looks at the worst state first goes
+/// on from the end of the worse way before it finds the better one, each time.
+const RUNGS: &[u8] =
+    b"0 2 1 1 5\n0 1 1 1 1\n1 2 1 1\n2 4 1 1 3\n2 3 1 1 1\n3 4 1 1\n4 6 1 1 2\n4 5 1 1 1\n5 6 1 1\n6\n";
+
 /// A machine, a direction, and the distance of each state; `None` is Zero.
-static DISTANCES: [(&[u8], Direction, &[Option<i128>]); 4] = [
+static DISTANCES: [(&[u8], Direction, &[Option<i128>]); 6] = [
     (
         DETOUR,
         Direction::FromStart,
@@ -34,6 +40,32 @@ static DISTANCES: [(&[u8], Direction, &[Option<i128>]); 4] = [
     ),
     (APART, Direction::ToFinals, &[None, Some(5)]),
     (b"", Direction::FromStart, &[]),
+    (
+        RUNGS,
+        Direction::FromStart,
+        &[
+            Some(0),
+            Some(1),
+            Some(1),
+            Some(2),
+            Some(2),
+            Some(3),
+            Some(3),
+        ],
+    ),
+    (
+        RUNGS,
+        Direction::ToFinals,
+        &[
+            Some(3),
+            Some(2),
+            Some(2),
+            Some(1),
+            Some(1),
+            Some(0),
+            Some(0),
+        ],
+    ),
 ];
 
 /// Whether distances are these numbers.
@@ -53,15 +85,29 @@ fn leads_to<Q: StateQueue>(
     alloc: Global,
     fst: &Fst<Tropical>,
     direction: Direction,
-    queue: &mut Q,
+    queue: Q,
     wanted: &[Option<i128>],
 ) -> bool
-    requires { Q.members queue.old ≡ [] }
+    requires { Q.members queue ≡ [] }
 {
-    match distance(alloc, fst, direction, queue) {
+    let mut queue = queue;
+    match distance(alloc, fst, direction, &mut queue) {
         Ok(found) => are_numbers(found.as_slice(), wanted),
         Err(_) => false,
     }
+}
+
+/// Whether each queue leads to these distances, also one that gives the worst state first.
+fn all_lead_to(
+    alloc: Global,
+    fst: &Fst<Tropical>,
+    direction: Direction,
+    wanted: &[Option<i128>],
+) -> bool {
+    leads_to(alloc, fst, direction, Fifo::new(alloc), wanted)
+        && leads_to(alloc, fst, direction, Lifo::new(alloc), wanted)
+        && leads_to(alloc, fst, direction, BestFirst::new(alloc), wanted)
+        && leads_to(alloc, fst, direction, WorstFirst::new(alloc), wanted)
 }
 
 #[test]
@@ -69,18 +115,7 @@ fn each_queue_leads_to_the_same_distances(rt: HostRuntime) -> Result<(), Fail> {
     let alloc = rt.alloc();
     for (text, direction, wanted) in &DISTANCES {
         let fst: Fst<Tropical> = machine(alloc, text)?;
-        assert!(rt;
-            leads_to(alloc, &fst, *direction, &mut Fifo::new(alloc), wanted),
-            "{text:?}"
-        );
-        assert!(rt;
-            leads_to(alloc, &fst, *direction, &mut Lifo::new(alloc), wanted),
-            "{text:?}"
-        );
-        assert!(rt;
-            leads_to(alloc, &fst, *direction, &mut BestFirst::new(alloc), wanted),
-            "{text:?}"
-        );
+        assert!(rt; all_lead_to(alloc, &fst, *direction, wanted), "{text:?}");
     }
     Ok(())
 }
@@ -107,11 +142,12 @@ fn finds_the_cycle<Q: StateQueue>(
     alloc: Global,
     fst: &Fst<Tropical>,
     direction: Direction,
-    queue: &mut Q,
+    queue: Q,
 ) -> bool
-    requires { Q.members queue.old ≡ [] }
+    requires { Q.members queue ≡ [] }
 {
-    match distance(alloc, fst, direction, queue) {
+    let mut queue = queue;
+    match distance(alloc, fst, direction, &mut queue) {
         Ok(_) => false,
         Err(fault) => lists_the_cycle(&fault),
     }
@@ -121,27 +157,41 @@ fn finds_the_cycle<Q: StateQueue>(
 fn a_cycle_that_is_better_than_one_is_listed(rt: HostRuntime) -> Result<(), Fail> {
     let alloc = rt.alloc();
     let fst: Fst<Tropical> = machine(alloc, MET)?;
-    assert!(rt; finds_the_cycle(alloc, &fst, Direction::FromStart, &mut Fifo::new(alloc)));
-    assert!(rt; finds_the_cycle(alloc, &fst, Direction::ToFinals, &mut Lifo::new(alloc)));
+    assert!(rt; finds_the_cycle(alloc, &fst, Direction::FromStart, Fifo::new(alloc)));
+    assert!(rt; finds_the_cycle(alloc, &fst, Direction::ToFinals, Lifo::new(alloc)));
     Ok(())
+}
+
+/// Whether a cycle improves distances from the start.
+fn improves(alloc: Global, fst: &Fst<Tropical>) -> bool {
+    let found = distance(alloc, fst, Direction::FromStart, &mut Fifo::new(alloc));
+    matches!(found, Err(DistanceFault::ImprovingCycle { .. }))
+}
+
+/// Whether the distances of the useful states are these.
+fn useful_are(alloc: Global, fst: &Fst<Tropical>, wanted: &[Option<i128>]) -> bool {
+    let mut queue = Fifo::new(alloc);
+    match useful_distances::<Tropical, Tropical, Fst<Tropical>, Fifo>(alloc, fst, &mut queue) {
+        Ok(found) => are_numbers(found.as_slice(), wanted),
+        Err(_) => false,
+    }
 }
 
 #[test]
 fn a_cycle_apart_from_successful_paths_does_not_count(rt: HostRuntime) -> Result<(), Fail> {
-    let alloc = rt.alloc();
-    let fst: Fst<Tropical> = machine(alloc, APART)?;
-    let fault = distance(alloc, &fst, Direction::FromStart, &mut Fifo::new(alloc));
-    assert!(rt; matches!(fault, Err(DistanceFault::ImprovingCycle { .. })));
-    let found = useful_distances::<Tropical, Tropical, Fst<Tropical>, Fifo>(
-        alloc,
-        &fst,
-        &mut Fifo::new(alloc),
-    );
-    match found {
-        Ok(found) => assert!(rt; are_numbers(found.as_slice(), &[None, Some(5)])),
-        Err(_) => assert!(rt; false, "no distances"),
-    }
+    let fst: Fst<Tropical> = machine(rt.alloc(), APART)?;
+    assert!(rt; improves(rt.alloc(), &fst));
+    assert!(rt; useful_are(rt.alloc(), &fst, &[None, Some(5)]));
     Ok(())
+}
+
+/// Whether distances are those of the plain program, all of them numbers.
+fn are_plain(found: &[<Tropical as Weight>::Wide], plain: &[PlainCost]) -> bool {
+    found.len() == plain.len()
+        && found.iter().zip(plain).all(|(distance, cost)| {
+            let key = Tropical::key(*distance);
+            *cost == PlainCost::Finite(key.first, 0)
+        })
 }
 
 #[test]
@@ -150,13 +200,7 @@ fn the_plain_program_says_the_same(rt: HostRuntime) -> Result<(), Fail> {
     let fst: Fst<Tropical> = machine(alloc, DETOUR)?;
     let plain = distances_to_final(alloc, &fst, 6)?;
     match distance(alloc, &fst, Direction::ToFinals, &mut BestFirst::new(alloc)) {
-        Ok(found) => assert!(rt;
-            found.len() == plain.len()
-                && found.iter().zip(&plain).all(|(distance, cost)| {
-                    let key = Tropical::key(*distance);
-                    *cost == PlainCost::Finite(key.first, 0)
-                })
-        ),
+        Ok(found) => assert!(rt; are_plain(found.as_slice(), plain.as_slice())),
         Err(_) => assert!(rt; false, "no distances"),
     }
     Ok(())
