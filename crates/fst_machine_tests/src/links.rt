@@ -3,7 +3,7 @@
 use fst_machine::{Fst, WideFst};
 use fst_samples::{is_text, machine};
 use fst_semiring::Tropical;
-use fst_trim::{Connected, Link, Links, connect_kept};
+use fst_trim::{Connected, Handed, Link, Links, connect_kept};
 use std::test::Fail;
 
 const TEXT: &[u8] = b"0 1 5 0\n0 1 0 0\n1 0 2 2\n1 1 0 3\n1 1 0 0\n";
@@ -48,7 +48,7 @@ fn lists_the_links_of_each_state(rt: HostRuntime) -> Result<(), Fail> {
 #[test]
 fn lists_the_kept_states(rt: HostRuntime) -> Result<(), Fail> {
     let fst: Fst<Tropical> = machine(rt.alloc(), b"1 0 1 1\n1 3 2 2\n0 3 3 3\n3\n")?;
-    let Connected { machine, kept } = connect_kept(rt.alloc(), &fst)?;
+    let Connected { machine, kept } = connect_kept(rt.alloc(), Handed::Lent(&fst))?;
     assert!(rt; kept.as_slice() == [0u32, 1, 3].as_slice());
     let text = b"1 0 1 1\n1 2 2 2\n0 2 3 3\n2\n";
     assert!(rt; is_text(rt.alloc(), machine.fst(), text)?);

@@ -17,7 +17,7 @@ use fst_machine::{Fst, NarrowFault, Step};
 use fst_pushing::push_lazily;
 use fst_queue::StateQueue;
 use fst_semiring::Weight;
-use fst_trim::{not_acceptor_at, not_deterministic_at};
+use fst_trim::{Handed, not_acceptor_at, not_deterministic_at};
 use std::alloc::Global;
 
 /// The minimal machine of a deterministic acceptor: the states of the connected machine, with its weights pushed toward
@@ -61,7 +61,7 @@ pub fn minimize<W: Weight, Q: StateQueue>(
         }
         None => {}
     }
-    let totalled = match push_lazily(alloc, fst, queue) {
+    let totalled = match push_lazily(alloc, Handed::Lent(fst), queue) {
         Ok(totalled) => totalled,
         Err(DistanceFault::ImprovingCycle { cycle }) => {
             return Err(MinimizeFault::ImprovingCycle { cycle });

@@ -8,13 +8,14 @@ ghost use Rattle.fst_machine.specs.Machine.{valued};
 ghost use Rattle.fst_distance.specs.Distances.{IfImproving, IsListed, IsUsefulDistance, NoneImproves};
 ghost use Rattle.fst_pushing.specs.Pushing.{IsPushed, value_at};
 ghost use Rattle.fst_pushing.specs.Values.{Picks, most_distance, value_in};
+ghost use Rattle.fst_trim.specs.Handed.{machine_of};
 
 use crate::pushing::Pushing;
 use fst_distance::{DistanceFault, useful_distances};
 use fst_machine::Fst;
 use fst_queue::StateQueue;
 use fst_semiring::Weight;
-use fst_trim::{Connected, connect_kept};
+use fst_trim::{Connected, Handed, connect_kept};
 use std::alloc::{AllocError, Global};
 
 /// What stands in these places of a list.
@@ -52,17 +53,17 @@ pub struct Totalled<'a, W: Weight> {
 /// The connected machine, pushed by these distances of the states of the given one.
 fn push_connected<'a, W: Weight>(
     alloc: Global,
-    fst: &'a Fst<W>,
+    fst: Handed<'a, W>,
     all: &[W::Wide],
 ) -> Result<Totalled<'a, W>, AllocError>
-    requires size { length all.now ≡ length fst.now.states }
-    requires distances { (q : ℕ) (d : W.Wide) → slice_get all.now q ≡ Some d → IsUsefulDistance W.KIND (graph_of (valued W.value fst.now)) q (W.wide_value d) }
+    requires size { length all.now ≡ length (machine_of fst).states }
+    requires distances { (q : ℕ) (d : W.Wide) → slice_get all.now q ≡ Some d → IsUsefulDistance W.KIND (graph_of (valued W.value (machine_of fst))) q (W.wide_value d) }
     requires numbers { (q : ℕ) (d : W.Wide) → slice_get all.now q ≡ Some d → Within (length all.now * 1000000000000000000) (W.wide_value d) }
     requires kinds { (q : ℕ) (d : W.Wide) → slice_get all.now q ≡ Some d → IsCost W.KIND (W.wide_value d) }
-    ensures pushed { IfOk result (λ t. IsPushed W.KIND (valued W.value fst.now) t.pushed (W.wide_value t.total)) }
+    ensures pushed { IfOk result (λ t. IsPushed W.KIND (valued W.value (machine_of fst.entry)) t.pushed (W.wide_value t.total)) }
     ensures range { IfOk result (λ t. Within most_distance (W.wide_value t.total)) }
 {
-    let _states = fst.states();
+    let _states = fst.fst().states();
     let Connected { machine, kept } = connect_kept(alloc, fst)?;
     let distances = pick(alloc, all, &kept)?;
     let total = start_value::<W>(machine.fst().start(), &distances);
@@ -79,22 +80,23 @@ fn push_connected<'a, W: Weight>(
 /// fault lists such a cycle, in the states and places of the given machine. `Memory` may come in place of any answer.
 /// After an `Ok` the queue is empty.
 ///
-/// Where all states of the machine are useful, no state or arc is copied.
+/// Where all states of the machine are useful, no state or arc is copied; where not, a machine that was given away is given
+/// up as soon as the connected one stands.
 ///
 /// Time: that of the distances, and linear in the states and the arcs. Space: linear.
 pub fn push_lazily<'a, W: Weight, Q: StateQueue>(
     alloc: Global,
-    fst: &'a Fst<W>,
+    fst: Handed<'a, W>,
     queue: &mut Q,
 ) -> Result<Totalled<'a, W>, DistanceFault>
     requires { Q.members queue.old ≡ [] }
-    ensures pushed { IfOk result (λ t. IsPushed W.KIND (valued W.value fst.now) t.pushed (W.wide_value t.total)) }
+    ensures pushed { IfOk result (λ t. IsPushed W.KIND (valued W.value (machine_of fst.entry)) t.pushed (W.wide_value t.total)) }
     ensures range { IfOk result (λ t. Within most_distance (W.wide_value t.total)) }
-    ensures none { OnOk result (NoneImproves W.KIND (graph_of (valued W.value fst.now)) (IsUseful (graph_of (valued W.value fst.now)))) }
-    ensures cycle { IfErr result (λ f. IfImproving f (IsListed W.KIND (graph_of (valued W.value fst.now)) (IsUseful (graph_of (valued W.value fst.now))))) }
+    ensures none { OnOk result (NoneImproves W.KIND (graph_of (valued W.value (machine_of fst.entry))) (IsUseful (graph_of (valued W.value (machine_of fst.entry))))) }
+    ensures cycle { IfErr result (λ f. IfImproving f (IsListed W.KIND (graph_of (valued W.value (machine_of fst.entry))) (IsUseful (graph_of (valued W.value (machine_of fst.entry)))))) }
     ensures empty { OnOk result (Q.members queue.new ≡ []) }
 {
-    let all = useful_distances::<W, W, Fst<W>, Q>(alloc, fst, queue)?;
+    let all = useful_distances::<W, W, Fst<W>, Q>(alloc, fst.fst(), queue)?;
     match push_connected(alloc, fst, &all) {
         Ok(totalled) => Ok(totalled),
         Err(_) => Err(DistanceFault::Memory),

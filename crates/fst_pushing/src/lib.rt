@@ -16,6 +16,6 @@ mod widening;
 
 pub use by_distance::{Totalled, push_lazily};
 pub use fault::PushFault;
-pub use machines::push;
+pub use machines::{push, push_handed};
 pub use pushing::Pushing;
 pub use widening::{Pushed, push_wide};

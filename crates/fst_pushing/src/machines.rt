@@ -10,6 +10,7 @@ ghost use Rattle.fst_machine.specs.Machine.{arc_total, most_arcs, most_states, v
 ghost use Rattle.fst_machine.specs.Relation.{Rel};
 ghost use Rattle.fst_distance.specs.Distances.{NoneImproves};
 ghost use Rattle.fst_pushing.specs.Pushing.{IsPushed};
+ghost use Rattle.fst_trim.specs.Handed.{machine_of};
 ghost use Rattle.fst_pushing.specs.Totals.{IsAmong, IsPushFault, IsTotalled, IsWithin, Passes, RelatesBy, put_on};
 
 use crate::by_distance::push_lazily;
@@ -21,6 +22,7 @@ use fst_distance::DistanceFault;
 use fst_machine::{Fst, MOST_ARCS, MOST_STATES, NarrowFault};
 use fst_queue::StateQueue;
 use fst_semiring::Weight;
+use fst_trim::Handed;
 use std::alloc::Global;
 
 /// The limit that the result passes, if it passes one.
@@ -68,7 +70,28 @@ pub fn push<W: Weight, Q: StateQueue>(
     ensures fault { IfErr result (λ f. IsPushFault W.KIND remove_total (valued W.value fst.now) f ⊎ (f ≡ PushFault.Memory)) }
     ensures empty { OnOk result (Q.members queue.new ≡ []) }
 {
-    let _states = fst.states();
+    push_handed(alloc, Handed::Lent(fst), remove_total, queue)
+}
+
+/// The same of a machine that is lent or given away. One that was given away is given up as soon as its connected machine
+/// stands, so that no more than two machines are kept at once.
+pub fn push_handed<W: Weight, Q: StateQueue>(
+    alloc: Global,
+    fst: Handed<'_, W>,
+    remove_total: bool,
+    queue: &mut Q,
+) -> Result<Fst<W>, PushFault>
+    requires { Q.members queue.old ≡ [] }
+    ensures machine { IfOk result (λ r. IsTotalled W.KIND remove_total (valued W.value (machine_of fst.entry)) (valued W.value r)) }
+    ensures keeps { remove_total ≡ false → IfOk result (λ r. (x y : List ℕ) (w : Cost) → Rel W.KIND (graph_of (valued W.value (machine_of fst.entry))) x y w ↔ Rel W.KIND (graph_of (valued W.value r)) x y w) }
+    ensures removes { remove_total ≡ true → IfOk result (λ r. (total : Cost) × IsPushed W.KIND (valued W.value (machine_of fst.entry)) (valued W.value r) total × RelatesBy W.KIND total (valued W.value (machine_of fst.entry)) (valued W.value r)) }
+    ensures one { remove_total ≡ true → IfOk result (λ r. (p : ℕ) → p < length (valued W.value r).states → IsFinalDistance W.KIND (graph_of (valued W.value r)) p (one_of W.KIND)) }
+    ensures within { IfOk result (λ r. IsWithin (valued W.value r)) }
+    ensures none { OnOk result (NoneImproves W.KIND (graph_of (valued W.value (machine_of fst.entry))) (IsUseful (graph_of (valued W.value (machine_of fst.entry))))) }
+    ensures fault { IfErr result (λ f. IsPushFault W.KIND remove_total (valued W.value (machine_of fst.entry)) f ⊎ (f ≡ PushFault.Memory)) }
+    ensures empty { OnOk result (Q.members queue.new ≡ []) }
+{
+    let _states = fst.fst().states();
     let totalled = match push_lazily(alloc, fst, queue) {
         Ok(totalled) => totalled,
         Err(DistanceFault::ImprovingCycle { cycle }) => {

@@ -10,12 +10,12 @@ ghost use Rattle.fst_machine.specs.Graph.{graph_of};
 ghost use Rattle.fst_machine.specs.Machine.{IsMachine, arc_total, valued, valued_arc};
 ghost use Rattle.fst_pushing.specs.Pushing.{pushed_by, pushed_machine, value_at};
 ghost use Rattle.fst_pushing.specs.Totals.{IsEntered};
-ghost use Rattle.fst_trim.specs.Trimmed.{machine_of};
+ghost use Rattle.fst_trim.specs.Handed.{machine_of};
 ghost use Rattle.fst_pushing.specs.Values.{HasDistances, LeadsTo, most_distance, most_pushed, value_in};
 
 use fst_machine::{FstArc, WideArc};
 use fst_semiring::Weight;
-use fst_trim::Trimmed;
+use fst_trim::Handed;
 use std::alloc::AllocError;
 use std::cmp::Ordering;
 use std::marker::Model;
@@ -94,7 +94,7 @@ fn leads_to<W: Weight>(arcs: &[FstArc<W>], state: u32) -> bool
 /// where they are asked for, so that no second machine is kept.
 #[derive(Drop)]
 pub struct Pushing<'a, W: Weight> {
-    fst: Trimmed<'a, W>,
+    fst: Handed<'a, W>,
     distances: Vec<W::Wide>,
 }
 
@@ -102,7 +102,7 @@ impl<'a, W: Weight> Model for Pushing<'a, W> {
     ghost use Rattle.std.specs.Prelude.{◌≡◌, length};
     ghost use Rattle.fst_semiring.specs.Cost.{Cost};
     ghost use Rattle.fst_machine.specs.Machine.{Machine, valued};
-    ghost use Rattle.fst_trim.specs.Trimmed.{machine_of};
+    ghost use Rattle.fst_trim.specs.Handed.{machine_of};
     ghost use Rattle.fst_pushing.specs.Pushing.{pushed_machine};
     ghost use Rattle.fst_pushing.specs.Values.{HasDistances, value_in};
 
@@ -115,7 +115,7 @@ impl<'a, W: Weight> Model for Pushing<'a, W> {
 
 impl<'a, W: Weight> Pushing<'a, W> {
     /// A trim machine, pushed by its distances. Takes no memory.
-    pub fn new(fst: Trimmed<'a, W>, distances: Vec<W::Wide>) -> Pushing<'a, W>
+    pub fn new(fst: Handed<'a, W>, distances: Vec<W::Wide>) -> Pushing<'a, W>
         requires size { length distances.items ≡ length (machine_of fst).states }
         requires distances { HasDistances W.KIND (valued W.value (machine_of fst)) (value_in W.wide_value distances.items) }
         ensures { result ≡ pushed_machine W.KIND (value_in W.wide_value distances.items) (valued W.value (machine_of fst.entry)) }

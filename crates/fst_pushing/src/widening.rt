@@ -19,6 +19,7 @@ use fst_distance::DistanceFault;
 use fst_machine::{Fst, GrowFault, WideArc, WideFst};
 use fst_queue::StateQueue;
 use fst_semiring::Weight;
+use fst_trim::Handed;
 use std::alloc::{AllocError, Global};
 
 /// A pushed machine with wide weights, and its total weight.
@@ -168,7 +169,7 @@ pub fn push_wide<W: Weight, Q: StateQueue>(
     ensures empty { OnOk result (Q.members queue.new ≡ []) }
 {
     let _states = fst.states();
-    let totalled = push_lazily(alloc, fst, queue)?;
+    let totalled = push_lazily(alloc, Handed::Lent(fst), queue)?;
     match widened(alloc, &totalled.pushed) {
         Ok(machine) => Ok(Pushed {
             fst: machine,

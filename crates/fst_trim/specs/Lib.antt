@@ -10,6 +10,6 @@ pub mod Links
 pub mod Taken
 pub mod OneToOne
 pub mod KeptPaths
-pub mod Trimmed
+pub mod Handed
 pub mod Sorting
 pub mod Targets

@@ -8,7 +8,7 @@ ghost use Rattle.fst_machine.specs.Connected.{IsKeptAt};
 ghost use Rattle.fst_machine.specs.Graph.{graph_of};
 ghost use Rattle.fst_machine.specs.Machine.{Arc, most_arcs, valued, valued_arc};
 ghost use Rattle.fst_trim.specs.KeptPaths.{IsConnectedOn};
-ghost use Rattle.fst_trim.specs.Trimmed.{machine_of};
+ghost use Rattle.fst_trim.specs.Handed.{machine_of};
 
 use crate::connected::Connected;
 use fst_machine::{Fst, FstArc, Step};

@@ -9,7 +9,7 @@ ghost use Rattle.fst_machine.specs.Graph.{graph_of};
 ghost use Rattle.fst_machine.specs.Machine.{IsMachine, valued};
 ghost use Rattle.fst_machine.specs.Relation.{Rel};
 ghost use Rattle.fst_trim.specs.KeptPaths.{IsConnectedOn, KeepsPaths};
-ghost use Rattle.fst_trim.specs.Trimmed.{machine_of};
+ghost use Rattle.fst_trim.specs.Handed.{machine_of};
 ghost use Rattle.fst_trim.specs.Renumbered.{IsNumbering, kept_arcs, kept_machine, kept_states, marked, new_start};
 
 use crate::useful::useful;
@@ -110,23 +110,23 @@ fn list_marked(alloc: Global, marks: &[bool]) -> Result<Vec<u32>, AllocError>
     Ok(kept)
 }
 
-/// A connected machine: the given one where all its states are useful, and else one of its own.
+/// A machine that was handed over: lent, or given away.
 #[derive(Drop)]
-pub enum Trimmed<'a, W: Weight> {
-    /// The given one.
-    Given(&'a Fst<W>),
-    /// One of its own.
+pub enum Handed<'a, W: Weight> {
+    /// One that is lent.
+    Lent(&'a Fst<W>),
+    /// One that was given away.
     Own(Fst<W>),
 }
 
-impl<'a, W: Weight> Trimmed<'a, W> {
+impl<'a, W: Weight> Handed<'a, W> {
     /// The machine. Takes no memory.
     pub fn fst(&self) -> &Fst<W>
         ensures { result.now ≡ machine_of self.now }
     {
         match self {
-            Trimmed::Given(fst) => fst,
-            Trimmed::Own(fst) => fst,
+            Handed::Lent(fst) => fst,
+            Handed::Own(fst) => fst,
         }
     }
 }
@@ -135,7 +135,7 @@ impl<'a, W: Weight> Trimmed<'a, W> {
 #[derive(Drop)]
 pub struct Connected<'a, W: Weight> {
     /// The machine.
-    pub machine: Trimmed<'a, W>,
+    pub machine: Handed<'a, W>,
     /// The states of the given machine that were kept, in order: state i of the machine is the i-th of these.
     pub kept: Vec<u32>,
 }
@@ -169,37 +169,41 @@ fn connect_marked<W: Weight>(
     Ok(states.into_machine(start))
 }
 
-/// The machine of the marked states, as `connect_marked` makes it; the given machine itself where all are marked.
+/// The machine of the marked states, as `connect_marked` makes it; the given machine itself where all are marked. One that
+/// was given away is given up as soon as the other stands.
 fn trim_marked<'a, W: Weight>(
     alloc: Global,
-    a: &'a Fst<W>,
+    a: Handed<'a, W>,
     marks: &[bool],
-) -> Result<Trimmed<'a, W>, AllocError>
-    requires size { length marks.now ≡ length a.now.states }
-    requires useful { (p : ℕ) → Decides (get_or marks.now p false) (IsUseful (graph_of (valued W.value a.now)) p) }
-    ensures { IfOk result (λ c. IsConnectedOn (valued W.value a.now) (valued W.value (machine_of c)) (marked 0 marks.now)) }
+) -> Result<Handed<'a, W>, AllocError>
+    requires size { length marks.now ≡ length (machine_of a).states }
+    requires useful { (p : ℕ) → Decides (get_or marks.now p false) (IsUseful (graph_of (valued W.value (machine_of a))) p) }
+    ensures { IfOk result (λ c. IsConnectedOn (valued W.value (machine_of a.entry)) (valued W.value (machine_of c)) (marked 0 marks.now)) }
 {
-    let _states = a.states();
+    let _states = a.fst().states();
     if all_marked(marks) {
-        return Ok(Trimmed::Given(a));
+        return Ok(a);
     }
-    let own = connect_marked(alloc, a, marks)?;
-    Ok(Trimmed::Own(own))
+    let own = connect_marked(alloc, a.fst(), marks)?;
+    Ok(Handed::Own(own))
 }
 
 /// The connected machine, as `connect` gives it, with the list of the states that were kept. So a path of the
 /// connected machine can be told in the states and places of the given one: state i is the i-th kept state, and its
 /// arcs are the arcs between kept states, in their order (`IsKeptAt` says of each which it is). Where all states are
-/// useful it is the given machine itself, and nothing is copied.
+/// useful it is the given machine itself, and nothing is copied; where not, a machine that was given away is given up.
 ///
 /// Time and space: as `connect`.
-pub fn connect_kept<W: Weight>(alloc: Global, a: &Fst<W>) -> Result<Connected<'_, W>, AllocError>
-    ensures machine { IfOk result (λ c. IsConnectedOn (valued W.value a.now) (valued W.value (machine_of c.machine)) c.kept.items) }
-    ensures paths { IfOk result (λ c. KeepsPaths W.KIND (valued W.value a.now) (valued W.value (machine_of c.machine)) c.kept.items) }
-    ensures relation { IfOk result (λ c. (x y : List ℕ) (w : Cost) → Rel W.KIND (graph_of (valued W.value a.now)) x y w ↔ Rel W.KIND (graph_of (valued W.value (machine_of c.machine))) x y w) }
+pub fn connect_kept<'a, W: Weight>(
+    alloc: Global,
+    a: Handed<'a, W>,
+) -> Result<Connected<'a, W>, AllocError>
+    ensures machine { IfOk result (λ c. IsConnectedOn (valued W.value (machine_of a.entry)) (valued W.value (machine_of c.machine)) c.kept.items) }
+    ensures paths { IfOk result (λ c. KeepsPaths W.KIND (valued W.value (machine_of a.entry)) (valued W.value (machine_of c.machine)) c.kept.items) }
+    ensures relation { IfOk result (λ c. (x y : List ℕ) (w : Cost) → Rel W.KIND (graph_of (valued W.value (machine_of a.entry))) x y w ↔ Rel W.KIND (graph_of (valued W.value (machine_of c.machine))) x y w) }
 {
-    let _states = a.states();
-    let marks = useful(alloc, a)?;
+    let _states = a.fst().states();
+    let marks = useful(alloc, a.fst())?;
     let machine = trim_marked(alloc, a, marks.as_slice())?;
     let kept = list_marked(alloc, marks.as_slice())?;
     Ok(Connected { machine, kept })

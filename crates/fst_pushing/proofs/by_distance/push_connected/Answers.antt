@@ -4,9 +4,9 @@ use Rattle.std.proofs.lemmas.List.{length-map}
 use Rattle.std.proofs.lemmas.Option.{slice_get-get_or}
 use Rattle.fst_semiring.specs.Cost.{Cost}
 use Rattle.fst_semiring.specs.Semiring.{Within}
-use Rattle.fst_machine.specs.Machine.{Machine, valued, valued_state, most_states}
+use Rattle.fst_machine.specs.Machine.{IsMachine, Machine, valued, valued_state, most_states}
 use Rattle.fst_machine.proofs.Valued.{IsMachine-valued}
-use Rattle.fst_trim.specs.Trimmed.{machine_of}
+use Rattle.fst_trim.specs.Handed.{machine_of}
 use Rattle.fst_pushing.specs.Pushing.{IsPushed, value_at}
 use Rattle.fst_pushing.specs.Values.{Picks, most_distance, value_in}
 use Rattle.fst_pushing.proofs.Connecting.{connected_start, kept_below}
@@ -15,10 +15,10 @@ use Rattle.fst_pushing.proofs.by_distance.push_connected.Goals as goal
 
 pub pick-requires : goal.pick-requires
 pick-requires g c = λ i d low.
-    let m = valued g.W.Weight.value c.args.fst.now in
+    let m = valued g.W.Weight.value (machine_of c.args.fst) in
     let n = valued g.W.Weight.value (machine_of c.in_ok-machine.field-0.machine) in
     let on = c.in_ok-machine.ensures.machine in
-    let size : length m.states ≡ length c.args.fst.now.states = length-map c.args.fst.now.states (valued_state g.W.Weight.value) in
+    let size : length m.states ≡ length (machine_of c.args.fst).states = length-map (machine_of c.args.fst).states (valued_state g.W.Weight.value) in
     let same : c.deref.result.now ≡ on.0.kept = c.deref.ensures.value ∙ sym on.1 in
     let here : slice_get c.deref.result.now i ≡ Some (get_or c.deref.result.now i d) = slice_get-get_or c.deref.result.now i d low in
     let below : get_or c.deref.result.now i d < length m.states = kept_below m n on.0 i (get_or c.deref.result.now i d) (ap (λ (ps : List ℕ). slice_get ps i) (sym same) ∙ here) in
@@ -27,40 +27,42 @@ pick-requires g c = λ i d low.
 
 pub start_value-total-requires : goal.start_value-total-requires
 start_value-total-requires g c =
-    let m = valued g.W.Weight.value c.args.fst.now in
+    let m = valued g.W.Weight.value (machine_of c.args.fst) in
     let n = valued g.W.Weight.value (machine_of c.in_ok-machine.field-0.machine) in
     let on = c.in_ok-machine.ensures.machine in
     let size : length n.states ≡ length (machine_of c.in_ok-machine.field-0.machine).states = length-map (machine_of c.in_ok-machine.field-0.machine).states (valued_state g.W.Weight.value) in
     let same : c.deref.result.now ≡ on.0.kept = c.deref.ensures.value ∙ sym on.1 in
     let long : length c.deref-2.result.now ≡ length (machine_of c.in_ok-machine.field-0.machine).states =
     ap length c.deref-2.ensures.value ∙ (c.in_ok-distances.ensures.size ∙ (ap length same ∙ (sym on.0.states ∙ size))) in
-    subst (λ (k : ℕ). IfSome c.start.result (λ s. s < k)) (sym long) (subst (λ (k : Machine g.row.W.Denot). IfSome c.start.result (λ s. s < length k.states)) c.fst.ensures c.start.ensures.state)
+    subst (λ (k : ℕ). IfSome c.start.result (λ s. s < k)) (sym long) (subst (λ (k : Machine g.row.W.Denot). IfSome c.start.result (λ s. s < length k.states)) c.fst-2.ensures c.start.ensures.state)
 
 pub new-requires-clause-distances : goal.new-requires-clause-distances
 new-requires-clause-distances g c =
     let w = g.W.Weight in
-    let m = valued w.value c.args.fst.now in
+    let m = valued w.value (machine_of c.args.fst) in
+    let machine = subst (λ (k : Machine g.row.W.Denot). IsMachine w.value k) c.fst.ensures c.states-states.ensures.machine in
     let n = valued w.value (machine_of c.in_ok-machine.field-0.machine) in
     let on = c.in_ok-machine.ensures.machine in
     let picks = subst (λ (ps : List ℕ). Picks ps c.args.all.now c.in_ok-distances.distances.items) (c.deref.ensures.value ∙ sym on.1) c.in_ok-distances.ensures in
-    let few : length c.args.all.now ≤ most_states = let a = c.requires.size in let b = c.states-states.ensures.machine.few_states in omega arith in
-    picked_distances w.KIND w.wide_value m n on.0 (machine_some m (IsMachine-valued w.value c.args.fst.now c.states-states.ensures.machine)) c.args.all.now c.in_ok-distances.distances.items few picks c.requires.distances c.requires.numbers c.requires.kinds
+    let few : length c.args.all.now ≤ most_states = let a = c.requires.size in let b = machine.few_states in omega arith in
+    picked_distances w.KIND w.wide_value m n on.0 (machine_some m (IsMachine-valued w.value (machine_of c.args.fst) machine)) c.args.all.now c.in_ok-distances.distances.items few picks c.requires.distances c.requires.numbers c.requires.kinds
 
 pub returns : goal.returns
 returns g c =
     let w = g.W.Weight in
-    let m = valued w.value c.args.fst.now in
+    let m = valued w.value (machine_of c.args.fst) in
+    let machine = subst (λ (k : Machine g.row.W.Denot). IsMachine w.value k) c.fst.ensures c.states-states.ensures.machine in
     let n = valued w.value (machine_of c.in_ok-machine.field-0.machine) in
     let on = c.in_ok-machine.ensures.machine in
     let picks = subst (λ (ps : List ℕ). Picks ps c.args.all.now c.in_ok-distances.distances.items) (c.deref.ensures.value ∙ sym on.1) c.in_ok-distances.ensures in
-    let few : length c.args.all.now ≤ most_states = let a = c.requires.size in let b = c.states-states.ensures.machine.few_states in omega arith in
+    let few : length c.args.all.now ≤ most_states = let a = c.requires.size in let b = machine.few_states in omega arith in
     let total : w.wide_value c.start_value-total.result ≡ value_at (value_in w.wide_value c.in_ok-distances.distances.items) n.start =
-    c.start_value-total.ensures ∙ (ap (λ ds. value_at (value_in w.wide_value ds) c.start.result) c.deref-2.ensures.value ∙ ap (value_at (value_in w.wide_value c.in_ok-distances.distances.items)) (c.start.ensures.value ∙ ap (λ (k : Machine g.row.W.Denot). k.start) c.fst.ensures)) in
-    let all = picked_pushed w.KIND w.wide_value m n on.0 (machine_some m (IsMachine-valued w.value c.args.fst.now c.states-states.ensures.machine)) c.args.all.now c.in_ok-distances.distances.items few picks c.requires.distances c.requires.numbers c.requires.kinds
+    c.start_value-total.ensures ∙ (ap (λ ds. value_at (value_in w.wide_value ds) c.start.result) c.deref-2.ensures.value ∙ ap (value_at (value_in w.wide_value c.in_ok-distances.distances.items)) (c.start.ensures.value ∙ ap (λ (k : Machine g.row.W.Denot). k.start) c.fst-2.ensures)) in
+    let all = picked_pushed w.KIND w.wide_value m n on.0 (machine_some m (IsMachine-valued w.value (machine_of c.args.fst) machine)) c.args.all.now c.in_ok-distances.distances.items few picks c.requires.distances c.requires.numbers c.requires.kinds
     (w.wide_value c.start_value-total.result) total in
     let starts : IfSome n.start (λ s. s < length n.states) = connected_start m n on.0 in
     record {
       range = subst (Within most_distance) (sym total) (value_at_within most_distance (value_in w.wide_value c.in_ok-distances.distances.items) (length n.states) n.start starts
-          (picked_range w.KIND w.wide_value m n on.0 (machine_some m (IsMachine-valued w.value c.args.fst.now c.states-states.ensures.machine)) c.args.all.now c.in_ok-distances.distances.items few picks c.requires.distances c.requires.numbers c.requires.kinds));
+          (picked_range w.KIND w.wide_value m n on.0 (machine_some m (IsMachine-valued w.value (machine_of c.args.fst) machine)) c.args.all.now c.in_ok-distances.distances.items few picks c.requires.distances c.requires.numbers c.requires.kinds));
       pushed = subst (λ (r : Machine Cost). IsPushed w.KIND m r (w.wide_value c.start_value-total.result)) (sym c.new.ensures) all;
     }

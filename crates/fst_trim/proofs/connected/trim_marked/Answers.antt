@@ -1,6 +1,24 @@
+use Rattle.std.proofs.Common.{ℕ, false, get_or, sym, subst}
+use Rattle.std.specs.Bool.{Decides}
+use Rattle.fst_machine.specs.Cycles.{IsUseful}
+use Rattle.fst_machine.specs.Graph.{graph_of}
+use Rattle.fst_machine.specs.Machine.{IsMachine, Machine, valued}
+use Rattle.fst_trim.specs.KeptPaths.{IsConnectedOn}
+use Rattle.fst_trim.specs.Renumbered.{marked}
+use Rattle.fst_trim.specs.Handed.{machine_of}
 use Rattle.fst_trim.proofs.WholeMachine.{whole_connected}
 use Rattle.fst_trim.proofs.connected.trim_marked.Goals as goal
 
 pub returns-then-all_marked : goal.returns-then-all_marked
 returns-then-all_marked g c =
-    whole_connected g.W.Weight.value c.args.a.now c.args.marks.now c.states-states.ensures.machine c.requires.size c.requires.useful (c.all_marked.ensures.0 c.if-all_marked.true)
+    let value = g.W.Weight.value in
+    let machine = subst (λ (m : Machine g.row.W.Denot). IsMachine value m) c.fst.ensures c.states-states.ensures.machine in
+    whole_connected value (machine_of c.args.a) c.args.marks.now machine c.requires.size c.requires.useful (c.all_marked.ensures.0 c.if-all_marked.true)
+
+pub connect_marked-requires-clause-useful : goal.connect_marked-requires-clause-useful
+connect_marked-requires-clause-useful g c =
+    subst (λ (m : Machine g.row.W.Denot). (p : ℕ) → Decides (get_or c.args.marks.now p false) (IsUseful (graph_of (valued g.W.Weight.value m)) p)) (sym c.fst-2.ensures) c.requires.useful
+
+pub returns : goal.returns
+returns g c =
+    subst (λ (m : Machine g.row.W.Denot). IsConnectedOn (valued g.W.Weight.value m) (valued g.W.Weight.value c.in_ok-own.own) (marked 0 c.args.marks.now)) c.fst-2.ensures c.in_ok-own.ensures

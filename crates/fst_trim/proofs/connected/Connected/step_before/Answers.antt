@@ -4,7 +4,7 @@ use Rattle.fst_machine.specs.Machine.{Arc, most_arcs, valued}
 use Rattle.fst_machine.specs.Graph.{graph_of}
 use Rattle.fst_machine.specs.Connected.{IsKeptAt}
 use Rattle.fst_trim.specs.KeptPaths.{IsConnectedOn}
-use Rattle.fst_trim.specs.Trimmed.{machine_of}
+use Rattle.fst_trim.specs.Handed.{machine_of}
 use Rattle.fst_trim.proofs.Places.{few_arcs}
 use Rattle.fst_trim.proofs.Sought.{arcs_are, kept_ascends, step_place, step_state, step_within}
 use Rattle.fst_trim.proofs.connected.Connected.step_before.Goals as goal

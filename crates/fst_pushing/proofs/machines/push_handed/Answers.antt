@@ -1,20 +1,21 @@
 use Rattle.std.proofs.Common.{◌↔◌, inl, true, false, Bool, ℕ, List, refl, sym, subst}
 use Rattle.fst_semiring.specs.Cost.{Cost}
 use Rattle.fst_machine.specs.Graph.{graph_of}
-use Rattle.fst_machine.specs.Machine.{Machine, valued}
+use Rattle.fst_machine.specs.Machine.{IsMachine, Machine, valued}
 use Rattle.fst_machine.specs.Narrowing.{IsCause}
 use Rattle.fst_machine.specs.Relation.{Rel}
 use Rattle.fst_machine.proofs.Valued.{IsMachine-valued}
+use Rattle.fst_trim.specs.Handed.{machine_of}
 use Rattle.fst_pushing.specs.Totals.{IsPlaceFor, put_on}
 use Rattle.fst_pushing.proofs.OneAnswer.{past_fault}
 use Rattle.fst_pushing.proofs.Picked.{machine_some}
 use Rattle.fst_pushing.proofs.WithTotal.{placed_some, totalled_keeps, totalled_one, totalled_removes}
-use Rattle.fst_pushing.proofs.machines.push.Goals as goal
+use Rattle.fst_pushing.proofs.machines.push_handed.Goals as goal
 
 pub returns-in-Some-clause-fault : goal.returns-in-Some-clause-fault
 returns-in-Some-clause-fault g c =
     let w = g.W.Weight in
-    let m = valued w.value c.args.fst.now in
+    let m = valued w.value (machine_of c.args.fst) in
     let p = c.in-Ok.totalled.pushed in
     let total = w.wide_value c.in-Ok.totalled.total in
     let place = c.place_of-place.result in
@@ -28,18 +29,18 @@ returns-in-Some-clause-fault g c =
 pub with_total-requires-clause-some : goal.with_total-requires-clause-some
 with_total-requires-clause-some g c =
     let w = g.W.Weight in
-    let m = valued w.value c.args.fst.now in
-    let some = machine_some m (IsMachine-valued w.value c.args.fst.now c.states-states.ensures.machine) in
+    let m = valued w.value (machine_of c.args.fst) in
+    let some = machine_some m (IsMachine-valued w.value (machine_of c.args.fst) (subst (λ (n : Machine g.row.W.Denot). IsMachine w.value n) c.fst.ensures c.states-states.ensures.machine)) in
     placed_some w.KIND m c.in-Ok.totalled.pushed (w.wide_value c.in-Ok.totalled.total) c.in-Ok.ensures.pushed some c.args.remove_total c.place_of-place.result c.place_of-place.ensures.place
 
 pub returns-in-Ok-with_total-clause-keeps : goal.returns-in-Ok-with_total-clause-keeps
 returns-in-Ok-with_total-clause-keeps g c flag =
     let w = g.W.Weight in
-    let m = valued w.value c.args.fst.now in
+    let m = valued w.value (machine_of c.args.fst) in
     let p = c.in-Ok.totalled.pushed in
     let total = w.wide_value c.in-Ok.totalled.total in
     let place = c.place_of-place.result in
-    let some = machine_some m (IsMachine-valued w.value c.args.fst.now c.states-states.ensures.machine) in
+    let some = machine_some m (IsMachine-valued w.value (machine_of c.args.fst) (subst (λ (n : Machine g.row.W.Denot). IsMachine w.value n) c.fst.ensures c.states-states.ensures.machine)) in
     let is : IsPlaceFor false w.KIND total p place = subst (λ (b : Bool). IsPlaceFor b w.KIND total p place) flag c.place_of-place.ensures.place in
     subst (λ (r : Machine Cost). (x y : List ℕ) (v : Cost) → Rel w.KIND (graph_of m) x y v ↔ Rel w.KIND (graph_of r) x y v) (sym c.in-Ok-with_total.ensures.machine)
     (totalled_keeps w.KIND m p total c.in-Ok.ensures.pushed some place is c.place_of-place.ensures.among)
@@ -47,22 +48,22 @@ returns-in-Ok-with_total-clause-keeps g c flag =
 pub returns-in-Ok-with_total-clause-removes : goal.returns-in-Ok-with_total-clause-removes
 returns-in-Ok-with_total-clause-removes g c flag =
     let w = g.W.Weight in
-    let m = valued w.value c.args.fst.now in
+    let m = valued w.value (machine_of c.args.fst) in
     let p = c.in-Ok.totalled.pushed in
     let total = w.wide_value c.in-Ok.totalled.total in
     let place = c.place_of-place.result in
-    let some = machine_some m (IsMachine-valued w.value c.args.fst.now c.states-states.ensures.machine) in
+    let some = machine_some m (IsMachine-valued w.value (machine_of c.args.fst) (subst (λ (n : Machine g.row.W.Denot). IsMachine w.value n) c.fst.ensures c.states-states.ensures.machine)) in
     let is : IsPlaceFor true w.KIND total p place = subst (λ (b : Bool). IsPlaceFor b w.KIND total p place) flag c.place_of-place.ensures.place in
     totalled_removes w.KIND m p total c.in-Ok.ensures.pushed some (valued w.value c.in-Ok-with_total.made) place is c.in-Ok-with_total.ensures.machine
 
 pub returns-in-Ok-with_total-clause-one : goal.returns-in-Ok-with_total-clause-one
 returns-in-Ok-with_total-clause-one g c flag =
     let w = g.W.Weight in
-    let m = valued w.value c.args.fst.now in
+    let m = valued w.value (machine_of c.args.fst) in
     let p = c.in-Ok.totalled.pushed in
     let total = w.wide_value c.in-Ok.totalled.total in
     let place = c.place_of-place.result in
-    let some = machine_some m (IsMachine-valued w.value c.args.fst.now c.states-states.ensures.machine) in
+    let some = machine_some m (IsMachine-valued w.value (machine_of c.args.fst) (subst (λ (n : Machine g.row.W.Denot). IsMachine w.value n) c.fst.ensures c.states-states.ensures.machine)) in
     let is : IsPlaceFor true w.KIND total p place = subst (λ (b : Bool). IsPlaceFor b w.KIND total p place) flag c.place_of-place.ensures.place in
     totalled_one w.KIND m p total c.in-Ok.ensures.pushed some (valued w.value c.in-Ok-with_total.made) place is c.in-Ok-with_total.ensures.machine
 
