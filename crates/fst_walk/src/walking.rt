@@ -26,7 +26,8 @@ pub struct Walked<K: Coded, W: Weight> {
     pub names: NameTable<K>,
 }
 
-/// For how many states and arcs room is made before a walk. It may find more, or fewer.
+/// For how many states and arcs room is made before a walk. It may find more, or fewer. Names with a number below that
+/// of the states are looked up in a list by number.
 #[derive(Clone, Copy, Debug)]
 pub struct Room {
     /// For how many states.
