@@ -73,16 +73,14 @@ IsDone w = (k : ℕ) (j : LineWalk) → slice_get w.jobs k ≡ Some j → IsOver
 abbrev pub AreDone : {V M : Type 0} → List (Laborer V M) → Type 0
 AreDone {V} {M} ws = (k : ℕ) (w : Laborer V M) → slice_get ws k ≡ Some w → IsDone w
 
--- Workers whose lines can be answered: their walks are over, and the cache has the arcs of all names that they have taken.
-pub record AreAnswerable {W V M : Type 0} (kind : ArcType) (weight : W → Cost) (value : V → Cost) (d : Machine W × Machine W)
-    (lines : List (List ℕ)) (limit : ℕ) (cache : Entries V (Name ℕ ℕ)) (ws : List (Laborer V M)) : Type 0 where
-  pub entries : IsTrueOf value (delayed_graph kind weight d) cache
-  pub jobs : (k : ℕ) (w : Laborer V M) → slice_get ws k ≡ Some w → (i : ℕ) (j : LineWalk) → slice_get w.jobs i ≡ Some j
-      → IsJobOf kind weight value d lines (keys cache) j × (j.limit ≡ limit)
-  pub done : AreDone ws
+module _ {W V : Type 0} (kind : ArcType) (weight : W → Cost) (value : V → Cost) (d : Machine W × Machine W) (lines : List (List ℕ)) (limit : ℕ)
+    (cache : Entries V (Name ℕ ℕ)) where
+  -- Jobs whose lines can be answered: their walks are over, and the cache has the arcs of all names that they have taken.
+  pub record AreWalked (jobs : List LineWalk) : Type 0 where
+    pub each : (i : ℕ) (j : LineWalk) → slice_get jobs i ≡ Some j → IsJobOf kind weight value d lines (keys cache) j × (j.limit ≡ limit)
+    pub over : (i : ℕ) (j : LineWalk) → slice_get jobs i ≡ Some j → IsOver j
 
--- the answers are those of the lines of this worker's jobs, in order
-pub record IsShareOf {V M A : Type 0} (R : ℕ → A → Type 0) (ws : List (Laborer V M)) (number : ℕ) (answers : List A) : Type 0 where
-  pub worker : Laborer V M
-  pub there : slice_get ws number ≡ Some worker
-  pub right : AllZip R (job_lines worker.jobs) answers
+  -- so are the jobs of each of these workers
+  pub record AreAnswerable {M : Type 0} (ws : List (Laborer V M)) : Type 0 where
+    pub entries : IsTrueOf value (delayed_graph kind weight d) cache
+    pub walked : (k : ℕ) (w : Laborer V M) → slice_get ws k ≡ Some w → AreWalked w.jobs

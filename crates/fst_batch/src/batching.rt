@@ -88,11 +88,13 @@ where
 {
     deal(alloc, delayed, lines, from, to, limit, workers)?;
     walk_all(rt, alloc, delayed, lines, limit, cache, workers, gate)?;
-    answer_all(alloc, delayed, lines, cache, answering, workers, answers)?;
+    answer_all(
+        rt, alloc, delayed, lines, cache, answering, workers, answers,
+    )?;
     Ok(())
 }
 
-/// Walks all lines, at most 256 at once, and answers them.
+/// Walks all lines, at most 256 at once and 16 at first, and answers them.
 fn run_all_lines<R: Threads + Sync, W: Weight + Send + Sync, G: Gate, M: Meter, A: Answering<W, M>>(
     rt: &R,
     alloc: Global,
@@ -111,17 +113,20 @@ where
     requires few { length workers.old ≤ 64 }
     requires limit { (limit ≡ A.limit answering.now) × (0 < limit) × (limit ≤ most_states) }
     requires between { IsBetween W.KIND W.value W.wide_value M.count M.is_part delayed.now lines.now limit cache.old workers.old }
+    requires lines { length lines.now < 2 ^ 31 }
     requires none { answers.old.items ≡ [] }
     ensures between { OnOk result (IsBetween W.KIND W.value W.wide_value M.count M.is_part delayed.now lines.now limit cache.new workers.new) }
     ensures size { OnOk result (length workers.new ≡ length workers.old) }
     ensures known { OnOk result ((number : ℕ) (line : List ℕ) (n : Name ℕ ℕ) → number < length lines.now → slice_get lines.now number ≡ Some line → IsNeeded line (delayed_graph W.KIND W.value delayed.now) limit n → Has (keys cache.new) n) }
     ensures answers { OnOk result (AllZip (A.answers answering.now delayed.now) lines.now answers.new.items) }
 {
-    // What the walks of open lines have found is held in memory until they are answered.
+    // What the walks of open lines have found is held in memory until they are answered. The first lines are few, since one
+    // worker expands the name with which all begin, and the jobs of the others wait for the end of that phase.
     let count = lines.count();
     let mut from = 0;
     while from < count {
-        let to = from + (count - from).min(256);
+        let most = (from + 16).min(256);
+        let to = from + (count - from).min(most);
         run_some(
             rt, alloc, delayed, lines, from, to, answering, limit, cache, workers, gate, answers,
         )?;
@@ -141,9 +146,9 @@ pub struct BatchReport<X: Drop, W: Weight> {
     pub cache: Cache<W>,
 }
 
-/// Answers lines by 1 to 64 workers. At most 256 lines are open at once: these are dealt to the workers, walked in phases
-/// until all walks are over, and answered. Each name of the composition that the lines need is expanded once, whatever the
-/// number of workers.
+/// Answers lines by 1 to 64 workers. At most 256 lines are open at once, and 16 at first: these are dealt to the workers, walked
+/// in phases until all walks are over, and answered, by the workers beside each other too. Each name of the composition that
+/// the lines need is expanded once, whatever the number of workers.
 pub fn run_lines<R: Threads + Sync, W: Weight + Send + Sync, G: Gate, M: Meter, A: Answering<W, M>>(
     rt: &R,
     alloc: Global,

@@ -87,6 +87,13 @@ impl<W: Weight, M: Meter> Worker<W, M> {
         &self.jobs[index]
     }
 
+    /// Its jobs. Takes no memory.
+    pub(crate) fn jobs(&self) -> &[Job]
+        ensures { result.now ≡ self.now.jobs }
+    {
+        self.jobs.as_slice()
+    }
+
     /// Gives it a pass for a phase.
     pub(crate) fn hand(&mut self, pass: Pass)
         ensures { self.new ≡ record self.old { pass = Some pass } }

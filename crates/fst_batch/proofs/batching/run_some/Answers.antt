@@ -10,13 +10,18 @@ pub walk_all-requires-clause-between : goal.walk_all-requires-clause-between
 walk_all-requires-clause-between g c κs within =
     dealt_between g.W.Weight.KIND g.W.Weight.value g.W.Weight.wide_value g.M.Meter.count g.M.Meter.is_part c.args.delayed.now c.args.lines.now c.args.limit c.args.cache.now c.args.workers.now c.deal.new.workers c.requires.between c.in_ok-deal.ensures.dealt
 
+pub answer_all-requires-clause-some : goal.answer_all-requires-clause-some
+answer_all-requires-clause-some g c κs within = omega (arith, c.requires.some, c.in_ok-walk_all.ensures.size, c.in_ok-deal.ensures.dealt.size)
+
 pub answer_all-requires-clause-ready : goal.answer_all-requires-clause-ready
 answer_all-requires-clause-ready g c κs within =
     let between = c.in_ok-walk_all.ensures.between in
     record {
       entries = between.entries;
-      jobs = λ k w at i j there. let job = (between.hired k w at).jobs i j there in (job.0, job.1 ∙ c.requires.limit.0);
-      done = c.in_ok-walk_all.ensures.done;
+      walked = λ k w at. record {
+        each = λ i j there. let job = (between.hired k w at).jobs i j there in (job.0, job.1 ∙ c.requires.limit.0);
+        over = c.in_ok-walk_all.ensures.done k w at;
+      };
     }
 
 pub returns-clause-known : goal.returns-clause-known
