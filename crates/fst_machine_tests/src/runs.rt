@@ -123,8 +123,8 @@ fn searches_the_first_where_the_second_is_in_no_order(rt: HostRuntime) -> Result
     let a: Fst<Tropical> = machine(alloc, SEVEN)?;
     let b: Fst<Tropical> = machine(alloc, UNSORTED)?;
     let (first, second) = (a.states(), b.states());
-    let sorted = is_sorted(&a, Side::Output);
-    assert!(rt; first > 0 && second > 0 && sorted);
+    assert!(rt; first > 0 && second > 0);
+    assert!(rt; is_sorted(&a, Side::Output));
     let here = ComposeKey {
         first: 0,
         second: 0,
