@@ -13,9 +13,8 @@ use crate::given::Given;
 use crate::made::Made;
 use crate::queues::{Queues, picked};
 use crate::refusal::{Refusal, unmade};
-use fst_pushing::{PushFault, push_handed};
+use fst_pushing::{PushFault, push};
 use fst_semiring::Weight;
-use fst_trim::Handed;
 use fst_words::Options;
 use std::alloc::Global;
 
@@ -42,12 +41,7 @@ pub(crate) fn pushed<W: Weight>(
 {
     let machine = given.one();
     let mut queue = picked(options, queues);
-    match push_handed(
-        alloc,
-        Handed::Own(machine),
-        options.remove_total_weight,
-        &mut queue,
-    ) {
+    match push(alloc, &machine, options.remove_total_weight, &mut queue) {
         Ok(made) => Ok(Made::Machine(made)),
         Err(fault) => Err(unpushed(alloc, fault)),
     }

@@ -1,5 +1,6 @@
 use Rattle.std.proofs.Common.{◌≡◌, ℕ, ◌≤◌, ◌<◌, List, [], ◌∷◌, length, Ok, Err, sym, arith, subst, ap, ◌∙◌}
-use Rattle.std.proofs.Common.{map}
+use Rattle.std.proofs.Common.{inl, map}
+use Rattle.std.proofs.lemmas.Result.{err_from_is_err_and}
 use Rattle.fst_fields.specs.Lines.{lines_of}
 use Rattle.std.specs.List.{AllZip}
 use Rattle.fst_machine.specs.Machine.{Machine}
@@ -28,6 +29,11 @@ returns-in_default-clause-settles g c =
     let b = c.two-first.result.1 in
     settled (batch_meaning c.args.options.now) kind value c.args.given (a ∷ b ∷ []) (Err c.uncomposed.result) c.two-first.ensures
     (unsorted_declines kind value a b c.uncomposed.result c.in_default.ensures.fault c.uncomposed.ensures.made)
+
+pub returns-in_err-text-clause-settles : goal.returns-in_err-text-clause-settles
+returns-in_err-text-clause-settles g c =
+    let p = err_from_is_err_and c.from_residual-in_err-text.result c.from_residual-in_err-text.ensures.1 in
+    rw p.1 (inl p.2)
 
 pub returns-clause-settles : goal.returns-clause-settles
 returns-clause-settles g c =
