@@ -5,7 +5,9 @@ use Rattle.fst_machine.specs.Store.{Slot, Apart, arcs_apart, slot_arcs, LiesIn}
 
 -- the arc stands behind the others of the state; the store is as before, or has the arc at its end; what the other
 -- states have apart from it is as before
-pub record Puts {V : Type 0} (a : Arc V ℕ) (state : ℕ) (old : List (Arc V ℕ)) (old_apart : List (Apart V)) (before : Slot V) (new : List (Arc V ℕ)) (new_apart : List (Apart V)) (after : Slot V) : Type 0 where
+pub record Puts {V : Type 0} (a : Arc V ℕ) (state : ℕ)
+    (old : List (Arc V ℕ)) (old_apart : List (Apart V)) (before : Slot V)
+    (new : List (Arc V ℕ)) (new_apart : List (Apart V)) (after : Slot V) : Type 0 where
   pub final : after.final ≡ before.final
   pub arcs : slot_arcs new new_apart state after ≡ slot_arcs old old_apart state before ++ a ∷ []
   pub inside : LiesIn (length new) after
