@@ -1,8 +1,8 @@
 //! Weights pushed toward the start: what a pushed machine is, its laws, and a machine that gives its pushed weights as
 //! they are asked for. (Mohri 2009, section 3.4, weight pushing.)
 //!
-//! `push` makes the machine with its total weight put on the start, or removed; `push_wide` makes it with wide weights
-//! beside its total.
+//! `push` and `into_pushed` make the machine with its total weight put on the start, or removed; `push_wide` makes it with
+//! wide weights beside its total.
 #![tactic(auto)]
 
 mod by_distance;
@@ -16,6 +16,6 @@ mod widening;
 
 pub use by_distance::{Totalled, push_lazily};
 pub use fault::PushFault;
-pub use machines::{push, push_handed};
+pub use machines::{into_pushed, push};
 pub use pushing::Pushing;
 pub use widening::{Pushed, push_wide};

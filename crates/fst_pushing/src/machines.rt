@@ -73,9 +73,30 @@ pub fn push<W: Weight, Q: StateQueue>(
     push_handed(alloc, Handed::Lent(fst), remove_total, queue)
 }
 
-/// The same of a machine that is lent or given away. One that was given away is given up as soon as its connected machine
-/// stands, so that no more than two machines are kept at once.
-pub fn push_handed<W: Weight, Q: StateQueue>(
+/// The same of a machine that is given away. It is given up as soon as its connected machine stands, so that no more than
+/// two machines are kept at once.
+pub fn into_pushed<'a, W: Weight + 'a, Q: StateQueue>(
+    alloc: Global,
+    fst: Fst<W>,
+    remove_total: bool,
+    queue: &'a mut Q,
+) -> Result<Fst<W>, PushFault>
+    requires { Q.members queue.old ≡ [] }
+    ensures machine { IfOk result (λ r. IsTotalled W.KIND remove_total (valued W.value fst) (valued W.value r)) }
+    ensures keeps { remove_total ≡ false → IfOk result (λ r. (x y : List ℕ) (w : Cost) → Rel W.KIND (graph_of (valued W.value fst)) x y w ↔ Rel W.KIND (graph_of (valued W.value r)) x y w) }
+    ensures removes { remove_total ≡ true → IfOk result (λ r. (total : Cost) × IsPushed W.KIND (valued W.value fst) (valued W.value r) total × RelatesBy W.KIND total (valued W.value fst) (valued W.value r)) }
+    ensures one { remove_total ≡ true → IfOk result (λ r. (p : ℕ) → p < length (valued W.value r).states → IsFinalDistance W.KIND (graph_of (valued W.value r)) p (one_of W.KIND)) }
+    ensures within { IfOk result (λ r. IsWithin (valued W.value r)) }
+    ensures none { OnOk result (NoneImproves W.KIND (graph_of (valued W.value fst)) (IsUseful (graph_of (valued W.value fst)))) }
+    ensures fault { IfErr result (λ f. IsPushFault W.KIND remove_total (valued W.value fst) f ⊎ (f ≡ PushFault.Memory)) }
+    ensures empty { OnOk result (Q.members queue.new ≡ []) }
+{
+    let handed: Handed<'a, W> = Handed::Own(fst);
+    push_handed(alloc, handed, remove_total, queue)
+}
+
+/// The same of a machine that is lent or given away.
+fn push_handed<W: Weight, Q: StateQueue>(
     alloc: Global,
     fst: Handed<'_, W>,
     remove_total: bool,

@@ -13,7 +13,7 @@ use crate::given::Given;
 use crate::made::Made;
 use crate::queues::{Queues, picked};
 use crate::refusal::{Refusal, unmade};
-use fst_pushing::{PushFault, push};
+use fst_pushing::{PushFault, into_pushed};
 use fst_semiring::Weight;
 use fst_words::Options;
 use std::alloc::Global;
@@ -41,7 +41,7 @@ pub(crate) fn pushed<W: Weight>(
 {
     let machine = given.one();
     let mut queue = picked(options, queues);
-    match push(alloc, &machine, options.remove_total_weight, &mut queue) {
+    match into_pushed(alloc, machine, options.remove_total_weight, &mut queue) {
         Ok(made) => Ok(Made::Machine(made)),
         Err(fault) => Err(unpushed(alloc, fault)),
     }
