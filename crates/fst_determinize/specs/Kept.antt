@@ -1,7 +1,6 @@
 -- How members and ways are kept, and what stands for them as plain values.
-use Rattle.std.specs.Prelude.{◌≡◌, ◌≢◌, ◌<◌, ◌≤◌, ℕ, Bool, List, [], ◌∷◌, ◌+◌, ◌*◌, ◌%◌, ◌^◌, ◌++◌, ◌&&◌, fold, map, nat_eq, unsigned_abs}
+use Rattle.std.specs.Prelude.{◌≡◌, ◌≢◌, ◌<◌, ◌≤◌, ℕ, Bool, List, [], ◌∷◌, ◌+◌, ◌*◌, ◌%◌, ◌^◌, ◌&&◌, fold, map, nat_eq, unsigned_abs}
 use Rattle.std.specs.Cmp.Lexicographic.{pointwise}
-use Rattle.std.specs.Hash as fed
 use Rattle.std.specs.Ordering.{is_eq}
 use Rattle.fst_semiring.specs.Cost.{Cost, cost_cmp, first_of, infinite, plus}
 use Rattle.fst_semiring.specs.Semiring.{IsWide, Within}
@@ -44,15 +43,6 @@ same_member a b = nat_eq a.state b.state && same_cost a.residual b.residual
 
 abbrev pub same_members : List Member → List Member → Bool
 same_members = pointwise same_member
-
--- what a hasher is fed of a member
-abbrev pub member_input : Member → fed.HashWrites
-member_input m = fed.u32 m.state ++ fed.i128 (first_of m.residual)
-
--- what a hasher is fed of a subset
-abbrev pub subset_input : List Member → fed.HashWrites
-subset_input [] = []
-subset_input (m ∷ members) = member_input m ++ fed.slice member_input members
 
 -- a number by which ways stand by label, and by state where they have one label
 abbrev pub rank : {V : Type 0} → WayAs V → ℕ

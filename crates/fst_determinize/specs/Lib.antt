@@ -3,6 +3,7 @@ pub mod Ways
 pub mod Theorem
 pub mod SubsetLaws
 pub mod Kept
+pub mod Others
 pub mod KeyLaws
 pub mod Weighed
 pub mod Faults

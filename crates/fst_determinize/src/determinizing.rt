@@ -42,15 +42,12 @@ pub(crate) fn no_ways<R, V>(alloc: Global) -> Scratch<R, V> {
 }
 
 /// The subset of the empty word, if there is a start. Takes no memory.
-pub(crate) fn first_subset<W: Weight, R: Residual<W>>(
-    alloc: Global,
-    fst: &Fst<W>,
-) -> Option<SubsetOf<R>>
+pub(crate) fn first_subset<W: Weight, R: Residual<W>>(fst: &Fst<W>) -> Option<SubsetOf<R>>
     ensures { result ≡ (subsets W.KIND (graph_of (valued W.value fst.now))).start }
 {
     let state = fst.start()?;
     let residual = R::one();
-    Some(subset_of_one(alloc, Held { state, residual }))
+    Some(subset_of_one(Held { state, residual }))
 }
 
 /// The final weight of a subset: the best, over its members, of residual Times final weight. Takes no memory.
@@ -60,7 +57,8 @@ pub(crate) fn last_weight<W: Weight, R: Residual<W>>(fst: &Fst<W>, subset: &Subs
 {
     let (first, rest) = subset.members();
     let mut best = further(first.residual, fst.final_weight(first.state));
-    for member in rest {
+    for place in 0..rest.len() {
+        let member = rest.item(place);
         let own = further(member.residual, fst.final_weight(member.state));
         best = W::wide_plus(best, own);
     }
@@ -103,11 +101,11 @@ pub(crate) fn put_subset_arcs<W: Weight, R: Residual<W>>(
     ensures { OnOk result (map (key_arc W.wide_value) out.new.items ≡ map (key_arc W.wide_value) out.old.items ++ (subsets W.KIND (graph_of (valued W.value fst.now))).arcs subset.now) }
 {
     let (first, rest) = subset.members();
-    if rest.is_empty() {
+    if rest.len() == 0 {
         let arcs = fst.arcs(first.state);
         // Nothing is to be sorted or to be put together.
         if labels_ascend(arcs) {
-            return put_single_arcs(out, arcs, first, scratch.alloc);
+            return put_single_arcs(out, arcs, first);
         }
     }
     put_sorted_arcs(scratch, out, fst, subset)
@@ -117,7 +115,6 @@ pub(crate) fn put_subset_arcs<W: Weight, R: Residual<W>>(
 #[derive(Drop)]
 struct Determinizing<'a, W: Weight, R: Residual<W>> {
     fst: &'a Fst<W>,
-    alloc: Global,
     form: PhantomData<R>,
 }
 
@@ -133,7 +130,7 @@ impl<'a, W: Weight, R: Residual<W>> Names<W> for Determinizing<'a, W, R> {
     ghost holds = { λ s. IsWeighed W.KIND W.value s.fst.now × HasGoodArcs W.KIND (graph_of (valued W.value s.fst.now)) };
 
     fn start(&self) -> Option<SubsetOf<R>> {
-        first_subset(self.alloc, self.fst)
+        first_subset(self.fst)
     }
 
     fn scratch(alloc: Global) -> Scratch<R, W::Wide> {
@@ -176,7 +173,6 @@ pub(crate) fn walk_subsets<W: Weight, R: Residual<W>>(
     };
     let graph = Determinizing {
         fst,
-        alloc,
         form: PhantomData::<R>,
     };
     walk(alloc, &graph, room, max_states)

@@ -23,10 +23,10 @@ pub type Subset<W> = SubsetOf<Broad<W, <W as Weight>::Wide>>;
 pub type SubsetArc<W> = NameArc<Subset<W>, W>;
 
 /// The subset of the empty word: the start with One. `None` exactly where there is no start. Takes no memory.
-pub fn start_subset<W: Weight>(alloc: Global, fst: &Fst<W>) -> Option<Subset<W>>
+pub fn start_subset<W: Weight>(fst: &Fst<W>) -> Option<Subset<W>>
     ensures { result ≡ (subsets W.KIND (graph_of (valued W.value fst.now))).start }
 {
-    first_subset(alloc, fst)
+    first_subset(fst)
 }
 
 /// The arcs of a subset: one for each label of an arc of its members, by label. Its weight is the best, over the

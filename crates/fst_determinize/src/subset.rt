@@ -2,14 +2,14 @@
 
 ghost use Rattle.std.specs.Prelude.{◌≡◌, ◌<◌, [], ◌∷◌, ◌++◌, IfOk, Some, fold, length, slice_get};
 ghost use Rattle.std.specs.Cmp.{on_equiv, on_per, partial_equiv_from_equiv};
-ghost use Rattle.std.proofs.Common.{ap};
-ghost use Rattle.fst_determinize.specs.Kept.{member_as, member_input, members_as, number_more, same_member, same_members, subset_input, subset_number};
-ghost use Rattle.fst_determinize.specs.KeyLaws.{member_decides, member_laws, same_decides, subset_laws};
+ghost use Rattle.fst_determinize.specs.Kept.{member_as, members_as, number_more, same_member, same_members, subset_number};
+ghost use Rattle.fst_determinize.specs.Others.{others_in};
+ghost use Rattle.std.specs.Bool.{Decides};
+ghost use Rattle.fst_determinize.specs.KeyLaws.{member_laws, subset_laws};
 
 use crate::residual::Kept;
 use fst_walk::{Code, Coded};
 use std::alloc::{AllocError, Global};
-use std::hash::{Hash, Hasher};
 use std::marker::Model;
 
 /// A state with its residual.
@@ -45,33 +45,96 @@ impl<R: Kept> Eq for Held<R> {
     ghost laws = { on_equiv (member_as R.value) member_laws };
 }
 
-impl<R: Kept> Hash for Held<R> {
-    ghost hash_input = { λ h. member_input (member_as R.value h) };
+/// The members of a subset behind the first. Up to two stand in place, so that most subsets take no memory of their own.
+#[derive(Drop)]
+pub(crate) enum Others<R> {
+    /// There are none.
+    None,
+    /// There is one.
+    One(Held<R>),
+    /// There are two.
+    Two(Held<R>, Held<R>),
+    /// Those of a list.
+    More(Vec<Held<R>>),
+}
 
-    ghost respects_eq = { λ a b same. ap member_input ((member_decides (member_as R.value a) (member_as R.value b)).0 same) };
+impl<R: Kept> Others<R> {
+    /// How many there are. Takes no memory.
+    pub(crate) fn len(&self) -> usize
+        ensures { result ≡ length (others_in self.now) }
+    {
+        match self {
+            Others::None => 0,
+            Others::One(_) => 1,
+            Others::Two(_, _) => 2,
+            Others::More(list) => list.len(),
+        }
+    }
 
-    fn hash<H: Hasher>(&self, state: &mut H) {
-        self.state.hash(state);
-        self.residual.key().first.hash(state);
+    /// The one in a place, by state, from 0. Takes no memory.
+    pub(crate) fn item(&self, place: usize) -> Held<R>
+        requires { place < length (others_in self.now) }
+        ensures { slice_get (others_in self.now) place ≡ Some result }
+    {
+        match self {
+            Others::None => unreachable!(),
+            Others::One(second) => *second,
+            Others::Two(second, third) => { if place == 0 { *second } else { *third } }
+            Others::More(list) => list[place],
+        }
+    }
+
+    /// Whether they are the same.
+    fn same(&self, other: &Others<R>) -> bool
+        ensures { Decides result (members_as R.value (others_in self.now) ≡ members_as R.value (others_in other.now)) }
+    {
+        if self.len() != other.len() {
+            return false;
+        }
+        for place in 0..self.len() {
+            let ours = self.item(place);
+            let theirs = other.item(place);
+            if ours != theirs {
+                return false;
+            }
+        }
+        true
     }
 }
 
-/// A weighted subset that is not empty: states by number, each with its residual. One of one state takes no memory of
-/// its own.
+/// Those of a list.
+fn others_of<R: Kept>(alloc: Global, members: &[Held<R>]) -> Result<Others<R>, AllocError>
+    ensures { IfOk result (λ others. others_in others ≡ members.now) }
+{
+    match members.len() {
+        0 => Ok(Others::None),
+        1 => Ok(Others::One(members[0])),
+        2 => Ok(Others::Two(members[0], members[1])),
+        many => {
+            let mut list = Vec::with_capacity(alloc, many)?;
+            list.extend_from_slice(members)?;
+            Ok(Others::More(list))
+        }
+    }
+}
+
+/// A weighted subset that is not empty: states by number, each with its residual. One of up to three states takes no
+/// memory of its own.
 #[derive(Drop)]
 pub struct SubsetOf<R: Kept> {
     first: Held<R>,
-    rest: Vec<Held<R>>,
+    others: Others<R>,
 }
 
 impl<R: Kept> Model for SubsetOf<R> {
     ghost use Rattle.std.specs.Prelude.{List, ◌∷◌};
     ghost use Rattle.fst_determinize.specs.Subsets.{Member};
     ghost use Rattle.fst_determinize.specs.Kept.{member_as, members_as};
+    ghost use Rattle.fst_determinize.specs.Others.{others_in};
 
     ghost Value = { List Member };
 
-    ghost view = { λ s. member_as R.value s.first ∷ members_as R.value s.rest.items };
+    ghost view = { λ s. member_as R.value s.first ∷ members_as R.value (others_in s.others) };
 }
 
 impl<R: Kept> PartialEq for SubsetOf<R> {
@@ -80,23 +143,12 @@ impl<R: Kept> PartialEq for SubsetOf<R> {
     ghost laws = { partial_equiv_from_equiv subset_laws };
 
     fn eq(&self, other: &SubsetOf<R>) -> bool {
-        self.first == other.first && self.rest.as_slice() == other.rest.as_slice()
+        self.first == other.first && self.others.same(&other.others)
     }
 }
 
 impl<R: Kept> Eq for SubsetOf<R> {
     ghost laws = { subset_laws };
-}
-
-impl<R: Kept> Hash for SubsetOf<R> {
-    ghost hash_input = { subset_input };
-
-    ghost respects_eq = { λ a b same. ap subset_input ((same_decides a b).0 same) };
-
-    fn hash<H: Hasher>(&self, state: &mut H) {
-        self.first.hash(state);
-        self.rest.as_slice().hash(state);
-    }
 }
 
 /// Odd numbers whose bits look random.
@@ -120,12 +172,13 @@ fn number_more<R: Kept>(number: u64, member: Held<R>) -> u64
 }
 
 /// A number with these members more.
-fn numbered<R: Kept>(number: u64, members: &[Held<R>]) -> u64
-    ensures { result ≡ fold number_more number (members_as R.value members.now) }
+fn numbered<R: Kept>(number: u64, members: &Others<R>) -> u64
+    ensures { result ≡ fold number_more number (members_as R.value (others_in members.now)) }
 {
     let mut so_far = number;
-    for member in members {
-        so_far = number_more(so_far, *member);
+    for place in 0..members.len() {
+        let member = members.item(place);
+        so_far = number_more(so_far, member);
     }
     so_far
 }
@@ -137,7 +190,7 @@ impl<R: Kept> Coded for SubsetOf<R> {
     fn code(&self) -> Code {
         let first = number_more(0, self.first);
         Code {
-            number: numbered(first, self.rest.as_slice()),
+            number: numbered(first, &self.others),
             is_alone: false,
         }
     }
@@ -153,34 +206,35 @@ pub(crate) fn subset_of<R: Kept>(
 {
     let first = members[0];
     let (_, others) = members.split_at(1);
-    let mut rest = Vec::with_capacity(alloc, others.len())?;
-    rest.extend_from_slice(others)?;
-    Ok(SubsetOf { first, rest })
+    Ok(SubsetOf {
+        first,
+        others: others_of(alloc, others)?,
+    })
 }
 
 /// The subset of one member. Takes no memory.
-pub(crate) fn subset_of_one<R: Kept>(alloc: Global, member: Held<R>) -> SubsetOf<R>
+pub(crate) fn subset_of_one<R: Kept>(member: Held<R>) -> SubsetOf<R>
     ensures { result ≡ member_as R.value member ∷ [] }
 {
     SubsetOf {
         first: member,
-        rest: Vec::new(alloc),
+        others: Others::None,
     }
 }
 
 impl<R: Kept> SubsetOf<R> {
     /// Its first member, and the others, by state.
-    pub(crate) fn members(&self) -> (Held<R>, &[Held<R>])
-        ensures { member_as R.value result.0 ∷ members_as R.value result.1.now ≡ self.now }
+    pub(crate) fn members(&self) -> (Held<R>, &Others<R>)
+        ensures { member_as R.value result.0 ∷ members_as R.value (others_in result.1.now) ≡ self.now }
     {
-        (self.first, self.rest.as_slice())
+        (self.first, &self.others)
     }
 
     /// How many members it has. Takes no memory.
     pub fn len(&self) -> usize
         ensures { result ≡ length self.now }
     {
-        self.rest.len() + 1
+        self.others.len() + 1
     }
 
     /// The member in a place, by state, from 0. Takes no memory.
@@ -191,6 +245,6 @@ impl<R: Kept> SubsetOf<R> {
         if index == 0 {
             return self.first;
         }
-        self.rest[index - 1]
+        self.others.item(index - 1)
     }
 }

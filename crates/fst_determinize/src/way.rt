@@ -5,11 +5,12 @@ ghost use Rattle.fst_semiring.specs.Semiring.{Within, times};
 ghost use Rattle.fst_machine.specs.Graph.{graph_of};
 ghost use Rattle.fst_machine.specs.Machine.{valued, valued_arc};
 ghost use Rattle.fst_determinize.specs.Kept.{IsModest, member_as, members_as, rank, way_as, ways_as};
+ghost use Rattle.fst_determinize.specs.Others.{others_in};
 ghost use Rattle.fst_determinize.specs.Ways.{way_by, ways};
 ghost use Rattle.std.specs.List.Sorted.{IsNonDecreasingBy, IsPermutation};
 
 use crate::residual::Residual;
-use crate::subset::Held;
+use crate::subset::{Held, Others};
 use fst_machine::{Fst, FstArc};
 use fst_semiring::Weight;
 use std::alloc::AllocError;
@@ -75,14 +76,15 @@ pub(crate) fn put_arc_ways<W: Weight, R: Residual<W>>(
 pub(crate) fn put_ways<W: Weight, R: Residual<W>>(
     out: &mut Vec<WayOn<W::Wide>>,
     fst: &Fst<W>,
-    members: &[Held<R>],
+    members: &Others<R>,
 ) -> Result<(), AllocError>
-    requires states { All (λ h. h.state < length fst.now.states) members.now }
-    requires modest { All (λ h. IsModest (R.value h.residual)) members.now }
-    ensures { OnOk result (ways_as W.wide_value out.new.items ≡ ways_as W.wide_value out.old.items ++ ways W.KIND (graph_of (valued W.value fst.now)) (members_as R.value members.now)) }
+    requires states { All (λ h. h.state < length fst.now.states) (others_in members.now) }
+    requires modest { All (λ h. IsModest (R.value h.residual)) (others_in members.now) }
+    ensures { OnOk result (ways_as W.wide_value out.new.items ≡ ways_as W.wide_value out.old.items ++ ways W.KIND (graph_of (valued W.value fst.now)) (members_as R.value (others_in members.now))) }
 {
-    for member in members {
-        put_arc_ways(out, fst.arcs(member.state), *member)?;
+    for place in 0..members.len() {
+        let member = members.item(place);
+        put_arc_ways(out, fst.arcs(member.state), member)?;
     }
     Ok(())
 }
