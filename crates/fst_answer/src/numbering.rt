@@ -1,6 +1,6 @@
 //! The arcs of a name of a lattice, to the numbers of names.
 
-ghost use Rattle.std.specs.Prelude.{◌≡◌, ◌+◌, ◌≤◌, ◌∷◌, [], ℕ, OnOk, Some, length, map, slice_get};
+ghost use Rattle.std.specs.Prelude.{◌≡◌, ◌+◌, ◌≤◌, ◌∷◌, [], ℕ, IfOk, OnOk, Some, false, length, map, slice_get};
 ghost use Rattle.std.specs.List.{AllZip};
 ghost use Rattle.fst_machine.specs.BreadthFirst.{Has};
 ghost use Rattle.fst_machine.specs.Graph.{nexts};
@@ -8,7 +8,7 @@ ghost use Rattle.fst_machine.specs.Machine.{most_states, valued_arc};
 ghost use Rattle.fst_walk.specs.Making.{IsNumberedArc};
 ghost use Rattle.fst_walk.specs.Names.{key_arc};
 ghost use Rattle.fst_delayed.specs.Handed.{Name};
-ghost use Rattle.fst_batch.specs.Lattice.{Point, byte_arcs, point, point_arcs};
+ghost use Rattle.fst_batch.specs.Lattice.{Point, byte_arcs, point, point_arcs, reading};
 ghost use Rattle.fst_batch.specs.Walks.{label_arcs};
 ghost use Rattle.fst_answer.specs.Building.{AreFound};
 ghost use Rattle.fst_answer.specs.Filling.{Continues};
@@ -46,38 +46,46 @@ fn number_one<W: Weight>(
     Ok(())
 }
 
-/// Puts those of the arcs that read a label, to the numbers of their next names at a position.
+/// Puts those of the arcs that read a label, to the numbers of their next names at a position, and tells whether any of
+/// the arcs reads epsilon.
 fn number_label<W: Weight>(
     out: &mut Vec<WideArc<W>>,
     points: &Points,
     arcs: &[KeyArc<W>],
     label: u32,
     position: u64,
-) -> Result<(), AllocError>
+) -> Result<bool, AllocError>
     requires few { length points.now ≤ most_states }
     requires found { AreFound points.now label position (map (key_arc W.wide_value) arcs.now) }
-    ensures { OnOk result (Continues points.now (label_arcs label position (map (key_arc W.wide_value) arcs.now)) (map (valued_arc W.wide_value) out.old.items) (map (valued_arc W.wide_value) out.new.items)) }
+    ensures arcs { OnOk result (Continues points.now (label_arcs label position (map (key_arc W.wide_value) arcs.now)) (map (valued_arc W.wide_value) out.old.items) (map (valued_arc W.wide_value) out.new.items)) }
+    ensures silent { IfOk result (λ silent. silent ≡ false → reading 0 (map (key_arc W.wide_value) arcs.now) ≡ []) }
 {
+    let mut silent = false;
     for arc in arcs {
         number_one(out, points, arc, label, position)?;
+        if arc.ilabel == 0 {
+            silent = true;
+        }
     }
-    Ok(())
+    Ok(silent)
 }
 
-/// Puts those of the arcs that read the byte behind a position, if there is one.
+/// Puts those of the arcs that read the byte behind a position, if there is one, and tells whether any of the arcs may
+/// read epsilon.
 fn number_byte<W: Weight>(
     out: &mut Vec<WideArc<W>>,
     points: &Points,
     arcs: &[KeyArc<W>],
     line: &[u8],
     position: u64,
-) -> Result<(), AllocError>
+) -> Result<bool, AllocError>
     requires few { length points.now ≤ most_states }
     requires found { (byte : ℕ) → slice_get line.now position ≡ Some byte → AreFound points.now byte (position + 1) (map (key_arc W.wide_value) arcs.now) }
-    ensures { OnOk result (Continues points.now (byte_arcs (slice_get line.now position) position (map (key_arc W.wide_value) arcs.now)) (map (valued_arc W.wide_value) out.old.items) (map (valued_arc W.wide_value) out.new.items)) }
+    ensures arcs { OnOk result (Continues points.now (byte_arcs (slice_get line.now position) position (map (key_arc W.wide_value) arcs.now)) (map (valued_arc W.wide_value) out.old.items) (map (valued_arc W.wide_value) out.new.items)) }
+    ensures silent { IfOk result (λ silent. silent ≡ false → reading 0 (map (key_arc W.wide_value) arcs.now) ≡ []) }
 {
     if position >= line.len() as u64 {
-        return Ok(());
+        return Ok(true);
     }
     let byte = line[position as usize];
     number_label(out, points, arcs, u32::from(byte), position + 1)
@@ -96,6 +104,11 @@ pub(crate) fn number_point<W: Weight>(
     ensures { OnOk result (AllZip (IsNumberedArc points.now) (point_arcs line.now position (map (key_arc W.wide_value) arcs.now)) (map (valued_arc W.wide_value) out.new.items)) }
 {
     out.clear();
-    number_byte(out, points, arcs, line, position)?;
-    number_label(out, points, arcs, 0, position)
+    let silent = number_byte(out, points, arcs, line, position)?;
+    // Most names have no arc that reads epsilon, so that their arcs are looked at once.
+    if !silent {
+        return Ok(());
+    }
+    number_label(out, points, arcs, 0, position)?;
+    Ok(())
 }

@@ -1,5 +1,5 @@
 -- What holds between phases, after one more.
-use Rattle.std.proofs.Common.{◌≡◌, ◌⊎◌, inl, inr, ⊎_elim, ℕ, zero, suc, ◌+◌, ◌^◌, ◌<◌, ◌≤◌, Bool, true, List, [], ◌∷◌, ◌++◌, Option, Some, None, length, map, slice_get, refl, sym, ap, ap₂, ◌∙◌, subst, arith}
+use Rattle.std.proofs.Common.{◌≡◌, ◌⊎◌, ⊎_elim, ℕ, zero, suc, ◌+◌, ◌^◌, ◌<◌, ◌≤◌, Bool, List, [], ◌∷◌, ◌++◌, Some, length, map, slice_get, refl, sym, ap, ap₂, ◌∙◌, subst, arith}
 use Rattle.std.specs.Prelude.{sum_by}
 use Rattle.std.specs.List.{Contains, flat_map}
 use Rattle.std.proofs.lemmas.List.{length-append, length-map, map-append}
@@ -20,9 +20,9 @@ use Rattle.fst_batch.specs.declared.stage.Stage.TheVariants.{Going}
 use Rattle.fst_batch.specs.Expansions.{IsNeededOf}
 use Rattle.fst_batch.specs.Needed.{IsNeeded}
 use Rattle.fst_batch.specs.Lattice.{Point}
-use Rattle.fst_batch.specs.Phases.{HasEnded, IsIdle, IsLeft, IsPhase, Laborer}
+use Rattle.fst_batch.specs.Phases.{HasEnded, IsIdle, IsPhase, Laborer}
 use Rattle.fst_batch.specs.Runs.{IsBetween, IsHired, all_lines, job_lines}
-use Rattle.fst_batch.specs.Serving.{IsNeededBy, codes}
+use Rattle.fst_batch.specs.Serving.{IsNeededBy}
 use Rattle.fst_batch.specs.Walks.{IsHead, IsOver, LineWalk}
 
 one : {X : Type 0} (a b : X) → Some a ≡ Some b → a ≡ b

@@ -1,10 +1,9 @@
 -- What a claim says of the codes that are blocked.
-use Rattle.std.proofs.Common.{◌≡◌, ◌≢◌, ◌⊎◌, inl, inr, ⊎_elim, ℕ, ◌+◌, ◌<◌, ◌≤◌, List, [], ◌∷◌, ◌++◌, length, refl, sym, ap, ◌∙◌, subst, arith}
+use Rattle.std.proofs.Common.{◌≡◌, inl, inr, ℕ, List, [], ◌∷◌, ◌++◌, length, sym, subst, arith}
 use Rattle.std.specs.List.{Contains}
 use Rattle.std.proofs.lemmas.List.Elements.{Contains-append_left, Contains-append_right, Contains-push}
 use Rattle.fst_claims.specs.declared.view.View.{View}
 use Rattle.fst_claims.specs.Claimed.{IsFull, IsTaken, IsWon}
-use Rattle.fst_claims.specs.Plays.{finds_all}
 use Rattle.fst_claims.specs.Rule.{place_of}
 use Rattle.fst_batch.specs.Serving.{IsBlocked}
 

@@ -1,12 +1,12 @@
 -- What two caches have together.
-use Rattle.std.proofs.Common.{◌≡◌, ◌⊎◌, inl, inr, ⊎_elim, ℕ, List, [], ◌∷◌, ◌++◌, Option, None, Some, map, sym, ap, subst}
+use Rattle.std.proofs.Common.{◌≡◌, ⊎_elim, List, ◌++◌, Option, None, Some, map, subst}
 use Rattle.std.specs.Prelude.{MatchOption}
 use Rattle.std.proofs.lemmas.List.{map-append}
 use Rattle.fst_semiring.specs.Cost.{Cost}
 use Rattle.fst_machine.specs.BreadthFirst.{Has}
 use Rattle.fst_machine.specs.Graph.{Graph}
 use Rattle.fst_machine.specs.Machine.{Arc}
-use Rattle.fst_machine.proofs.Elements.{Has-append_cases, Has-append_left, Has-append_right}
+use Rattle.fst_machine.proofs.Elements.{Has-append_cases, Has-append_right}
 use Rattle.fst_walk.specs.Names.{key_arc}
 use Rattle.fst_delayed.specs.Caches.{Entries, IsTrueOf, keys}
 use Rattle.fst_delayed.proofs.Keys.{Has-map}

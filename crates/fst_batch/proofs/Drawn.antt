@@ -1,13 +1,11 @@
 -- What the loops of the generator have made, and what is left to make.
-use Rattle.std.proofs.Common.{◌≡◌, ◌≢◌, ℕ, zero, suc, ◌+◌, ◌-◌, ◌*◌, ◌/◌, ◌%◌, ◌<◌, ◌≤◌, List, [], ◌∷◌, ◌++◌, length, refl, sym, ap, ap₂, ◌∙◌, subst, append_assoc, append-nil, length-append, mod-lt, arith}
+use Rattle.std.proofs.Common.{◌≡◌, ◌≢◌, ℕ, zero, suc, ◌+◌, ◌-◌, ◌*◌, ◌/◌, ◌<◌, ◌≤◌, List, [], ◌∷◌, ◌++◌, length, refl, sym, ap, ap₂, ◌∙◌, subst, append_assoc, append-nil, length-append, mod-lt, arith}
 use Rattle.std.specs.List.{All}
-use Rattle.std.proofs.lemmas.List.Elements.{All-append, All-cons, All-nil, All-push}
+use Rattle.std.proofs.lemmas.List.Elements.{All-cons, All-nil, All-push}
 use Rattle.std.proofs.lemmas.List.Sums.{sum_by_push}
-use Rattle.fst_semiring.specs.Cost.{Cost, finite, infinite}
-use Rattle.fst_semiring.specs.declared.key.Key.{Key}
-use Rattle.fst_semiring.specs.Keys.{key_of}
-use Rattle.fst_machine.specs.Machine.{Arc, IsArc, State, arc_total, greatest_label}
-use Rattle.fst_batch.specs.Cascade.{behind_arcs, drawn_letters, drawn_lines, first_arcs, first_end, first_size, first_states, letter_arc, letters, same_arc, second_arcs, second_end, second_size, second_states, silent_arc, two_arcs, whole}
+use Rattle.fst_semiring.specs.Cost.{Cost, infinite}
+use Rattle.fst_machine.specs.Machine.{Arc, IsArc, State, arc_total}
+use Rattle.fst_batch.specs.Cascade.{behind_arcs, drawn_letters, drawn_lines, first_arcs, first_end, first_states, letter_arc, letters, same_arc, second_arcs, second_end, second_states, silent_arc, two_arcs, whole}
 use Rattle.fst_batch.specs.Draws.{after, drawn, skip}
 
 left : (e b : ℕ) → b < e → e - b ≡ suc (e - (b + 1))

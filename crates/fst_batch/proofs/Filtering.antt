@@ -1,5 +1,5 @@
 -- What a filter keeps of a list.
-use Rattle.std.proofs.Common.{◌≡◌, ◌⊎◌, inl, inr, ℕ, suc, ◌<◌, Bool, true, false, true≢false, cond, filter, List, [], ◌∷◌, ◌++◌, Some, length, map, slice_get, refl, sym, ap, ◌∙◌, subst, arith}
+use Rattle.std.proofs.Common.{◌≡◌, inl, inr, Bool, true, false, true≢false, cond, filter, List, [], ◌∷◌, map, refl, sym, ap, ◌∙◌}
 use Rattle.fst_machine.specs.BreadthFirst.{Apart, Has}
 
 module _ {X : Type 0} (test : X → Bool) where

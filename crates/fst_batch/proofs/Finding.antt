@@ -1,6 +1,7 @@
 -- Names that are found by the arcs of a name, one after the other.
-use Rattle.std.proofs.Common.{◌≡◌, ◌⊎◌, inl, inr, ℕ, ◌+◌, ◌<◌, ◌≤◌, Bool, true, false, cond, nat_eq, filter, List, [], ◌∷◌, ◌++◌, Some, length, map, take, get_or, slice_get, refl, sym, ap, ◌∙◌, subst, append_assoc, append-nil, arith}
-use Rattle.std.specs.Prelude.{MatchBool}
+use Rattle.std.proofs.Common.{◌≡◌, ℕ, ◌+◌, ◌<◌, ◌≤◌, Bool, true, false, cond, nat_eq, filter, List, [], ◌∷◌, ◌++◌, Option, None, Some, length, map, take, get_or, slice_get, sym, ap, ◌∙◌, subst, append_assoc, append-nil}
+use Rattle.std.specs.Prelude.{MatchBool, MatchOption}
+use Rattle.std.specs.Option.{is_some}
 use Rattle.std.proofs.lemmas.List.{map-append}
 use Rattle.std.proofs.lemmas.List.Elements.{filter-append}
 use Rattle.fst_semiring.specs.Cost.{Cost}
@@ -11,7 +12,7 @@ use Rattle.fst_machine.proofs.Walks.{Grows-then}
 use Rattle.std.proofs.lemmas.Option.{slice_get-get_or}
 use Rattle.fst_walk.specs.Making.{Passes}
 use Rattle.fst_walk.proofs.Putting.{around-map, items_more}
-use Rattle.fst_batch.specs.Lattice.{Point, arc_to}
+use Rattle.fst_batch.specs.Lattice.{Point, arc_to, reading}
 use Rattle.fst_batch.specs.Walks.{label_arcs}
 
 module _ {N : Type 0} where
@@ -56,6 +57,15 @@ module _ {V N : Type 0} (f : V → Arc Cost N) (label i : ℕ) (old mid new : Li
       (passes_front limit old (nexts (label_arcs label i (map f (take k xs))) ++ nexts (label_arcs label i (f x ∷ []))) (nexts (label_arcs label i r.0))
       (passes_after limit old mid (nexts (label_arcs label i (map f (take k xs)))) (nexts (label_arcs label i (f x ∷ []))) grown p))
 
+-- where none of the arcs so far reads epsilon, and one more does not, none of them does
+pub silent_more : {V N : Type 0} (f : V → Arc Cost N) (xs : List V) (k : ℕ) (x : V) → k < length xs → x ≡ get_or xs k x → reading 0 (map f (take k xs)) ≡ [] → nat_eq (f x).ilabel 0 ≡ false → reading 0 (map f (take (k + 1) xs)) ≡ []
+silent_more f xs k x within is before none =
+    ap (reading 0) (items_more f xs k x within is) ∙ (filter-append (λ (a : Arc Cost _). nat_eq a.ilabel 0) (map f (take k xs)) (f x ∷ []) ∙ (ap (λ (ys : List (Arc Cost _)). ys ++ reading 0 (f x ∷ [])) before ∙ ap (λ (b : Bool). cond b (f x ∷ []) []) none))
+
+-- where none reads epsilon, those that read a byte are all
+pub silent_none : {N : Type 0} (i : ℕ) (bytes : List (Arc Cost (Point N))) (arcs : List (Arc Cost N)) → reading 0 arcs ≡ [] → bytes ++ label_arcs 0 i arcs ≡ bytes
+silent_none i bytes arcs none = ap (λ (ys : List (Arc Cost _)). bytes ++ map (arc_to i) ys) none ∙ append-nil bytes
+
 -- two lists of arcs, one after the other
 module _ {N : Type 0} (limit : ℕ) (old : List N) where
   pub first_part : (xs ys : List (Arc Cost N)) → Passes limit old (nexts xs) → Passes limit old (nexts (xs ++ ys))
@@ -65,3 +75,9 @@ module _ {N : Type 0} (limit : ℕ) (old : List N) where
       → MatchBool fits (Grows old (nexts (xs ++ ys)) new × (length new ≤ limit)) (Passes limit old (nexts (xs ++ ys)))
   both_parts mid new xs ys grown true h = (subst (λ zs. Grows old zs new) (sym (nexts-append xs ys)) (Grows-then (nexts xs) (nexts ys) old mid new grown h.0), h.1)
   both_parts mid new xs ys grown false p = subst (Passes limit old) (sym (nexts-append xs ys)) (passes_after limit old mid (nexts xs) (nexts ys) grown p)
+
+  -- the same where finding the names of the second tells of more than whether they fit
+  pub both_found : (mid new : List N) (xs ys : List (Arc Cost N)) → Grows old (nexts xs) mid → (found : Option Bool) (fits : Bool) → fits ≡ is_some found
+      → MatchOption found (Passes limit mid (nexts ys)) (λ silent. Grows mid (nexts ys) new × (length new ≤ limit)) → MatchBool fits (Grows old (nexts (xs ++ ys)) new × (length new ≤ limit)) (Passes limit old (nexts (xs ++ ys)))
+  both_found mid new xs ys grown (Some silent) fits is h = both_parts mid new xs ys grown fits (subst (λ (b : Bool). MatchBool b (Grows mid (nexts ys) new × (length new ≤ limit)) (Passes limit mid (nexts ys))) (sym is) h)
+  both_found mid new xs ys grown None fits is p = both_parts mid new xs ys grown fits (subst (λ (b : Bool). MatchBool b (Grows mid (nexts ys) new × (length new ≤ limit)) (Passes limit mid (nexts ys))) (sym is) p)

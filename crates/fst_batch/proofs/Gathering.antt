@@ -1,6 +1,6 @@
 -- The passes and caches of workers are joined, one after the other.
-use Rattle.std.proofs.Common.{◌≡◌, ◌≢◌, ◌⊎◌, ⊎_elim, ℕ, ◌+◌, ◌<◌, ◌≤◌, Bool, true, List, [], ◌∷◌, ◌++◌, Option, Some, None, length, map, take, set, get_or, slice_get, refl, sym, ap, ◌∙◌, subst, append_assoc, append-nil, arith}
-use Rattle.std.specs.List.{Contains, flat_map}
+use Rattle.std.proofs.Common.{◌≡◌, ⊎_elim, ℕ, ◌+◌, ◌<◌, true, List, [], ◌∷◌, ◌++◌, Some, length, take, set, get_or, slice_get, sym, ap, ◌∙◌, subst, append_assoc, append-nil, arith}
+use Rattle.std.specs.List.{Contains}
 use Rattle.std.proofs.lemmas.Bool.{cases_eq}
 use Rattle.std.proofs.lemmas.List.{flat_map_more, map-append, take_all, take_more}
 use Rattle.std.proofs.lemmas.List.Elements.{Contains-append_left, Contains-append_right}
@@ -11,7 +11,7 @@ use Rattle.fst_machine.proofs.Elements.{Has-append_cases}
 use Rattle.fst_claims.specs.declared.table.Claims.{Claims}
 use Rattle.fst_claims.specs.declared.table.Pass.{Pass}
 use Rattle.fst_claims.specs.Passes.{IsPassOf, found, parts, won}
-use Rattle.fst_delayed.specs.Caches.{AreApart, Entries, keys}
+use Rattle.fst_delayed.specs.Caches.{Entries, keys}
 use Rattle.fst_delayed.specs.Coding.{code_of}
 use Rattle.fst_delayed.specs.Handed.{Name}
 use Rattle.fst_batch.specs.Phases.{AreGathered, IsDue, IsEmptied, IsTakenIn, Laborer, Learned, all_own}

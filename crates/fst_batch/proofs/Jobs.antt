@@ -1,6 +1,6 @@
 -- A job begins, takes names, and stops.
-use Rattle.std.proofs.Common.{◌≡◌, ◌≢◌, ◌⊎◌, inl, inr, ⊎_elim, ℕ, zero, suc, ◌+◌, ◌<◌, ◌≤◌, Bool, true, false, List, [], ◌∷◌, ◌++◌, Option, Some, None, length, map, take, get_or, slice_get, refl, sym, ap, ◌∙◌, subst, append-nil, arith}
-use Rattle.std.specs.Prelude.{MatchBool, MatchOption}
+use Rattle.std.proofs.Common.{◌≡◌, ◌⊎◌, inl, inr, ⊎_elim, ℕ, ◌+◌, ◌<◌, ◌≤◌, List, [], ◌∷◌, ◌++◌, Option, Some, None, length, map, take, get_or, slice_get, refl, sym, ap, ◌∙◌, subst, arith}
+use Rattle.std.specs.Prelude.{MatchOption}
 use Rattle.std.specs.List.{All}
 use Rattle.std.specs.Option.{option_map}
 use Rattle.std.proofs.lemmas.List.{map-append, take-append-le, take_more}
@@ -23,7 +23,7 @@ use Rattle.fst_batch.specs.declared.stage.Stage.{Stage}
 use Rattle.fst_batch.specs.declared.stage.Stage.TheVariants.{Bad, Going, Stopped}
 use Rattle.fst_batch.specs.Lattice.{HasNoZero, Point, lattice, point}
 use Rattle.fst_batch.specs.LinePaths.{moves_at}
-use Rattle.fst_batch.specs.Walks.{AreAmong, IsAt, IsHead, IsJob, IsStopped, IsWalkOf, IsWalkOfLine, LineWalk, taken_names}
+use Rattle.fst_batch.specs.Walks.{AreAmong, IsAt, IsHead, IsJob, IsWalkOf}
 use Rattle.fst_batch.proofs.Steps.{IsStep, arc_is_step, reads_byte, stays}
 
 All-Has : {X : Type 0} (P : X → Type 0) (xs : List X) → ((x : X) → Has xs x → P x) → All P xs

@@ -1,5 +1,5 @@
 -- What a line needs is what its walk has taken when it is over.
-use Rattle.std.proofs.Common.{◌≡◌, ◌⊎◌, inl, inr, ℕ, ◌+◌, ◌*◌, ◌^◌, ◌<◌, ◌≤◌, List, [], ◌∷◌, ◌++◌, Option, Some, None, length, map, take, slice_get, refl, sym, ap, ◌∙◌, subst, arith}
+use Rattle.std.proofs.Common.{◌≡◌, inl, inr, ℕ, ◌^◌, ◌<◌, ◌≤◌, List, [], ◌∷◌, Option, Some, None, length, map, take, slice_get, refl, sym, ap, ◌∙◌, subst, arith}
 use Rattle.std.specs.Prelude.{IfSome, MatchOption}
 use Rattle.std.specs.Option.{option_map}
 use Rattle.std.proofs.lemmas.List.{length-map}
@@ -7,16 +7,16 @@ use Rattle.std.proofs.lemmas.Option.{slice_get_within}
 use Rattle.fst_semiring.specs.Cost.{Cost}
 use Rattle.fst_semiring.specs.declared.arc_type.ArcType.{ArcType}
 use Rattle.fst_machine.specs.BreadthFirst.{Apart, Has}
-use Rattle.fst_machine.specs.Graph.{Graph, nexts}
+use Rattle.fst_machine.specs.Graph.{Graph}
 use Rattle.fst_machine.specs.Machine.{IsMachine, Machine, most_states}
 use Rattle.fst_machine.specs.Walking.{IsWalking}
 use Rattle.fst_machine.proofs.Arcs.{at_append_left, at_mapped}
 use Rattle.fst_machine.proofs.BreadthFirst.{at_take}
-use Rattle.fst_machine.proofs.Elements.{Apart_below, Has_at, at_Has}
+use Rattle.fst_machine.proofs.Elements.{Apart_below, at_Has}
 use Rattle.fst_delayed.specs.Caches.{keys}
 use Rattle.fst_delayed.specs.Coding.{code_of}
 use Rattle.fst_delayed.specs.Graphs.{IsKeyOf, delayed_graph}
-use Rattle.fst_delayed.specs.Handed.{IsNameBelow, Keeps, Name}
+use Rattle.fst_delayed.specs.Handed.{IsNameBelow, Name}
 use Rattle.fst_delayed.proofs.Apart.{codes_differ}
 use Rattle.fst_delayed.proofs.Inside.{delayed_keeps}
 use Rattle.fst_batch.specs.declared.stage.Stage.{Stage}

@@ -1,14 +1,13 @@
 -- Numbers of lines, and answers of the lines with these numbers.
-use Rattle.std.proofs.Common.{◌≡◌, ◌⊎◌, inl, inr, ⊎_elim, ℕ, zero, suc, ◌+◌, ◌-◌, ◌*◌, ◌<◌, ◌≤◌, List, [], ◌∷◌, ◌++◌, Some, length, map, take, set, get_or, slice_get, refl, sym, ap, ap₂, ◌∙◌, subst, append_assoc, append-nil, min, arith}
-use Rattle.std.specs.List.{AllZip, flat_map}
+use Rattle.std.proofs.Common.{◌≡◌, ◌⊎◌, inl, inr, ℕ, zero, suc, ◌+◌, ◌-◌, ◌*◌, ◌<◌, ◌≤◌, List, [], ◌∷◌, ◌++◌, Some, length, take, set, get_or, slice_get, refl, sym, ap, ◌∙◌, subst, append_assoc, append-nil, min, arith}
+use Rattle.std.specs.List.{AllZip}
 use Rattle.std.proofs.lemmas.Bool.{cases_eq, cases_lt}
 use Rattle.std.proofs.lemmas.Grind.{flat_map-append}
 use Rattle.std.proofs.lemmas.List.{length-append, take_more, take_more_set}
 use Rattle.fst_machine.specs.BreadthFirst.{Has}
-use Rattle.fst_machine.proofs.Arcs.{append_at, at_append_right}
+use Rattle.fst_machine.proofs.Arcs.{at_append_right}
 use Rattle.fst_batch.specs.Phases.{Laborer}
 use Rattle.fst_batch.specs.Runs.{IsAnswerAt, all_lines, job_lines, run}
-use Rattle.fst_batch.specs.Walks.{LineWalk}
 
 -- so many numbers, and so many more
 pub run_more : (from n m : ℕ) → run from (n + m) ≡ run from n ++ run (from + n) m

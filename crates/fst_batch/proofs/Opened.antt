@@ -1,7 +1,6 @@
 -- Lines that are dealt, walked to their end, and known.
-use Rattle.std.proofs.Common.{◌≡◌, ◌⊎◌, inl, inr, ⊎_elim, ℕ, zero, suc, ◌+◌, ◌-◌, ◌<◌, ◌≤◌, Bool, true, List, [], ◌∷◌, ◌++◌, Some, None, length, map, slice_get, refl, sym, ap, ap₂, ◌∙◌, subst, append-nil, arith}
+use Rattle.std.proofs.Common.{◌≡◌, ⊎_elim, ℕ, suc, ◌+◌, ◌<◌, ◌≤◌, Bool, List, [], ◌∷◌, ◌++◌, Some, length, map, slice_get, refl, sym, ap, ◌∙◌, subst, arith}
 use Rattle.std.specs.Prelude.{sum_by}
-use Rattle.std.specs.List.{All}
 use Rattle.std.proofs.lemmas.List.{map-append}
 use Rattle.std.proofs.lemmas.List.Elements.{All-nil}
 use Rattle.std.proofs.lemmas.List.Sums.{sum_by-cons}
@@ -15,12 +14,11 @@ use Rattle.fst_walk.specs.Names.{key_arc}
 use Rattle.fst_delayed.specs.Caches.{Entries, keys}
 use Rattle.fst_delayed.specs.Graphs.{delayed_graph}
 use Rattle.fst_delayed.specs.Handed.{Name}
-use Rattle.fst_batch.specs.Expansions.{AreNeeded, IsExpansions, IsNeededOf}
+use Rattle.fst_batch.specs.Expansions.{AreNeeded}
 use Rattle.fst_batch.specs.Needed.{IsNeeded}
 use Rattle.fst_batch.specs.Phases.{AreEach, Laborer}
-use Rattle.fst_batch.specs.Runs.{AreDone, IsBetween, IsDealt, IsHired, IsNew, all_lines, job_lines, run}
-use Rattle.fst_batch.specs.Serving.{IsJobOf}
-use Rattle.fst_batch.specs.Walks.{IsJob, LineWalk}
+use Rattle.fst_batch.specs.Runs.{AreDone, IsBetween, IsDealt, IsNew, all_lines, job_lines, run}
+use Rattle.fst_batch.specs.Walks.{LineWalk}
 use Rattle.fst_batch.proofs.Numbers.{run_Has}
 use Rattle.fst_batch.proofs.Hired.{none_counted}
 use Rattle.fst_batch.proofs.Needs.{over_needed}

@@ -1,6 +1,5 @@
 -- What a worker has, while it serves a job.
-use Rattle.std.proofs.Common.{◌≡◌, ◌≢◌, ◌⊎◌, inl, inr, ⊎_elim, ℕ, zero, suc, ◌+◌, ◌-◌, ◌*◌, ◌<◌, ◌≤◌, Bool, true, false, cond, List, [], ◌∷◌, ◌++◌, Some, length, map, get_or, slice_get, refl, sym, ap, ◌∙◌, subst, append_assoc, append-nil, arith}
-use Rattle.std.specs.List.{All}
+use Rattle.std.proofs.Common.{◌≡◌, ◌⊎◌, inl, inr, ⊎_elim, ℕ, ◌+◌, ◌-◌, ◌*◌, ◌<◌, ◌≤◌, Bool, true, false, cond, List, [], ◌∷◌, ◌++◌, Some, length, map, slice_get, refl, sym, ap, ◌∙◌, subst, append_assoc, append-nil, arith}
 use Rattle.std.proofs.lemmas.Bool.{cases_lt}
 use Rattle.std.proofs.lemmas.List.{length-map, map-append}
 use Rattle.std.proofs.lemmas.List.Elements.{All-push}
@@ -13,13 +12,13 @@ use Rattle.fst_machine.specs.Machine.{Arc, Machine}
 use Rattle.fst_machine.proofs.Arcs.{at_append_left}
 use Rattle.fst_machine.proofs.Elements.{Has-append_cases, Has-append_left, Has-append_right, at_Has}
 use Rattle.fst_walk.specs.Names.{key_arc}
-use Rattle.fst_delayed.specs.Caches.{AreApart, Entries, IsTrueOf, keys}
+use Rattle.fst_delayed.specs.Caches.{Entries, IsTrueOf, keys}
 use Rattle.fst_delayed.specs.Coding.{code_of}
 use Rattle.fst_delayed.specs.Graphs.{IsKeyOf, delayed_graph}
 use Rattle.fst_delayed.specs.Handed.{Name}
 use Rattle.fst_batch.specs.declared.stage.Stage.TheVariants.{Going}
 use Rattle.fst_batch.specs.Lattice.{Point, lattice}
-use Rattle.fst_batch.specs.Needed.{IsNeeded, IsTaken}
+use Rattle.fst_batch.specs.Needed.{IsNeeded}
 use Rattle.fst_batch.specs.Serving.{IsBlocked, IsGrown, IsOwn, codes}
 use Rattle.fst_batch.specs.Walks.{AreAmong, IsAt, IsHead, IsJob, IsWalkOf, LineWalk}
 use Rattle.fst_batch.proofs.Blocking.{blocked_later}

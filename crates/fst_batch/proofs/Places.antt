@@ -1,5 +1,5 @@
 -- The place of a name in a table.
-use Rattle.std.proofs.Common.{◌≡◌, ℕ, Bool, true, false, true≢false, List, Option, None, Some, slice_get, sym, ap, ◌∙◌}
+use Rattle.std.proofs.Common.{◌≡◌, ℕ, Bool, true≢false, List, Option, None, Some, slice_get, sym, ap, ◌∙◌}
 use Rattle.std.specs.Prelude.{MatchOption, is_some, position}
 use Rattle.std.specs.Bool.{Decides}
 use Rattle.std.specs.List.{list_any}

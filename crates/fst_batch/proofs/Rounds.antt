@@ -1,5 +1,5 @@
 -- A phase, from what its parts do.
-use Rattle.std.proofs.Common.{◌≡◌, ◌≢◌, ◌⊎◌, inl, inr, ⊎_elim, ℕ, zero, suc, ◌+◌, ◌<◌, ◌≤◌, Bool, true, List, [], ◌∷◌, ◌++◌, Option, Some, None, length, map, slice_get, refl, sym, ap, ◌∙◌, subst, arith}
+use Rattle.std.proofs.Common.{◌≡◌, ◌⊎◌, inl, inr, ⊎_elim, ℕ, zero, suc, ◌+◌, ◌<◌, Bool, true, List, [], ◌∷◌, ◌++◌, Some, length, map, slice_get, refl, sym, ap, ◌∙◌, subst}
 use Rattle.std.specs.List.{All, Contains, flat_map}
 use Rattle.std.proofs.lemmas.List.{length-map, map-append}
 use Rattle.std.proofs.lemmas.List.Elements.{All-append, All-nil}
@@ -12,14 +12,14 @@ use Rattle.fst_machine.proofs.Elements.{Has-append_cases, Has-append_left, Has-a
 use Rattle.fst_walk.specs.Names.{key_arc}
 use Rattle.fst_claims.specs.declared.table.Claims.{Claims}
 use Rattle.fst_claims.specs.declared.table.Pass.{Pass}
-use Rattle.fst_claims.specs.Passes.{IsPassOf, found, parts, won}
+use Rattle.fst_claims.specs.Passes.{found, parts, won}
 use Rattle.fst_claims.specs.Rule.{all_parts}
-use Rattle.fst_delayed.specs.Caches.{AreApart, Entries, IsTrueOf, keys}
+use Rattle.fst_delayed.specs.Caches.{Entries, IsTrueOf, keys}
 use Rattle.fst_delayed.specs.Coding.{code_of}
 use Rattle.fst_delayed.specs.Graphs.{delayed_graph}
 use Rattle.fst_delayed.specs.Handed.{Name}
-use Rattle.fst_batch.specs.Phases.{AllRun, AreEach, AreGathered, HasDone, HasEnded, HasRun, IsDue, IsEmptied, IsHanded, IsIdle, IsLeft, IsPhase, IsReady, Laborer, Learned, all_own}
-use Rattle.fst_batch.specs.Serving.{HasServed, IsBlocked, IsJobOf, IsNeededBy, IsServed, IsWaiting, codes}
+use Rattle.fst_batch.specs.Phases.{AllRun, AreEach, AreGathered, HasDone, HasEnded, HasRun, IsDue, IsHanded, IsIdle, IsLeft, IsPhase, IsReady, Laborer, Learned, all_own}
+use Rattle.fst_batch.specs.Serving.{IsBlocked, IsNeededBy, IsServed, IsWaiting, codes}
 use Rattle.fst_batch.specs.Walks.{AreAmong, LineWalk}
 use Rattle.fst_batch.proofs.Own.{job_known}
 

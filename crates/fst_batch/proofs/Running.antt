@@ -1,5 +1,5 @@
 -- What a worker has done after its run.
-use Rattle.std.proofs.Common.{◌≡◌, ◌+◌, ◌^◌, ◌<◌, ℕ, List, [], Bool, true, false, true≢false, Option, Some, None, Result, Ok, Err, length, refl, sym, ap, ◌∙◌, subst, is_ok, ◌++◌, ◌≤◌, take, arith}
+use Rattle.std.proofs.Common.{◌≡◌, ◌+◌, ℕ, List, Bool, true, true≢false, Some, Result, Ok, Err, length, sym, ap, ◌∙◌, subst, is_ok, ◌++◌, take, arith}
 use Rattle.std.proofs.lemmas.List.{take-append-le, take_all}
 use Rattle.std.specs.Prelude.{OnOk}
 use Rattle.fst_semiring.specs.Cost.{Cost}
@@ -11,7 +11,7 @@ use Rattle.fst_claims.specs.Passes.{IsPassOf, found, parts, won}
 use Rattle.fst_delayed.specs.Caches.{Entries}
 use Rattle.fst_delayed.specs.Graphs.{delayed_graph}
 use Rattle.fst_delayed.specs.Handed.{Name}
-use Rattle.fst_batch.specs.Phases.{HasDone, HasRun, IsReady, Laborer}
+use Rattle.fst_batch.specs.Phases.{HasRun, IsReady, Laborer}
 use Rattle.fst_batch.specs.Serving.{HasServed, IsOwn}
 use Rattle.fst_batch.specs.Walks.{LineWalk}
 

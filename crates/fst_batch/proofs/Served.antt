@@ -1,11 +1,10 @@
 -- A worker that serves its jobs, one after the other.
-use Rattle.std.proofs.Common.{◌≡◌, ◌≢◌, ◌⊎◌, inl, inr, ⊎_elim, ℕ, zero, suc, ◌+◌, ◌<◌, ◌≤◌, List, [], ◌∷◌, ◌++◌, Some, length, map, set, slice_get, length-set, refl, sym, ap, ◌∙◌, subst, arith}
-use Rattle.std.proofs.lemmas.Bool.{cases_eq, cases_lt}
+use Rattle.std.proofs.Common.{◌≡◌, ◌≢◌, inl, inr, ⊎_elim, ℕ, zero, suc, ◌+◌, ◌<◌, ◌≤◌, List, [], ◌∷◌, ◌++◌, Some, length, set, slice_get, length-set, refl, sym, ap, ◌∙◌, subst, arith}
+use Rattle.std.proofs.lemmas.Bool.{cases_eq}
 use Rattle.std.proofs.lemmas.List.{map-append}
 use Rattle.fst_semiring.specs.Cost.{Cost}
 use Rattle.fst_semiring.specs.declared.arc_type.ArcType.{ArcType}
 use Rattle.fst_machine.specs.BreadthFirst.{Has}
-use Rattle.fst_machine.specs.Graph.{Graph}
 use Rattle.fst_machine.specs.Machine.{Arc, Machine}
 use Rattle.fst_machine.proofs.Elements.{Has-append_cases, Has-append_left, Has-append_right, at_Has}
 use Rattle.fst_delayed.specs.Caches.{Entries, keys}
@@ -13,7 +12,7 @@ use Rattle.fst_delayed.specs.Coding.{code_of}
 use Rattle.fst_delayed.specs.Graphs.{delayed_graph}
 use Rattle.fst_delayed.specs.Handed.{Name}
 use Rattle.fst_batch.specs.Needed.{IsNeeded}
-use Rattle.fst_batch.specs.Serving.{IsBlocked, IsGrown, IsJobOf, IsNeededBy, IsSameJob, IsServed, IsSettled, IsWaiting}
+use Rattle.fst_batch.specs.Serving.{IsBlocked, IsGrown, IsJobOf, IsNeededBy, IsSameJob, IsServed, IsSettled}
 use Rattle.fst_batch.specs.Walks.{AreAmong, IsJob, LineWalk}
 use Rattle.fst_batch.proofs.Blocking.{blocked_later}
 use Rattle.fst_batch.proofs.Own.{job_known}

@@ -1,5 +1,5 @@
 -- The arcs at a name of a lattice are made of the transitions at its name in the graph.
-use Rattle.std.proofs.Common.{◌≡◌, ◌≢◌, ◌⊎◌, inl, inr, ℕ, zero, suc, ◌+◌, ◌<◌, ◌≤◌, true, nat_eq, filter, List, [], ◌∷◌, ◌++◌, Option, None, Some, length, map, slice_get, refl, sym, ap, ap₂, ◌∙◌, subst, eq-eqb, eqb-true, arith}
+use Rattle.std.proofs.Common.{◌≡◌, ◌≢◌, ◌⊎◌, inl, inr, ℕ, ◌+◌, nat_eq, List, ◌++◌, Option, None, Some, length, map, slice_get, refl, sym, ap, ap₂, ◌∙◌, eq-eqb, eqb-true, arith}
 use Rattle.std.proofs.lemmas.List.{length-map}
 use Rattle.fst_semiring.specs.Cost.{Cost}
 use Rattle.fst_machine.specs.BreadthFirst.{Apart, Has}
@@ -10,7 +10,7 @@ use Rattle.fst_machine.proofs.Arcs.{append_at, at_append_left, at_append_right, 
 use Rattle.fst_machine.proofs.Elements.{Has_at, at_Has}
 use Rattle.fst_delayed.specs.Handed.{transitions}
 use Rattle.fst_delayed.proofs.Handed.{Apart-append, leaves_transitions, transitions-Apart, transitions_from-arcs, transitions_leave}
-use Rattle.fst_batch.specs.Lattice.{Point, arc_to, byte_arcs, lattice, point, reading}
+use Rattle.fst_batch.specs.Lattice.{Point, arc_to, byte_arcs, lattice, reading}
 use Rattle.fst_batch.specs.LinePaths.{byte_moves, moves_at, moving}
 use Rattle.fst_batch.proofs.Filtering.{Has-filter, filter_Apart, filter_Has, filter_map-of, map-map}
 

@@ -1,6 +1,6 @@
 -- A batch on its way: what holds between phases, and what is answered.
-use Rattle.std.specs.Prelude.{◌≡◌, ◌+◌, ◌<◌, ℕ, zero, suc, Bool, true, List, [], ◌∷◌, None, Some, length, map, slice_get, sum_by}
-use Rattle.std.specs.List.{AllZip, flat_map}
+use Rattle.std.specs.Prelude.{◌≡◌, ◌+◌, ℕ, zero, suc, Bool, true, List, [], ◌∷◌, None, Some, length, map, slice_get, sum_by}
+use Rattle.std.specs.List.{flat_map}
 use Rattle.fst_semiring.specs.Cost.{Cost}
 use Rattle.fst_semiring.specs.declared.arc_type.ArcType.{ArcType}
 use Rattle.fst_machine.specs.BreadthFirst.{Has}
@@ -9,7 +9,6 @@ use Rattle.fst_delayed.specs.Caches.{Entries, IsTrueOf, keys}
 use Rattle.fst_delayed.specs.Graphs.{delayed_graph}
 use Rattle.fst_delayed.specs.Handed.{Name}
 use Rattle.fst_batch.specs.Expansions.{IsNeededOf}
-use Rattle.fst_batch.specs.Needed.{IsNeeded}
 use Rattle.fst_batch.specs.Phases.{Laborer}
 use Rattle.fst_batch.specs.Serving.{IsJobOf}
 use Rattle.fst_batch.specs.Walks.{IsOver, LineWalk}

@@ -1,5 +1,5 @@
 -- A worker of a batch: it claims the keys that its jobs need, and expands those that it wins into a cache of its own.
-use Rattle.std.specs.Prelude.{◌≡◌, ◌≢◌, ◌⊎◌, ◌+◌, ◌<◌, ◌≤◌, ◌++◌, ℕ, List, [], ◌∷◌, All, Some, length, map, slice_get}
+use Rattle.std.specs.Prelude.{◌≡◌, ◌⊎◌, ◌<◌, ◌≤◌, ◌++◌, ℕ, List, Some, length, map, slice_get}
 use Rattle.std.specs.List.{Contains}
 use Rattle.fst_semiring.specs.Cost.{Cost}
 use Rattle.fst_semiring.specs.declared.arc_type.ArcType.{ArcType}
@@ -8,7 +8,7 @@ use Rattle.fst_machine.specs.Graph.{Graph}
 use Rattle.fst_machine.specs.Machine.{Machine}
 use Rattle.fst_delayed.specs.Caches.{AreApart, Entries, IsTrueOf, keys}
 use Rattle.fst_delayed.specs.Coding.{code_of}
-use Rattle.fst_delayed.specs.Graphs.{IsKeyOf, delayed_graph}
+use Rattle.fst_delayed.specs.Graphs.{delayed_graph}
 use Rattle.fst_delayed.specs.Handed.{Name}
 use Rattle.fst_batch.specs.Lattice.{Point}
 use Rattle.fst_batch.specs.Needed.{IsNeeded}

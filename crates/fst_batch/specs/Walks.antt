@@ -1,7 +1,7 @@
 -- The walk of a line on its way.
-use Rattle.std.specs.Prelude.{◌≡◌, ◌+◌, ◌<◌, ◌≤◌, ◌++◌, ℕ, List, [], All, MatchOption, Some, length, map, slice_get, take}
+use Rattle.std.specs.Prelude.{◌≡◌, ◌+◌, ◌≤◌, ◌++◌, ℕ, List, [], All, MatchOption, Some, length, map, slice_get, take}
 use Rattle.fst_semiring.specs.Cost.{Cost}
-use Rattle.fst_machine.specs.BreadthFirst.{Grows, Has}
+use Rattle.fst_machine.specs.BreadthFirst.{Has}
 use Rattle.fst_machine.specs.Graph.{Graph, nexts}
 use Rattle.fst_semiring.specs.declared.arc_type.ArcType.{ArcType}
 use Rattle.fst_machine.specs.Machine.{Arc, Machine}

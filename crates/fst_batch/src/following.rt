@@ -1,12 +1,12 @@
 //! The arcs of a name of a lattice.
 
-ghost use Rattle.std.specs.Prelude.{◌≡◌, ◌+◌, ◌∷◌, [], ◌<◌, ◌≤◌, ℕ, List, ◌++◌, IfOk, MatchBool, OnOk, length, map, slice_get};
+ghost use Rattle.std.specs.Prelude.{◌≡◌, ◌+◌, ◌∷◌, [], ◌<◌, ◌≤◌, ℕ, List, ◌++◌, IfOk, MatchBool, MatchOption, OnOk, Some, false, length, map, slice_get};
 ghost use Rattle.fst_machine.specs.BreadthFirst.{Grows};
 ghost use Rattle.fst_machine.specs.Graph.{nexts};
 ghost use Rattle.fst_walk.specs.Making.{Passes};
 ghost use Rattle.fst_walk.specs.Names.{key_arc};
 ghost use Rattle.fst_delayed.specs.Handed.{Name};
-ghost use Rattle.fst_batch.specs.Lattice.{Point, byte_arcs, point_arcs};
+ghost use Rattle.fst_batch.specs.Lattice.{Point, byte_arcs, point_arcs, reading};
 ghost use Rattle.fst_batch.specs.Walks.{label_arcs};
 
 use crate::points::Points;
@@ -33,42 +33,49 @@ fn find_one<W: Weight>(
     points.find(position, arc.next, limit)
 }
 
-/// Finds the names at a position to which those of these arcs lead that read a label. False where there are then more
-/// names than the limit.
+/// Finds the names at a position to which those of these arcs lead that read a label, and tells whether any of the arcs
+/// reads epsilon; `None` where there are then more names than the limit.
 fn find_label<W: Weight>(
     points: &mut Points,
     arcs: &[KeyArc<W>],
     label: u32,
     position: u64,
     limit: u32,
-) -> Result<bool, AllocError>
+) -> Result<Option<bool>, AllocError>
     requires few { length points.old ≤ limit }
-    ensures finds { IfOk result (λ fits. MatchBool fits (Grows points.old (nexts (label_arcs label position (map (key_arc W.wide_value) arcs.now))) points.new × (length points.new ≤ limit)) (Passes limit points.old (nexts (label_arcs label position (map (key_arc W.wide_value) arcs.now))))) }
+    ensures finds { IfOk result (λ found. MatchOption found (Passes limit points.old (nexts (label_arcs label position (map (key_arc W.wide_value) arcs.now)))) (λ silent. Grows points.old (nexts (label_arcs label position (map (key_arc W.wide_value) arcs.now))) points.new × (length points.new ≤ limit))) }
+    ensures silent { IfOk result (λ found. found ≡ Some false → reading 0 (map (key_arc W.wide_value) arcs.now) ≡ []) }
     ensures front { OnOk result ((more : List (Point (Name ℕ ℕ))) × (points.new ≡ points.old ++ more)) }
 {
+    let mut silent = false;
     for arc in arcs {
         let fits = find_one(points, arc, label, position, limit)?;
         if !fits {
-            return Ok(false);
+            return Ok(None);
+        }
+        if arc.ilabel == 0 {
+            silent = true;
         }
     }
-    Ok(true)
+    Ok(Some(silent))
 }
 
-/// Finds the names to which those of the arcs lead that read the byte behind a position, if there is one.
+/// Finds the names to which those of the arcs lead that read the byte behind a position, if there is one, and tells
+/// whether any of the arcs may read epsilon; `None` where there are then more names than the limit.
 fn find_byte<W: Weight>(
     points: &mut Points,
     arcs: &[KeyArc<W>],
     line: &[u8],
     position: u64,
     limit: u32,
-) -> Result<bool, AllocError>
+) -> Result<Option<bool>, AllocError>
     requires few { length points.old ≤ limit }
-    ensures finds { IfOk result (λ fits. MatchBool fits (Grows points.old (nexts (byte_arcs (slice_get line.now position) position (map (key_arc W.wide_value) arcs.now))) points.new × (length points.new ≤ limit)) (Passes limit points.old (nexts (byte_arcs (slice_get line.now position) position (map (key_arc W.wide_value) arcs.now))))) }
+    ensures finds { IfOk result (λ found. MatchOption found (Passes limit points.old (nexts (byte_arcs (slice_get line.now position) position (map (key_arc W.wide_value) arcs.now)))) (λ silent. Grows points.old (nexts (byte_arcs (slice_get line.now position) position (map (key_arc W.wide_value) arcs.now))) points.new × (length points.new ≤ limit))) }
+    ensures silent { IfOk result (λ found. found ≡ Some false → reading 0 (map (key_arc W.wide_value) arcs.now) ≡ []) }
     ensures front { OnOk result ((more : List (Point (Name ℕ ℕ))) × (points.new ≡ points.old ++ more)) }
 {
     if position >= line.len() as u64 {
-        return Ok(true);
+        return Ok(Some(true));
     }
     let byte = line[position as usize];
     find_label(points, arcs, u32::from(byte), position + 1, limit)
@@ -87,10 +94,13 @@ pub(crate) fn follow<W: Weight>(
     ensures finds { IfOk result (λ fits. MatchBool fits (Grows points.old (nexts (point_arcs line.now position (map (key_arc W.wide_value) arcs.now))) points.new × (length points.new ≤ limit)) (Passes limit points.old (nexts (point_arcs line.now position (map (key_arc W.wide_value) arcs.now))))) }
     ensures front { OnOk result ((more : List (Point (Name ℕ ℕ))) × (points.new ≡ points.old ++ more)) }
 {
-    let fits = find_byte(points, arcs, line, position, limit)?;
-    if !fits {
+    let Some(silent) = find_byte(points, arcs, line, position, limit)? else {
         return Ok(false);
+    };
+    // Most names have no arc that reads epsilon, so that their arcs are looked at once.
+    if !silent {
+        return Ok(true);
     }
     let all = find_label(points, arcs, 0, position, limit)?;
-    Ok(all)
+    Ok(all.is_some())
 }

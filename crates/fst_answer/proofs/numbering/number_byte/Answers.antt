@@ -9,8 +9,8 @@ use Rattle.fst_answer.proofs.Continuing.{continues_none}
 use Rattle.fst_answer.proofs.Lattices.{past_end}
 use Rattle.fst_answer.proofs.numbering.number_byte.Goals as goal
 
-pub returns-then-position-line : goal.returns-then-position-line
-returns-then-position-line g c =
+pub returns-then-position-line-clause-arcs : goal.returns-then-position-line-clause-arcs
+returns-then-position-line-clause-arcs g c =
     let value = g.W.Weight.wide_value in
     let old = map (valued_arc value) c.args.out.now.items in
     let none = past_end c.args.line.now c.args.position (let past = c.if-position-line.true in omega arith) in
@@ -19,10 +19,10 @@ returns-then-position-line g c =
 pub number_label-requires-clause-found : goal.number_label-requires-clause-found
 number_label-requires-clause-found g c = c.requires.found c.from.result (slice_get-get_or c.args.line.now c.args.position 0 c.if-position-line.false ∙ ap Some (sym c.from.ensures))
 
-pub returns : goal.returns
-returns g c =
+pub returns-clause-arcs : goal.returns-clause-arcs
+returns-clause-arcs g c =
     let value = g.W.Weight.wide_value in
     let at : slice_get c.args.line.now c.args.position ≡ Some c.from.result = slice_get-get_or c.args.line.now c.args.position 0 c.if-position-line.false ∙ ap Some (sym c.from.ensures) in
     on_ok_weaker c.number_label.result
     (λ h. subst (λ (o : Option ℕ). Continues c.args.points.now (byte_arcs o c.args.position (map (key_arc value) c.args.arcs.now)) (map (valued_arc value) c.args.out.now.items) (map (valued_arc value) c.number_label.new.out.items)) (sym at) h)
-    c.number_label.ensures
+    c.number_label.ensures.arcs

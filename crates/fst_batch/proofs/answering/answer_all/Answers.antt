@@ -1,11 +1,9 @@
-use Rattle.std.proofs.Common.{◌≡◌, ◌+◌, ◌<◌, ◌≤◌, ◌++◌, ◌∷◌, ℕ, List, Ok, Some, drop, get_or, length, map, slice_get, take, ap, sym, ◌∙◌, subst, rules, arith}
-use Rattle.std.specs.List.{AllZip}
+use Rattle.std.proofs.Common.{◌≡◌, drop, get_or, length, map, slice_get, ap, sym, ◌∙◌, subst, rules, arith}
 use Rattle.std.specs.Vec.Iter.{into_iter_items}
 use Rattle.std.proofs.lemmas.List.{length-map}
 use Rattle.std.proofs.lemmas.Option.{slice_get-get_or}
 use Rattle.fst_machine.proofs.Arcs.{at_mapped}
-use Rattle.fst_batch.specs.Runs.{AreWalked, IsAnswerAt, job_lines}
-use Rattle.fst_batch.specs.Walks.{LineWalk}
+use Rattle.fst_batch.specs.Runs.{AreWalked, IsAnswerAt}
 use Rattle.fst_batch.proofs.Running.{whole_left}
 use Rattle.fst_batch.proofs.Shares.{AreCollecting, collecting_begins, collecting_ends, collecting_goes, share_there}
 use Rattle.fst_batch.proofs.answering.answer_all.Goals as goal

@@ -1,4 +1,4 @@
-use Rattle.std.proofs.Common.{◌≡◌, ◌+◌, ◌++◌, ◌∷◌, [], ◌<◌, List, ℕ, Some, get_or, length, map, take, slice_get, sym, ap, ◌∙◌, subst, arith}
+use Rattle.std.proofs.Common.{◌≡◌, ◌+◌, ◌++◌, ◌∷◌, [], ◌<◌, List, ℕ, Some, length, take, slice_get, sym, ap, ◌∙◌, subst, arith}
 use Rattle.std.specs.List.{AllZip}
 use Rattle.std.proofs.lemmas.List.{map_more, take_all}
 use Rattle.std.proofs.lemmas.Option.{slice_get-get_or, slice_get_within}

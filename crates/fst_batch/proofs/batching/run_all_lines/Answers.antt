@@ -1,8 +1,6 @@
-use Rattle.std.proofs.Common.{◌≡◌, ◌⊎◌, ⊎_elim, ◌+◌, ◌-◌, ◌++◌, [], ◌<◌, ◌≤◌, List, ℕ, Some, length, min, slice_get, refl, sym, ap, ◌∙◌, subst, arith}
+use Rattle.std.proofs.Common.{◌≡◌, ⊎_elim, ◌+◌, ◌-◌, ◌++◌, [], ◌<◌, ◌≤◌, List, ℕ, length, refl, sym, ap, ◌∙◌, subst, arith}
 use Rattle.std.specs.List.{AllZip}
 use Rattle.std.proofs.lemmas.Bool.{cases_lt}
-use Rattle.fst_machine.specs.BreadthFirst.{Has}
-use Rattle.fst_delayed.specs.Caches.{keys}
 use Rattle.fst_batch.specs.Runs.{IsAnswerAt, run}
 use Rattle.fst_batch.proofs.Numbers.{run_more, zip_append, zip_lines}
 use Rattle.fst_batch.proofs.Opened.{kept_entries}

@@ -1,4 +1,4 @@
-use Rattle.std.proofs.Common.{◌≡◌, ◌+◌, ◌-◌, ◌++◌, ◌^◌, ◌<◌, ◌≤◌, List, [], ℕ, Option, Some, drop, length, slice_get, refl, sym, ap, ◌∙◌, subst, true, arith}
+use Rattle.std.proofs.Common.{◌≡◌, ◌+◌, ◌^◌, ◌<◌, List, [], ℕ, Option, Some, drop, length, slice_get, sym, ap, ◌∙◌, subst, arith}
 use Rattle.std.specs.Prelude.{IfSome, sum_by}
 use Rattle.fst_delayed.specs.Caches.{Entries, keys}
 use Rattle.fst_delayed.specs.Graphs.{IsKeyOf}

@@ -1,8 +1,6 @@
-use Rattle.std.proofs.Common.{◌≡◌, ◌+◌, ◌-◌, ◌++◌, ◌<◌, ◌≤◌, List, ℕ, Some, length, slice_get, ap, sym, ◌∙◌, subst, arith}
+use Rattle.std.proofs.Common.{◌-◌, List, ℕ, ◌∙◌, subst, arith}
 use Rattle.std.specs.List.{AllZip}
-use Rattle.fst_delayed.specs.Caches.{keys}
-use Rattle.fst_batch.specs.Runs.{AreAnswerable, IsAnswerAt, all_lines, run}
-use Rattle.fst_batch.specs.Serving.{IsJobOf}
+use Rattle.fst_batch.specs.Runs.{IsAnswerAt}
 use Rattle.fst_batch.proofs.Opened.{dealt_between, done_known}
 use Rattle.fst_batch.proofs.batching.run_some.Goals as goal
 

@@ -1,7 +1,6 @@
-use Rattle.std.proofs.Common.{◌≡◌, ◌+◌, ◌-◌, ◌++◌, ◌^◌, ◌<◌, ◌≤◌, List, [], ℕ, Option, length, ap, sym, ◌∙◌, subst, append_assoc, append-nil, arith}
+use Rattle.std.proofs.Common.{◌++◌, ◌^◌, ◌<◌, ℕ, Option, length, ap, ◌∙◌, subst, append_assoc, arith}
 use Rattle.std.specs.Prelude.{IfSome}
 use Rattle.std.specs.List.{flat_map}
-use Rattle.fst_delayed.specs.Caches.{keys}
 use Rattle.fst_delayed.specs.Graphs.{IsKeyOf}
 use Rattle.fst_delayed.specs.Handed.{Name}
 use Rattle.fst_batch.proofs.Between.{is_between, is_idle, is_longer, same_lines}

@@ -1,9 +1,7 @@
-use Rattle.std.proofs.Common.{◌≡◌, ◌+◌, ◌*◌, ◌++◌, ◌∷◌, [], ◌<◌, ◌≤◌, List, ℕ, Some, length, refl, sym, ap, ◌∙◌, subst, arith}
-use Rattle.fst_semiring.specs.Cost.{Cost}
-use Rattle.fst_machine.specs.Machine.{Arc, State, arc_total}
+use Rattle.std.proofs.Common.{◌≡◌, ◌++◌, ◌∷◌, [], ◌<◌, ℕ, Some, length, ap, ◌∙◌, arith}
 use Rattle.fst_batch.specs.Cascade.{behind_arcs, first_arcs, first_end, first_size, first_states, letters, whole}
 use Rattle.fst_batch.specs.Draws.{drawn, next_state}
-use Rattle.fst_batch.proofs.Drawn.{Good, first_arcs_good, first_end_done, first_end_more, first_state, first_states_done, first_states_more, made_more, made_none}
+use Rattle.fst_batch.proofs.Drawn.{first_arcs_good, first_end_done, first_end_more, first_state, first_states_done, first_states_more, made_more}
 use Rattle.fst_batch.proofs.cascade.draw_first.Goals as goal
 
 pub push-requires : goal.push-requires

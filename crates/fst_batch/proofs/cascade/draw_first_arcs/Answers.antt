@@ -1,7 +1,5 @@
-use Rattle.std.proofs.Common.{◌≡◌, ◌++◌, ◌<◌, ◌≤◌, List, [], length, refl, ap, ◌∙◌, arith}
-use Rattle.fst_semiring.specs.Cost.{Cost}
-use Rattle.fst_machine.specs.Machine.{Arc}
-use Rattle.fst_batch.specs.Cascade.{first_arcs, behind_arcs, letters}
+use Rattle.std.proofs.Common.{◌<◌, arith}
+use Rattle.fst_batch.specs.Cascade.{first_arcs, letters}
 use Rattle.fst_batch.specs.Draws.{skip}
 use Rattle.fst_batch.proofs.Drawn.{first_arcs_done, first_arcs_more, skip_done, skip_more}
 use Rattle.fst_batch.proofs.cascade.draw_first_arcs.Goals as goal

@@ -1,4 +1,4 @@
-use Rattle.std.proofs.Common.{◌≡◌, ◌+◌, ◌++◌, ◌∷◌, [], ◌<◌, ◌≤◌, List, ℕ, ap, ◌∙◌, arith}
+use Rattle.std.proofs.Common.{◌+◌, ◌++◌, ◌∷◌, [], ◌<◌, ℕ, ap, ◌∙◌, arith}
 use Rattle.fst_batch.specs.Cascade.{drawn_letters}
 use Rattle.fst_batch.specs.Draws.{skip}
 use Rattle.fst_batch.proofs.Drawn.{letters_done, letters_more, skip_done, skip_more}

@@ -1,6 +1,6 @@
-use Rattle.std.proofs.Common.{◌≡◌, ◌+◌, ◌++◌, ◌∷◌, [], ◌<◌, ◌≤◌, List, ℕ, ap, ap₂, ◌∙◌, subst, arith}
+use Rattle.std.proofs.Common.{◌≡◌, ◌+◌, ◌++◌, ◌∷◌, [], ◌<◌, List, ℕ, ap, ap₂, ◌∙◌, arith}
 use Rattle.fst_batch.specs.Cascade.{drawn_letters, drawn_lines}
-use Rattle.fst_batch.specs.Draws.{after, drawn, next_state, skip}
+use Rattle.fst_batch.specs.Draws.{drawn, next_state, skip}
 use Rattle.fst_batch.proofs.Drawn.{lines_done, lines_more}
 use Rattle.fst_batch.proofs.cascade.draw_lines.Goals as goal
 

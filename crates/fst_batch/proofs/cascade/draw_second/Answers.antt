@@ -1,8 +1,6 @@
-use Rattle.std.proofs.Common.{◌≡◌, ◌+◌, ◌*◌, ◌++◌, ◌∷◌, [], ◌<◌, ◌≤◌, List, ℕ, Some, length, refl, sym, ap, ◌∙◌, subst, arith}
-use Rattle.fst_semiring.specs.Cost.{Cost}
-use Rattle.fst_machine.specs.Machine.{Arc, State, arc_total}
-use Rattle.fst_batch.specs.Cascade.{letters, second_arcs, second_end, second_size, second_states, whole}
-use Rattle.fst_batch.proofs.Drawn.{Good, made_more, made_none, second_arcs_good, second_end_done, second_end_more, second_state, second_states_done, second_states_more}
+use Rattle.std.proofs.Common.{◌≡◌, ◌++◌, ◌∷◌, [], ◌<◌, Some, length, ap, ◌∙◌, arith}
+use Rattle.fst_batch.specs.Cascade.{letters, second_arcs, second_end, second_size, second_states}
+use Rattle.fst_batch.proofs.Drawn.{made_more, second_arcs_good, second_end_done, second_end_more, second_state, second_states_done, second_states_more}
 use Rattle.fst_batch.proofs.cascade.draw_second.Goals as goal
 
 pub push-requires : goal.push-requires

@@ -1,4 +1,4 @@
-use Rattle.std.proofs.Common.{◌≡◌, ◌-◌, ◌++◌, ◌≤◌}
+use Rattle.std.proofs.Common.{◌≡◌, ◌-◌, ◌++◌}
 use Rattle.fst_batch.specs.Cascade.{second_arcs, letters}
 use Rattle.fst_batch.specs.Draws.{skip}
 use Rattle.fst_batch.proofs.cascade.draw_second_arcs.Given as goal

@@ -1,6 +1,6 @@
-use Rattle.std.proofs.Common.{◌≡◌, ◌+◌, ◌-◌, ◌++◌, ◌∷◌, [], ◌<◌, ◌≤◌, List, ℕ, Some, slice_get, map, ap, ap₂, sym, ◌∙◌, subst, arith}
+use Rattle.std.proofs.Common.{◌≡◌, ◌+◌, ◌-◌, ◌++◌, ◌∷◌, [], ◌≤◌, ℕ, Some, slice_get, ap, ap₂, sym, ◌∙◌, arith}
 use Rattle.std.proofs.lemmas.List.{map-append}
-use Rattle.fst_batch.specs.Runs.{IsDealt, job_lines, run}
+use Rattle.fst_batch.specs.Runs.{job_lines, run}
 use Rattle.fst_batch.specs.Serving.{IsJobOf}
 use Rattle.fst_batch.specs.Walks.{LineWalk}
 use Rattle.fst_batch.proofs.Numbers.{run_last}

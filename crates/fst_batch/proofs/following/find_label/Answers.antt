@@ -1,18 +1,14 @@
-use Rattle.std.proofs.Common.{◌≡◌, ◌+◌, ◌<◌, ◌≤◌, ◌∷◌, ◌++◌, [], Bool, List, ℕ, Some, length, map, take, get_or, sym, ap, ◌∙◌, subst, append_assoc, arith}
-use Rattle.std.specs.Prelude.{MatchBool}
-use Rattle.std.proofs.lemmas.Option.{slice_get-get_or}
-use Rattle.fst_semiring.specs.Cost.{Cost}
-use Rattle.fst_machine.specs.BreadthFirst.{Grows}
+use Rattle.std.proofs.Common.{◌≡◌, ◌∷◌, ◌++◌, [], false, true≢false, nat_eq, ℕ, map, take, sym, ap, ◌∙◌, subst, append_assoc, arith}
+use Rattle.std.proofs.lemmas.Bool.{ne_eqb}
 use Rattle.fst_machine.specs.Graph.{nexts}
 use Rattle.fst_machine.specs.Machine.{Arc}
-use Rattle.fst_machine.proofs.Walks.{Grows-front, Grows-then}
+use Rattle.fst_machine.proofs.Walks.{Grows-front}
 use Rattle.fst_walk.specs.Making.{Passes}
 use Rattle.fst_walk.specs.Names.{key_arc}
-use Rattle.fst_walk.proofs.Putting.{around, items_more}
 use Rattle.fst_delayed.specs.Handed.{Name}
-use Rattle.fst_batch.specs.Lattice.{Point}
 use Rattle.fst_batch.specs.Walks.{label_arcs}
-use Rattle.fst_batch.proofs.Finding.{found_many, found_more}
+use Rattle.fst_batch.proofs.Finding.{found_many, found_more, silent_more}
+use Rattle.fst_batch.proofs.following.find_label.Goals.{else-arc-eq0, then-arc-eq0}
 use Rattle.fst_batch.proofs.following.find_label.Goals as goal
 
 pub returns-then-not-fits-clause-finds : goal.returns-then-not-fits-clause-finds
@@ -36,6 +32,11 @@ loop-arc-preserved g c =
     record {
       grown = found_more value c.args.label c.args.position c.args.points.now c.loop-arc.points c.find_one.new.points c.args.arcs.now c.loop-arc.arc-index c.arc-item.result (omega arith) c.arc-item.is c.loop-arc.invariant.grown more.0;
       few = more.1;
+      silent = elim c.if-arc-eq0.branch [
+        | then-arc-eq0 w ↦ λ e. absurd (true≢false (sym w.silent-is ∙ e))
+        | else-arc-eq0 w ↦ λ e. silent_more value c.args.arcs.now c.loop-arc.arc-index c.arc-item.result (omega arith) c.arc-item.is (c.loop-arc.invariant.silent (sym w.silent-is ∙ e))
+            (subst (λ (a : Arc _ (Name ℕ ℕ)). nat_eq (value a).ilabel 0 ≡ false) c.arc.view_is (ne_eqb c.arc.inside.ilabel 0 w.if-arc-eq0.false))
+      ];
     }
 
 pub returns-clause-front : goal.returns-clause-front

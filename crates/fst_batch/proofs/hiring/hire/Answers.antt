@@ -1,7 +1,5 @@
-use Rattle.std.proofs.Common.{◌≡◌, ◌+◌, ◌++◌, ◌∷◌, [], ℕ, Some, length, slice_get, ap, ◌∙◌, subst, arith}
+use Rattle.std.proofs.Common.{◌∷◌, [], length, ap, ◌∙◌, arith}
 use Rattle.std.proofs.lemmas.List.{length-append}
-use Rattle.fst_batch.specs.Phases.{Laborer}
-use Rattle.fst_batch.specs.Runs.{IsNew}
 use Rattle.fst_batch.proofs.Hired.{new_more}
 use Rattle.fst_batch.proofs.hiring.hire.Goals as goal
 

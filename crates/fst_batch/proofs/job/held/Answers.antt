@@ -1,5 +1,3 @@
-use Rattle.std.proofs.Common.{◌++◌}
-use Rattle.fst_machine.specs.BreadthFirst.{Has}
 use Rattle.fst_machine.proofs.Elements.{Has-append_left}
 use Rattle.fst_batch.proofs.Caching.{held_second}
 use Rattle.fst_batch.proofs.job.held.Goals as goal

@@ -1,6 +1,5 @@
-use Rattle.std.proofs.Common.{◌≡◌, ◌≤◌, ℕ, length, arith}
+use Rattle.std.proofs.Common.{◌≤◌, length, arith}
 use Rattle.fst_machine.proofs.Elements.{Apart_within}
-use Rattle.fst_batch.specs.Expansions.{IsExpansions}
 use Rattle.fst_batch.proofs.laws.one_count.Goals as goal
 
 pub returns : goal.returns

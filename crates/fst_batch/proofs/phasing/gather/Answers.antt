@@ -1,6 +1,5 @@
-use Rattle.std.proofs.Common.{◌≡◌, ◌<◌, ◌≤◌, ℕ, Some, true, length, get_or, slice_get, sym, ap, ◌∙◌, arith}
+use Rattle.std.proofs.Common.{◌<◌, ℕ, length, get_or, sym, ◌∙◌, arith}
 use Rattle.std.proofs.lemmas.Option.{slice_get-get_or, slice_get_within}
-use Rattle.fst_batch.specs.Phases.{Laborer}
 use Rattle.fst_batch.proofs.Gathering.{gathering_ends, gathering_goes, known}
 use Rattle.fst_batch.proofs.phasing.gather.Goals as goal
 

@@ -1,4 +1,4 @@
-use Rattle.std.proofs.Common.{◌≡◌, ◌+◌, ◌<◌, ◌≤◌, ℕ, length, ap, ◌∙◌, arith}
+use Rattle.std.proofs.Common.{◌<◌, length, ◌∙◌, arith}
 use Rattle.fst_batch.specs.Phases.{IsHanded}
 use Rattle.fst_batch.proofs.Turns.{turn_ends, turn_goes}
 use Rattle.fst_batch.proofs.phasing.hand_out.Goals as goal

@@ -1,6 +1,6 @@
-use Rattle.std.proofs.Common.{◌≡◌, ◌+◌, ◌<◌, ◌≤◌, ℕ, Some, length, slice_get}
+use Rattle.std.proofs.Common.{◌≡◌, ◌+◌}
 use Rattle.fst_claims.specs.Passes.{IsPassOf, found, parts, won}
-use Rattle.fst_batch.specs.Phases.{IsHanded, Laborer}
+use Rattle.fst_batch.specs.Phases.{IsHanded}
 use Rattle.fst_batch.proofs.Turns.{InTurn}
 use Rattle.fst_batch.proofs.phasing.hand_out.Given as goal
 

@@ -1,4 +1,4 @@
-use Rattle.std.proofs.Common.{◌≡◌, ◌+◌, ◌<◌, ◌≤◌, ℕ, length, arith}
+use Rattle.std.proofs.Common.{◌≡◌, ◌<◌, length, arith}
 use Rattle.fst_claims.specs.Passes.{parts}
 use Rattle.fst_claims.specs.Rule.{all_parts}
 use Rattle.fst_batch.proofs.Rounds.{is_due, is_phase, is_ready}

@@ -1,6 +1,6 @@
-use Rattle.std.proofs.Common.{◌≡◌, ◌<◌, ◌≤◌, ℕ, Some, length, get_or, slice_get, sym, ap, ◌∙◌, subst, subst₂, rules, arith}
+use Rattle.std.proofs.Common.{◌<◌, Some, length, get_or, sym, ap, ◌∙◌, subst₂, rules, arith}
 use Rattle.std.proofs.lemmas.Option.{get_or_from_slice_get, slice_get-get_or, slice_get_within}
-use Rattle.fst_batch.specs.Phases.{HasRun, IsReady, Laborer}
+use Rattle.fst_batch.specs.Phases.{HasRun, IsReady}
 use Rattle.fst_batch.proofs.phasing.run_all.Goals as goal
 
 pub for_each_mut-requires-clause-accepts : goal.for_each_mut-requires-clause-accepts

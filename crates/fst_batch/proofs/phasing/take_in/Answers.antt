@@ -1,4 +1,4 @@
-use Rattle.std.proofs.Common.{◌≡◌, ◌++◌, [], ℕ, List, Some, None, sym, ap, ◌∙◌, subst}
+use Rattle.std.proofs.Common.{◌≡◌, ◌++◌, [], ℕ, List, Some, sym, ap, ◌∙◌, subst}
 use Rattle.std.specs.List.{AllPairs, Contains}
 use Rattle.fst_machine.specs.BreadthFirst.{Has}
 use Rattle.fst_claims.specs.declared.table.Pass.{Pass}
@@ -7,7 +7,6 @@ use Rattle.fst_delayed.specs.Caches.{Entries, keys}
 use Rattle.fst_delayed.specs.Coding.{code_of}
 use Rattle.fst_delayed.specs.Handed.{Name}
 use Rattle.fst_batch.specs.Phases.{Laborer}
-use Rattle.fst_batch.specs.Serving.{codes}
 use Rattle.fst_batch.proofs.Joining.{code_there, distinct_parts}
 use Rattle.fst_batch.proofs.phasing.take_in.Goals as goal
 

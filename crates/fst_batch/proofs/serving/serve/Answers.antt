@@ -1,15 +1,13 @@
-use Rattle.std.proofs.Common.{◌≡◌, ◌+◌, ◌<◌, ◌≤◌, ◌++◌, ◌∷◌, [], ℕ, List, Bool, true, false, true≢false, inr, length, length-append, refl, sym, ap, ◌∙◌, subst, arith}
-use Rattle.fst_semiring.specs.Cost.{Cost}
+use Rattle.std.proofs.Common.{◌≡◌, ◌+◌, ◌++◌, ◌∷◌, [], ℕ, true≢false, inr, length, length-append, refl, sym, ap, ◌∙◌, subst, arith}
 use Rattle.fst_machine.specs.BreadthFirst.{Has}
-use Rattle.fst_machine.specs.Machine.{Arc}
-use Rattle.fst_claims.specs.Passes.{found, won}
+use Rattle.fst_claims.specs.Passes.{found}
 use Rattle.fst_delayed.specs.Caches.{Entries, keys}
 use Rattle.fst_delayed.specs.Coding.{code_of}
 use Rattle.fst_delayed.specs.Graphs.{IsKeyOf, delayed_graph}
 use Rattle.fst_delayed.specs.Handed.{Name}
 use Rattle.fst_batch.specs.Needed.{IsNeeded}
-use Rattle.fst_batch.specs.Serving.{IsBlocked, IsGrown, IsOwn, IsWaiting}
-use Rattle.fst_batch.specs.Walks.{IsHead, IsJob}
+use Rattle.fst_batch.specs.Serving.{IsBlocked}
+use Rattle.fst_batch.specs.Walks.{IsJob}
 use Rattle.fst_batch.proofs.Own.{comes_nearer, grown_later, grown_more, grown_none, head_key, head_low, head_moves, head_needed, job_known, keys_more}
 use Rattle.fst_batch.proofs.serving.serve.Goals as goal
 

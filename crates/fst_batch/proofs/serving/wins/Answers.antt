@@ -1,4 +1,4 @@
-use Rattle.std.proofs.Common.{◌≡◌, ℕ, ap, ◌∙◌, arith}
+use Rattle.std.proofs.Common.{◌≡◌, ap, ◌∙◌, arith}
 use Rattle.atomic_table.specs.Seated.{TableId}
 use Rattle.fst_claims.specs.Passes.{view}
 use Rattle.fst_batch.proofs.Blocking.{full_blocked, taken_blocked, won_free}

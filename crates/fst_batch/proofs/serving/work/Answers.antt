@@ -1,10 +1,8 @@
-use Rattle.std.proofs.Common.{◌≡◌, ◌+◌, ◌<◌, ◌≤◌, ◌++◌, ℕ, List, Some, length, get_or, set, slice_get, refl, sym, ap, ◌∙◌, subst, arith}
+use Rattle.std.proofs.Common.{◌≡◌, ◌<◌, ◌++◌, ℕ, List, Some, length, get_or, slice_get, sym, ap, ◌∙◌, subst, arith}
 use Rattle.std.proofs.lemmas.Option.{slice_get-get_or, slice_get_within}
 use Rattle.fst_machine.proofs.Elements.{Has-append_left}
-use Rattle.fst_claims.specs.Passes.{found, won}
+use Rattle.fst_claims.specs.Passes.{found}
 use Rattle.fst_delayed.specs.Caches.{keys}
-use Rattle.fst_delayed.specs.Graphs.{delayed_graph}
-use Rattle.fst_batch.specs.Serving.{IsJobOf}
 use Rattle.fst_batch.specs.Walks.{IsJob, LineWalk}
 use Rattle.fst_batch.proofs.Own.{job_known}
 use Rattle.fst_batch.proofs.Served.{serving_goes}

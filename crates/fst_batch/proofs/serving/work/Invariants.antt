@@ -1,4 +1,4 @@
-use Rattle.std.proofs.Common.{◌≡◌, ◌+◌, ◌^◌, ◌<◌, length}
+use Rattle.std.proofs.Common.{◌≡◌, ◌+◌, length}
 use Rattle.fst_claims.specs.Passes.{IsPassOf, found, parts, won}
 use Rattle.fst_delayed.specs.Graphs.{delayed_graph}
 use Rattle.fst_batch.specs.Serving.{IsOwn}

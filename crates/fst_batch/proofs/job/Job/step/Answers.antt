@@ -1,14 +1,13 @@
-use Rattle.std.proofs.Common.{◌≡◌, ◌+◌, ◌≤◌, ◌++◌, ℕ, List, length, map, sym, ap, ◌∙◌, subst}
+use Rattle.std.proofs.Common.{◌≤◌, ◌++◌, ℕ, List, length, sym, ap, ◌∙◌, subst}
 use Rattle.fst_semiring.specs.Cost.{Cost}
 use Rattle.fst_machine.specs.BreadthFirst.{Grows}
 use Rattle.fst_machine.specs.Graph.{nexts}
 use Rattle.fst_machine.specs.Machine.{Arc}
 use Rattle.fst_walk.specs.Making.{Passes}
-use Rattle.fst_walk.specs.Names.{key_arc}
 use Rattle.fst_delayed.specs.Caches.{keys}
 use Rattle.fst_delayed.specs.Graphs.{delayed_graph}
 use Rattle.fst_delayed.specs.Handed.{Name}
-use Rattle.fst_batch.specs.Lattice.{Point, lattice, point, point_arcs}
+use Rattle.fst_batch.specs.Lattice.{lattice, point, point_arcs}
 use Rattle.fst_batch.specs.Walks.{IsHead, IsJob, LineWalk}
 use Rattle.fst_batch.proofs.Caching.{held_key, held_true}
 use Rattle.fst_batch.proofs.Jobs.{job_goes, job_stops}

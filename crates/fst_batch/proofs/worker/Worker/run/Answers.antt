@@ -1,4 +1,4 @@
-use Rattle.std.proofs.Common.{◌≡◌, ℕ, Some, drop, length, ap, ◌∙◌, arith, refl}
+use Rattle.std.proofs.Common.{◌≡◌, Some, drop, length, ap, arith, refl}
 use Rattle.std.specs.Vec.{with_items}
 use Rattle.fst_batch.proofs.Running.{has_run, whole_left}
 use Rattle.fst_batch.proofs.worker.Worker.run.Goals as goal
