@@ -105,7 +105,7 @@ pub(crate) fn number_point<W: Weight>(
 {
     out.clear();
     let silent = number_byte(out, points, arcs, line, position)?;
-    // Most names have no arc that reads epsilon, so that their arcs are looked at once.
+    // Where none of the arcs reads epsilon, they are looked at once.
     if !silent {
         return Ok(());
     }

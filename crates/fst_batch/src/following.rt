@@ -97,7 +97,7 @@ pub(crate) fn follow<W: Weight>(
     let Some(silent) = find_byte(points, arcs, line, position, limit)? else {
         return Ok(false);
     };
-    // Most names have no arc that reads epsilon, so that their arcs are looked at once.
+    // Where none of the arcs reads epsilon, they are looked at once.
     if !silent {
         return Ok(true);
     }
