@@ -16,6 +16,7 @@ same machine has its state numbers permuted and spread out, as multiples of the 
     machines.py --lattice PATH LAYERS WIDTH
     machines.py --words PATH ARCS
     machines.py --classes PATH ARCS
+    machines.py --cycle PATH STATES
 
 With --symbols the labels are written by their names in a table of so many symbols, which is written too.
 With --chain each state has one arc, to the next one, and the last is final. With --pairs so many labels
@@ -25,7 +26,8 @@ composed: 20 arcs a state over 60 labels, one in ten of which writes, or reads, 
 is written, and a lexicon of one state with so many arcs, in order, which reads them; with --hubs two machines whose starts have so
 many arcs in order, of which so many match. With --epsilons half of the arcs are epsilon, within blocks of 16 states; with --lattice
 each state of a layer has five arcs to states of the next; with --words each word of a lexicon is a chain of arcs from one start; with
---classes a deterministic acceptor with cycles is written, about eight of whose states behave as one once weights are pushed.
+--classes a deterministic acceptor with cycles is written, about eight of whose states behave as one once weights are pushed; with
+--cycle one path through so many states that comes back to its first, the only final one.
 """
 import random
 import sys
@@ -254,6 +256,13 @@ def write_classes(path, arcs, seed=1, letters=10, alike=8):
                 out.write(f"{state}\t{finals[own] + hidden[state]}\n")
 
 
+def write_cycle(path, states):
+    """Writes a cycle through so many states, no two of which do the same, though only one is final."""
+    with open(path, "w") as out:
+        out.writelines(f"{state}\t{(state + 1) % states}\t1\t1\n" for state in range(states))
+        out.write("0\n")
+
+
 # What each mode writes, and how many files: their names come first, and numbers after them.
 MODES = {
     "--chain": (write_chain, 1),
@@ -266,6 +275,7 @@ MODES = {
     "--lattice": (write_lattice, 1),
     "--words": (write_words, 1),
     "--classes": (write_classes, 1),
+    "--cycle": (write_cycle, 1),
 }
 
 

@@ -60,7 +60,7 @@ CODING = [
     ("encode --decode", "--decode {0}.encoded {0}.codex"),
 ]
 # The algebra: the row, the machine, the command and its words, and the bound on the ratio of time. The words are a lexicon of chains,
-# `trie` is its deterministic machine, and `classes` is deterministic with cycles.
+# `trie` is its deterministic machine, `classes` is deterministic with cycles, and `cycle` is one long cycle.
 ALGEBRA = [
     ("rmepsilon", "epsilons", "rmepsilon", "{0}", TIME),
     ("rmepsilon, first in first out", "epsilons", "rmepsilon", "--queue_type=fifo {0}", TIME),
@@ -73,6 +73,7 @@ ALGEBRA = [
     ("push, with cycles", "classes", "push", "--push_weights {0}", TIME),
     ("minimize, a trie", "trie", "minimize", "{0}", TIME),
     ("minimize, with cycles", "classes", "minimize", "{0}", TIME),
+    ("minimize, one cycle", "cycle", "minimize", "{0}", TIME),
 ]
 # How many layers a lattice has, and how many arcs a state of it.
 LAYERS, LATTICE_FAN = 100, 5
@@ -306,7 +307,7 @@ def determinized(text, scratch, name):
 
 def algebra_cases(fst, size, scratch):
     """The rows of the algebra on machines of about that many arcs."""
-    texts = {name: os.path.join(scratch, f"{name}.{size}.txt") for name in ("epsilons", "words", "classes", "lattice")}
+    texts = {name: os.path.join(scratch, f"{name}.{size}.txt") for name in ("epsilons", "words", "classes", "cycle", "lattice")}
     words = {name: (size,) for name in texts} | {"lattice": (LAYERS, max(2, size // (LAYERS * LATTICE_FAN)))}
     for name, text in texts.items():
         subprocess.run([sys.executable, MACHINES, "--" + name, text, *map(str, words[name])], check=True)

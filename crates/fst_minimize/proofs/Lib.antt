@@ -19,3 +19,10 @@ pub mod Whole
 pub mod SameWords
 pub mod OneAnswer
 pub mod OnePass
+pub mod Moved
+pub mod ByBlocks
+pub mod InBacks
+pub mod BlockArcs
+pub mod PartMarks
+pub mod PartSplits
+pub mod PartMembers

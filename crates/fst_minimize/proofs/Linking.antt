@@ -1,10 +1,9 @@
 -- From described states to their behaviour: the graph of the arcs by labels, in which rounds refine, behaves as the graph
 -- of the machine.
 use Rattle.std.proofs.Common.{◌≡◌, ◌⊎◌, inl, inr, ℕ, ◌<◌, ◌≤◌, suc, List, [], ◌∷◌, None, Some, length, get_or, slice_get, sym, refl, ap, ap₂, ◌∙◌, subst, arith}
-use Rattle.std.specs.List.Sorted.{IsPermutation}
 use Rattle.std.proofs.lemmas.Bool.{cases_lt}
 use Rattle.std.proofs.lemmas.List.{get_or_past, length-map}
-use Rattle.std.proofs.lemmas.List.Sorted.{IsPermutation-sym, Contains-permutation}
+use Rattle.std.proofs.lemmas.List.Sorted.{IsPermutation-sym}
 use Rattle.std.proofs.lemmas.Option.{slice_get-get_or, slice_get_within, get_or_from_slice_get, same_Some}
 use Rattle.fst_semiring.specs.Cost.{Cost}
 use Rattle.fst_machine.specs.Machine.{Arc, Machine}
@@ -17,16 +16,11 @@ use Rattle.fst_minimize.specs.Refining.{spelling, IsRefined}
 use Rattle.fst_minimize.specs.Saying.{IsByLabel, SaysArcs, weight_key}
 use Rattle.fst_minimize.specs.Numbered.{number_in, RowsBelow, AreRows, TellsBehaviour}
 use Rattle.fst_minimize.specs.Described.{IsDescription, OncePlacedAll}
+use Rattle.fst_minimize.proofs.Moved.{moved_to}
 use Rattle.fst_minimize.proofs.Stable.{followed, stable_alike}
 use Rattle.fst_minimize.proofs.Refining.{first_refined, EndsBelow}
 use Rattle.fst_minimize.proofs.Said.{LabelsSame, says_spelling, spelling_says}
 use Rattle.fst_minimize.proofs.WeightKeys.{key_once}
-
--- an element of a list that is put in another order
-pub moved_to : {X : Type 0} (xs ys : List X) (k : ℕ) (x : X) → IsPermutation xs ys → slice_get xs k ≡ Some x → (j : ℕ) × (slice_get ys j ≡ Some x)
-moved_to xs ys k x same there =
-    let at = Contains-permutation xs ys x same (k, slice_get_within xs k x there, get_or_from_slice_get xs k x x there) in
-    (at.0, slice_get-get_or ys at.0 x at.1 ∙ ap Some at.2)
 
 -- what is asked of each arc holds of each in turn
 labels_same : (arcs : List (Arc Cost ℕ)) → ((k : ℕ) (a : Arc Cost ℕ) → slice_get arcs k ≡ Some a → a.olabel ≡ a.ilabel) → LabelsSame arcs

@@ -8,6 +8,9 @@ pub mod Numberers
 pub mod Rows
 pub mod Along
 pub mod Refining
+pub mod Spans
+pub mod Parts
+pub mod Dividing
 pub mod Saying
 pub mod Described
 pub mod Ready

@@ -32,8 +32,8 @@ use std::alloc::Global;
 /// `NotAcceptor`, `NotDeterministic`, `ImprovingCycle` and `Overflow` exactly where they hold, in this order; `Memory`
 /// may come in place of any answer. After an `Ok` the queue is empty.
 ///
-/// Time: that of the distances, and linear in the states and the arcs where no path comes back to a state; else linear for
-/// each round of the refinement, and there may be as many rounds as states, as on a long cycle. Space: linear.
+/// Time: that of the distances, and linear in the states and the arcs where no path comes back to a state, else at worst n
+/// times the square of log n in them. Space: linear.
 pub fn minimize<W: Weight, Q: StateQueue>(
     alloc: Global,
     fst: &Fst<W>,

@@ -1,4 +1,4 @@
-//! Numberings of states, refined by rounds until a round splits nothing.
+//! Numberings of states, refined by rounds and by blocks until a round splits nothing.
 
 ghost use Rattle.std.specs.Prelude.{◌≡◌, ◌≤◌, ◌<◌, ℕ, List, All, IfOk, OnOk, length, map};
 ghost use Rattle.std.specs.Bool.{Decides};
@@ -7,6 +7,7 @@ ghost use Rattle.fst_minimize.specs.Numbered.{AreRows, IsNumbering, RowsBelow, S
 ghost use Rattle.fst_minimize.specs.Refining.{IsRefined};
 
 use crate::along::refine_along;
+use crate::dividing::refine_by_blocks;
 use crate::numberer::{Numberer, Numbering};
 use crate::rows::Rows;
 use std::alloc::{AllocError, Global};
@@ -44,9 +45,15 @@ fn split_all(alloc: Global, current: &Numbering, rows: &Rows) -> Result<Numberin
     Ok(numberer.finish())
 }
 
-/// Refines a numbering by rounds until a round splits nothing.
+/// Whether a round makes at least a quarter more numbers, about.
+fn is_worth_a_round(old: usize, new: usize) -> bool {
+    old / 4 <= new / 5
+}
+
+/// Refines a numbering by rounds until a round splits nothing. Once a round is hardly worth it, blocks are divided by each
+/// other, and the rounds behind it, of which there is one, see that nothing is left.
 ///
-/// Time: linear in the states and arcs for each round; there may be as many rounds as states.
+/// Time: at worst n times the square of log n in the states and arcs.
 fn refine_by_rounds(alloc: Global, first: Numbering, rows: &Rows) -> Result<Numbering, AllocError>
     requires size { length first.numbers.items ≡ length rows.now }
     requires below { RowsBelow (length rows.now) rows.now }
@@ -56,17 +63,24 @@ fn refine_by_rounds(alloc: Global, first: Numbering, rows: &Rows) -> Result<Numb
     ensures size { IfOk result (λ n. length n.numbers.items ≡ length rows.now) }
 {
     let mut current = first;
+    let mut divided = false;
     loop {
         let next = split_all(alloc, &current, rows)?;
-        if next.least.len() == current.least.len() {
+        let (old, new) = (current.least.len(), next.least.len());
+        if new == old {
             return Ok(current);
         }
-        current = next;
+        if divided || is_worth_a_round(old, new) {
+            current = next;
+        } else {
+            current = refine_by_blocks(alloc, &next, rows)?;
+            divided = true;
+        }
     }
 }
 
 /// Refines a numbering until states with one number behave the same: in one pass where no path comes back to a state, by
-/// rounds where one does.
+/// rounds and blocks where one does.
 pub(crate) fn refine(alloc: Global, first: Numbering, rows: &Rows) -> Result<Numbering, AllocError>
     requires size { length first.numbers.items ≡ length rows.now }
     requires below { RowsBelow (length rows.now) rows.now }
