@@ -45,9 +45,10 @@ fn split_all(alloc: Global, current: &Numbering, rows: &Rows) -> Result<Numberin
     Ok(numberer.finish())
 }
 
-/// Whether a round makes at least a quarter more numbers, about.
-fn is_worth_a_round(old: usize, new: usize) -> bool {
-    old / 4 <= new / 5
+/// Whether a round makes enough new numbers, about a sixteenth of the states, that another one is cheaper than to divide
+/// blocks.
+fn is_worth_a_round(old: usize, new: usize, states: usize) -> bool {
+    states / 16 < new.saturating_sub(old)
 }
 
 /// Refines a numbering by rounds until a round splits nothing. Once a round is hardly worth it, blocks are divided by each
@@ -70,7 +71,7 @@ fn refine_by_rounds(alloc: Global, first: Numbering, rows: &Rows) -> Result<Numb
         if new == old {
             return Ok(current);
         }
-        if divided || is_worth_a_round(old, new) {
+        if divided || is_worth_a_round(old, new, rows.len()) {
             current = next;
         } else {
             current = refine_by_blocks(alloc, &next, rows)?;
