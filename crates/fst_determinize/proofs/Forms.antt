@@ -4,7 +4,7 @@ use Rattle.std.specs.Bool.{Decides}
 use Rattle.std.specs.Option.{option_map}
 use Rattle.std.proofs.lemmas.Grind.{flat_map-append}
 use Rattle.std.proofs.lemmas.List.{map_more}
-use Rattle.fst_semiring.specs.Cost.{Cost, infinite, plus}
+use Rattle.fst_semiring.specs.Cost.{Cost, best, finite, infinite, is_infinite, plus}
 use Rattle.fst_semiring.specs.declared.arc_type.ArcType.{ArcType}
 use Rattle.fst_semiring.proofs.Order.{plus_assoc, plus_comm}
 use Rattle.fst_machine.specs.Graph.{graph_of}
@@ -39,6 +39,12 @@ apart_at value (x ∷ hs) (y ∷ ks) zero h k p q e =
 apart_at value (x ∷ hs) (y ∷ ks) (suc i) h k p q e =
     let more : members_as value hs ≡ members_as value ks = cc in
     apart_at value hs ks i h k p q more
+
+-- a value that is told to be Zero is
+pub zero_told : (v : Cost) → true ≡ is_infinite v → v ≡ infinite
+zero_told best e = absurd (cc)
+zero_told (finite a b) e = absurd (cc)
+zero_told infinite e = refl
 
 -- what decides one thing is one
 one_decided : {P : Type 0} (a b : Bool) → Decides a P → Decides b P → a ≡ b

@@ -15,7 +15,7 @@ use crate::making::put_arcs;
 use crate::residual::Residual;
 use crate::single::{labels_ascend, put_single_arcs};
 use crate::subset::{Held, SubsetOf, subset_of_one};
-use crate::way::{WayOn, further, put_arc_ways, put_ways, sort_ways};
+use crate::way::{WayOn, further_final, put_arc_ways, put_ways, sort_ways};
 use fst_machine::Fst;
 use fst_semiring::Weight;
 use fst_walk::{NameArc, Names, Room, WalkFault, Walked, walk};
@@ -56,10 +56,10 @@ pub(crate) fn last_weight<W: Weight, R: Residual<W>>(fst: &Fst<W>, subset: &Subs
     ensures { W.wide_value result ≡ final_by W.KIND (graph_of (valued W.value fst.now)) subset.now }
 {
     let (first, rest) = subset.members();
-    let mut best = further(first.residual, fst.final_weight(first.state));
+    let mut best = further_final(first.residual, fst.final_weight(first.state));
     for place in 0..rest.len() {
         let member = rest.item(place);
-        let own = further(member.residual, fst.final_weight(member.state));
+        let own = further_final(member.residual, fst.final_weight(member.state));
         best = W::wide_plus(best, own);
     }
     best

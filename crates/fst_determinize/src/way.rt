@@ -12,17 +12,17 @@ ghost use Rattle.std.specs.List.Sorted.{IsNonDecreasingBy, IsPermutation};
 use crate::residual::Residual;
 use crate::subset::{Held, Others};
 use fst_machine::{Fst, FstArc};
-use fst_semiring::Weight;
+use fst_semiring::{Weight, is_zero};
 use std::alloc::AllocError;
 use std::marker::Model;
 
 /// An arc of a member, with the weight of residual and arc together.
 #[derive(Clone, Copy)]
 pub(crate) struct WayOn<V> {
+    /// The state to which it leads. It stands in front of the label, so that both are read at once as a rank.
+    pub(crate) state: u32,
     /// The label.
     pub(crate) label: u32,
-    /// The state to which it leads.
-    pub(crate) state: u32,
     /// The residual Times the weight of the arc.
     pub(crate) weight: V,
 }
@@ -43,6 +43,17 @@ pub(crate) fn further<W: Weight, R: Residual<W>>(residual: R, weight: W) -> W::W
     ensures { W.wide_value result ≡ times W.KIND (R.value residual) (W.value weight) }
 {
     W::wide_times(residual.wide(), weight.widen())
+}
+
+/// A residual Times a final weight. Most states are not final, and nothing is computed with their weights.
+pub(crate) fn further_final<W: Weight, R: Residual<W>>(residual: R, last: W) -> W::Wide
+    requires { IsModest (R.value residual) }
+    ensures { W.wide_value result ≡ times W.KIND (R.value residual) (W.value last) }
+{
+    if is_zero(last) {
+        return last.widen();
+    }
+    further(residual, last)
 }
 
 /// The way of a member by an arc.
