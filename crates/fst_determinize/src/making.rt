@@ -16,47 +16,42 @@ use fst_semiring::Weight;
 use fst_walk::NameArc;
 use std::alloc::{AllocError, Global};
 
-/// How many of these ways, from the first on, have a label.
-fn label_run<V: Copy>(ways: &[WayOn<V>], label: u32) -> usize
-    ensures few { result ≤ length ways.now }
-    ensures same { All (λ y. y.label ≡ label) (take result ways.now) }
-    ensures next { (y : WayAs V) → slice_get ways.now result ≡ Some y → y.label ≢ label }
+/// How many of these ways, from the first on, have a label, and the best weight of these.
+fn label_run<W: Weight>(ways: &[WayOn<W::Wide>], label: u32) -> (usize, W::Wide)
+    ensures few { result.0 ≤ length ways.now }
+    ensures same { All (λ y. y.label ≡ label) (take result.0 ways.now) }
+    ensures next { (y : WayAs W.Wide) → slice_get ways.now result.0 ≡ Some y → y.label ≢ label }
+    ensures best { W.wide_value result.1 ≡ best_of (ways_as W.wide_value (take result.0 ways.now)) }
 {
     let mut count = 0;
-    for way in ways {
-        if way.label != label {
-            return count;
-        }
-        count += 1;
-    }
-    count
-}
-
-/// How many of these ways, from the first on, lead to a state.
-fn state_run<V: Copy>(ways: &[WayOn<V>], state: u32) -> usize
-    ensures few { result ≤ length ways.now }
-    ensures same { All (λ y. y.state ≡ state) (take result ways.now) }
-    ensures next { (y : WayAs V) → slice_get ways.now result ≡ Some y → y.state ≢ state }
-{
-    let mut count = 0;
-    for way in ways {
-        if way.state != state {
-            return count;
-        }
-        count += 1;
-    }
-    count
-}
-
-/// The best weight of ways; Zero where there are none.
-fn best_way<W: Weight>(ways: &[WayOn<W::Wide>]) -> W::Wide
-    ensures { W.wide_value result ≡ best_of (ways_as W.wide_value ways.now) }
-{
     let mut best = W::zero().widen();
     for way in ways {
+        if way.label != label {
+            return (count, best);
+        }
         best = W::wide_plus(best, way.weight);
+        count += 1;
     }
-    best
+    (count, best)
+}
+
+/// How many of these ways, from the first on, lead to a state, and the best weight of these.
+fn state_run<W: Weight>(ways: &[WayOn<W::Wide>], state: u32) -> (usize, W::Wide)
+    ensures few { result.0 ≤ length ways.now }
+    ensures same { All (λ y. y.state ≡ state) (take result.0 ways.now) }
+    ensures next { (y : WayAs W.Wide) → slice_get ways.now result.0 ≡ Some y → y.state ≢ state }
+    ensures best { W.wide_value result.1 ≡ best_of (ways_as W.wide_value (take result.0 ways.now)) }
+{
+    let mut count = 0;
+    let mut least = W::zero().widen();
+    for way in ways {
+        if way.state != state {
+            return (count, least);
+        }
+        least = W::wide_plus(least, way.weight);
+        count += 1;
+    }
+    (count, least)
 }
 
 /// Puts an item after the others.
@@ -81,9 +76,8 @@ fn put_members<W: Weight, R: Residual<W>>(
 {
     let mut rest = run;
     while let Some(first) = rest.first() {
-        let count = state_run(rest, first.state);
-        let (here, others) = rest.split_at(count);
-        let least = best_way::<W>(here);
+        let (count, least) = state_run::<W>(rest, first.state);
+        let (_, others) = rest.split_at(count);
         let Some(residual) = R::keep(W::wide_divide(least, best)) else {
             return Err(ArcFault::NotKept);
         };
@@ -132,9 +126,8 @@ pub(crate) fn put_arcs<W: Weight, R: Residual<W>>(
 {
     let mut rest = ways;
     while let Some(first) = rest.first() {
-        let count = label_run(rest, first.label);
+        let (count, best) = label_run::<W>(rest, first.label);
         let (run, others) = rest.split_at(count);
-        let best = best_way::<W>(run);
         members.clear();
         put_members(members, run, best)?;
         let next = subset_of(alloc, members.as_slice())?;
