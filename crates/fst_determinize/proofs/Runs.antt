@@ -3,8 +3,8 @@ use Rattle.std.proofs.Common.{◌≡◌, ◌≢◌, ◌⊎◌, inl, inr, ℕ, �
 use Rattle.std.specs.List.{All, Contains}
 use Rattle.std.specs.List.Sorted.{IsNonDecreasingBy, IsPermutation}
 use Rattle.std.proofs.lemmas.Bool.{cases_order}
-use Rattle.std.proofs.lemmas.List.{get_or-take, get_or_default, length-append, length-take-le, map-append, take_more}
-use Rattle.std.proofs.lemmas.List.Sorted.{Contains-permutation, IsNonDecreasingBy-push, IsPermutation-sym}
+use Rattle.std.proofs.lemmas.List.{length-append, map-append}
+use Rattle.std.proofs.lemmas.List.Sorted.{Contains-permutation, IsPermutation-sym}
 use Rattle.std.proofs.lemmas.Option.{get_or_from_slice_get, slice_get-get_or}
 use Rattle.fst_semiring.specs.Cost.{Cost, infinite, plus}
 use Rattle.fst_semiring.specs.Semiring.{IsWide}
@@ -34,21 +34,6 @@ module _ {X : Type 0} where
           let at = Has_at us x h in
           let there : Contains vs x = Contains-permutation us vs x q (at.0, at.2, get_or_from_slice_get us at.0 x x at.1) in
           at_Has vs there.0 x (slice_get-get_or vs there.0 x there.1 ∙ ap Some there.2)
-
-  -- one element more that is no less than the last
-  pub ranked_more : (n : X → ℕ) (xs : List X) (i : ℕ) (x : X) → i < length xs → x ≡ get_or xs i x → IsNonDecreasingBy n (take i xs) → (last : ℕ) → ((d : X) → 0 < i → n (get_or xs (i - 1) d) ≡ last) → last ≤ n x
-      → IsNonDecreasingBy n (take (i + 1) xs)
-  ranked_more n xs i x low at h last was le =
-      let long : length (take i xs) ≡ i = length-take-le i xs (omega arith) in
-      subst (λ (zs : List X). IsNonDecreasingBy n zs) (sym (take_more xs i x low ∙ ap (λ (y : X). take i xs ++ y ∷ []) (sym at)))
-      (IsNonDecreasingBy-push n (take i xs) x h (λ d some.
-      let there : get_or (take i xs) (length (take i xs) - 1) d ≡ get_or xs (i - 1) d = ap (λ (k : ℕ). get_or (take i xs) (k - 1) d) long ∙ get_or-take i xs (i - 1) d (omega (arith, some, long)) in
-      let value : n (get_or (take i xs) (length (take i xs) - 1) d) ≡ last = ap n there ∙ was d (omega (arith, some, long)) in
-      omega (arith, value, le)))
-
-  -- the last key after one more
-  pub last_more : (n : X → ℕ) (xs : List X) (i : ℕ) (x d : X) → i < length xs → x ≡ get_or xs i x → n (get_or xs (i + 1 - 1) d) ≡ n x
-  last_more n xs i x d low at = let same : i + 1 - 1 ≡ i = omega arith in ap (λ (k : ℕ). n (get_or xs k d)) same ∙ ap n (get_or_default xs i d x low ∙ sym at)
 
   -- lists in order, by what stands behind
   pub rises_from : (n : X → ℕ) (xs : List X) → IsNonDecreasingBy n xs → RisesBy n xs
