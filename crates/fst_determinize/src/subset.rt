@@ -171,16 +171,27 @@ fn number_more<R: Kept>(number: u64, member: Held<R>) -> u64
         .wrapping_add(u64::from(member.state))
 }
 
+/// A number with the members of a list more.
+fn numbered_list<R: Kept>(number: u64, members: &[Held<R>]) -> u64
+    ensures { result ≡ fold number_more number (members_as R.value members.now) }
+{
+    let mut so_far = number;
+    for member in members {
+        so_far = number_more(so_far, *member);
+    }
+    so_far
+}
+
 /// A number with these members more.
 fn numbered<R: Kept>(number: u64, members: &Others<R>) -> u64
     ensures { result ≡ fold number_more number (members_as R.value (others_in members.now)) }
 {
-    let mut so_far = number;
-    for place in 0..members.len() {
-        let member = members.item(place);
-        so_far = number_more(so_far, member);
+    match members {
+        Others::None => number,
+        Others::One(second) => number_more(number, *second),
+        Others::Two(second, third) => number_more(number_more(number, *second), *third),
+        Others::More(list) => numbered_list(number, list.as_slice()),
     }
-    so_far
 }
 
 /// A subset is found by a number of its members, which others may have.

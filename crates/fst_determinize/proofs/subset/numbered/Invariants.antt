@@ -1,7 +1,0 @@
-use Rattle.std.proofs.Common.{◌≡◌, fold, take}
-use Rattle.fst_determinize.specs.Others.{others_in}
-use Rattle.fst_determinize.specs.Kept.{members_as, number_more}
-use Rattle.fst_determinize.proofs.subset.numbered.Given as goal
-
-abbrev pub invariant-loop-place : goal.invariant-loop-place
-invariant-loop-place g l = l.so_far ≡ fold number_more l.fn.number (members_as g.R.Kept.value (take l.place (others_in l.members)))
