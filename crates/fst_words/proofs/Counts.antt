@@ -1,13 +1,12 @@
 -- How many inputs and outputs of each kind a whole plan has.
-use Rattle.std.proofs.Common.{◌≡◌, ◌∙◌, ◌+◌, ◌-◌, ◌*◌, ◌/◌, ◌≤◌, ◌<◌, ℕ, zero, suc, Bool, true, false, List, [], ◌∷◌, ◌++◌, length, take, drop, cond, Option, Some, None, refl, sym, ap, arith, length-drop, length-take}
-use Rattle.fst_words.specs.declared.form.Role.{Role}
+use Rattle.std.proofs.Common.{◌≡◌, ◌∙◌, ◌-◌, ◌/◌, ◌≤◌, ◌<◌, ℕ, suc, Bool, true, false, List, [], ◌∷◌, ◌++◌, length, take, drop, cond, Option, Some, None, refl, sym, ap, arith, length-drop}
 use Rattle.fst_words.specs.declared.form.Role.TheVariants.{InputSymbols, OutputSymbols, InputPairs, OutputPairs}
 use Rattle.fst_words.specs.declared.form.Shape.{Shape}
 use Rattle.fst_words.specs.declared.form.Shape.TheVariants.{NoInput, Text, One, Two, Three, Rules, Codex}
 use Rattle.fst_words.specs.declared.options.Options.{Options}
 use Rattle.fst_words.specs.declared.plan.Plan.{Plan}
 use Rattle.fst_words.specs.Forms.{all_of, form_of, has_rules, least_of, place_of}
-use Rattle.fst_words.specs.Inputs.{Input, any_codex, codex_by, count_machines, has_codex, inputs_from, is_codex, is_machine, machine_count, machines_by, option_input, option_inputs, own_inputs, plan_inputs, stored_by, stored_count}
+use Rattle.fst_words.specs.Inputs.{Input, any_codex, codex_by, count_machines, has_codex, inputs_from, is_codex, machine_count, machines_by, option_input, option_inputs, own_inputs, plan_inputs, stored_by, stored_count}
 use Rattle.fst_words.specs.PlanLaws.{IsWhole}
 use Rattle.fst_words.specs.Plans.{input_files, is_replace, outputs_of, pair_machines, rule_labels}
 use Rattle.fst_words.proofs.PlannedFiles.{label_for_each, machine_count as pair_count}

@@ -1,6 +1,6 @@
 -- The inputs of a plan, one after the other.
-use Rattle.std.proofs.Common.{◌≡◌, ◌∙◌, ◌<◌, ◌≤◌, ◌+◌, ℕ, zero, suc, List, [], ◌∷◌, ◌++◌, length, map, take, Some, slice_get, refl, sym, ap, arith, append_assoc}
-use Rattle.std.proofs.lemmas.List.{append-nil, map-append}
+use Rattle.std.proofs.Common.{◌≡◌, ◌∙◌, ◌+◌, ℕ, zero, suc, List, [], ◌∷◌, ◌++◌, map, take, Some, slice_get, sym, ap, arith, append_assoc}
+use Rattle.std.proofs.lemmas.List.{map-append}
 use Rattle.fst_words.specs.declared.form.Shape.{Shape}
 use Rattle.fst_words.specs.declared.inputs.Input as declared
 use Rattle.fst_words.specs.Forms.{role_of}

@@ -2,6 +2,7 @@
 mod KnownVerbs
 mod Parsing
 mod Loops
+mod Searched
 mod Pairs
 mod Labels
 mod Digits

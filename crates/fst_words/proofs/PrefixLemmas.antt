@@ -1,12 +1,12 @@
 -- `fst` in front of a command's name.
-use Rattle.std.proofs.Common.{◌≡◌, ◌∙◌, ◌++◌, ℕ, false, List, ◌∷◌, Option, Some, None, refl, sym, ap, codes, if◌then◌else◌}
+use Rattle.std.proofs.Common.{◌≡◌, ◌∙◌, ◌++◌, ℕ, List, ◌∷◌, Option, Some, None, refl, sym, ap, codes, if◌then◌else◌}
 use Rattle.std.specs.Prelude.{option_and_then}
 use Rattle.clap.specs.Faults.{built_fault}
 use Rattle.clap.specs.Simple.{argument_words, built, names_of}
 use Rattle.clap.specs.Walk.{Row, is_empty, nothing_held, rows_after}
 use Rattle.fst_words.specs.Commands.{app_of_verb, found_in}
 use Rattle.fst_words.specs.Plans.{plan_by, plan_found, plan_of}
-use Rattle.fst_words.specs.Verbs.{name_of, verb_named, verb_of}
+use Rattle.fst_words.specs.Verbs.{name_of}
 use Rattle.fst_words.specs.declared.verb.Verb.{Verb}
 use Rattle.fst_words.proofs.KnownVerbs.{is_known}
 

@@ -1,7 +1,7 @@
 -- What a command takes: its options with a value, its flags, and how many names. What it then takes of the words is
 -- `clap`'s own function of them, at a command with these options, these flags and one positional argument of several
 -- values.
-use Rattle.std.specs.Prelude.{ℕ, ◌&&◌, Bool, true, false, List, [], ◌∷◌, fold, nat_le, Option, Some, None, codes, if◌then◌else◌}
+use Rattle.std.specs.Prelude.{ℕ, ◌&&◌, Bool, true, false, List, fold, nat_le, Option, Some, None, codes, if◌then◌else◌}
 use Rattle.clap.specs.Faults.{fault_of}
 use Rattle.clap.specs.Simple.{App, matches_of, new_app, new_rule, on_top, with_rule}
 use Rattle.clap.specs.Walk.{Row, Rule, is_empty}

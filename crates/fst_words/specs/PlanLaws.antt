@@ -5,7 +5,7 @@ use Rattle.fst_words.specs.declared.plan.Plan.{Plan}
 use Rattle.fst_words.specs.declared.verb.Verb.{Verb}
 use Rattle.fst_words.specs.Commands.{all_names, least_names}
 use Rattle.fst_words.specs.Plans.{is_allowed, plan_of}
-use Rattle.fst_words.specs.Verbs.{name_of}
+use Rattle.fst_words.specs.Verbs.{name_of, verb_of}
 
 -- a number that stands lies in the range
 abbrev pub LiesIn : ℕ → ℕ → Option ℕ → Type 0
@@ -28,6 +28,10 @@ pub record IsWhole (plan : Plan) : Type 0 where
 -- words that ask for a plan ask for a whole one
 abbrev pub PlansAreWhole : Type 0
 PlansAreWhole = (words : List (List ℕ)) (plan : Plan) → plan_of words ≡ Some plan → IsWhole plan
+
+-- each command is found by its name, so that no row is missing where names are looked for
+abbrev pub NamesAreKnown : Type 0
+NamesAreKnown = (verb : Verb) → verb_of (name_of verb) ≡ Some verb
 
 -- `fst` in front of a command's name changes nothing
 abbrev pub PrefixIsFree : Type 0

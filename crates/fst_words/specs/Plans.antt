@@ -1,5 +1,5 @@
 -- What the words of a command line ask for.
-use Rattle.std.specs.Prelude.{◌≡◌, ⊤, ℕ, ◌-◌, ◌&&◌, ◌||◌, ◌++◌, ◌==◌, Bool, true, false, not, List, [], ◌∷◌, length, take, drop, replicate, count_by}
+use Rattle.std.specs.Prelude.{◌≡◌, ⊤, ℕ, ◌-◌, ◌&&◌, ◌||◌, ◌++◌, ◌==◌, Bool, true, not, List, [], ◌∷◌, length, take, drop, replicate, count_by}
 use Rattle.std.specs.Prelude.{nat_le, Option, Some, None, Result, Ok, Err, is_some, option_and_then, option_to_list, codes, if◌then◌else◌}
 use Rattle.std.specs.List.{filter_map, list_all, list_any}
 use Rattle.std.specs.Str.{bytes_eq}

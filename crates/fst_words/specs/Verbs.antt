@@ -1,41 +1,19 @@
 -- The names of the commands, and the command that a first word names, with or without `fst` in front.
-use Rattle.std.specs.Prelude.{ℕ, List, [], ◌∷◌, drop, find, nat_eq, Option, codes, if◌then◌else◌}
+use Rattle.std.specs.Prelude.{ℕ, List, drop, find, map, nat_eq, Option, codes, if◌then◌else◌}
 use Rattle.std.specs.List.{starts_with}
 use Rattle.std.specs.Str.{bytes_eq}
+use Rattle.fst_words.specs.declared.form.TheConstants.{ROWS}
 use Rattle.fst_words.specs.declared.verb.Verb.{Verb}
-use Rattle.fst_words.specs.declared.verb.Verb.TheVariants as verbs
 use Rattle.fst_words.specs.Forms.{form_of}
 
 -- the name of a command
 abbrev pub name_of : Verb → List ℕ
 name_of verb = (form_of verb).name
 
--- the commands
+-- the commands, in the order in which they are tried: those of the rows in the code. No row is missing: each command is
+-- found by its name (`NamesAreKnown` of `PlanLaws`).
 abbrev pub all_verbs : List Verb
-all_verbs =
-    verbs.Compile ∷
-    verbs.Print ∷
-    verbs.Info ∷
-    verbs.Invert ∷
-    verbs.Reverse ∷
-    verbs.Connect ∷
-    verbs.Union ∷
-    verbs.Concat ∷
-    verbs.Closure ∷
-    verbs.Project ∷
-    verbs.Replace ∷
-    verbs.Relabel ∷
-    verbs.Arcsort ∷
-    verbs.Compose ∷
-    verbs.Rmepsilon ∷
-    verbs.Shortestdistance ∷
-    verbs.Shortestpath ∷
-    verbs.Push ∷
-    verbs.Encode ∷
-    verbs.Determinize ∷
-    verbs.Minimize ∷
-    verbs.Batch ∷
-    verbs.Make ∷ []
+all_verbs = map (λ row. row.0) ROWS.now
 
 -- the command that has this name
 unfoldable pub verb_named : List ℕ → Option Verb

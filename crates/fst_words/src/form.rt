@@ -1,4 +1,4 @@
-//! The commands, a line each: what a command that is added takes stands here and in `specs/Forms.antt`.
+//! The commands, a row each: what a command that is added takes stands here and in `specs/Forms.antt`.
 
 ghost use Rattle.std.specs.Prelude.{◌≡◌, map};
 ghost use Rattle.fst_words.specs.Commands.{flags_of, options_of};
@@ -39,25 +39,120 @@ pub(crate) struct Form {
     pub(crate) shape: Shape,
 }
 
-/// A row of the table.
-fn row(
-    name: &'static str,
-    options: &'static [&'static str],
-    flags: &'static [&'static str],
-    shape: Shape,
-) -> Form
-    ensures name { result.name.now ≡ name.now }
-    ensures options { map (λ s. s.now) result.options.now ≡ map (λ s. s.now) options.now }
-    ensures flags { map (λ s. s.now) result.flags.now ≡ map (λ s. s.now) flags.now }
-    ensures shape { result.shape ≡ shape }
-{
-    Form {
-        name,
-        options,
-        flags,
-        shape,
-    }
-}
+/// A row of the table: a command, its name without `fst` in front, its options with a value, its flags, which have no
+/// value, and the shape of its names.
+type Row = (
+    Verb,
+    &'static str,
+    &'static [&'static str],
+    &'static [&'static str],
+    Shape,
+);
+
+/// The commands, a row each, in the order of `Verb`.
+pub(crate) static ROWS: &[Row] = &[
+    (
+        Verb::Compile,
+        "compile",
+        &["arc_type", "isymbols", "osymbols"],
+        &["acceptor", "keep_state_numbering"],
+        Shape::Text,
+    ),
+    (
+        Verb::Print,
+        "print",
+        &["isymbols", "osymbols"],
+        &["acceptor", "show_weight_one"],
+        Shape::One,
+    ),
+    (Verb::Info, "info", &[], &[], Shape::One),
+    (Verb::Invert, "invert", &[], &[], Shape::One),
+    (Verb::Reverse, "reverse", &[], &[], Shape::One),
+    (Verb::Connect, "connect", &[], &[], Shape::One),
+    (Verb::Union, "union", &[], &[], Shape::Two),
+    (Verb::Concat, "concat", &[], &[], Shape::Two),
+    (Verb::Closure, "closure", &[], &["closure_plus"], Shape::One),
+    (
+        Verb::Project,
+        "project",
+        &[],
+        &["project_output"],
+        Shape::One,
+    ),
+    (Verb::Replace, "replace", &[], &[], Shape::Rules),
+    (
+        Verb::Relabel,
+        "relabel",
+        &["relabel_ipairs", "relabel_opairs"],
+        &[],
+        Shape::One,
+    ),
+    (Verb::Arcsort, "arcsort", &["sort_type"], &[], Shape::One),
+    (
+        Verb::Compose,
+        "compose",
+        &["connect", "max_states"],
+        &[],
+        Shape::Two,
+    ),
+    (
+        Verb::Rmepsilon,
+        "rmepsilon",
+        &["connect", "queue_type"],
+        &[],
+        Shape::One,
+    ),
+    (
+        Verb::Shortestdistance,
+        "shortestdistance",
+        &["queue_type"],
+        &["reverse"],
+        Shape::One,
+    ),
+    (
+        Verb::Shortestpath,
+        "shortestpath",
+        &["nshortest"],
+        &[],
+        Shape::One,
+    ),
+    (
+        Verb::Push,
+        "push",
+        &["queue_type"],
+        &["push_weights", "remove_total_weight"],
+        Shape::One,
+    ),
+    (
+        Verb::Encode,
+        "encode",
+        &[],
+        &["encode_labels", "encode_weights", "decode"],
+        Shape::Codex,
+    ),
+    (
+        Verb::Determinize,
+        "determinize",
+        &["max_states"],
+        &[],
+        Shape::One,
+    ),
+    (Verb::Minimize, "minimize", &["queue_type"], &[], Shape::One),
+    (
+        Verb::Batch,
+        "batch",
+        &["nshortest", "workers", "max_states"],
+        &["summary"],
+        Shape::Three,
+    ),
+    (
+        Verb::Make,
+        "make",
+        &["seed", "lines", "nshortest", "workers", "max_states"],
+        &[],
+        Shape::NoInput,
+    ),
+];
 
 /// What each command takes.
 pub(crate) fn form_of(verb: Verb) -> Form
@@ -66,70 +161,12 @@ pub(crate) fn form_of(verb: Verb) -> Form
     ensures flags { map (λ s. s.now) result.flags.now ≡ flags_of verb }
     ensures shape { result.shape ≡ (form_of verb).shape }
 {
-    match verb {
-        Verb::Compile => row(
-            "compile",
-            &["arc_type", "isymbols", "osymbols"],
-            &["acceptor", "keep_state_numbering"],
-            Shape::Text,
-        ),
-        Verb::Print => row(
-            "print",
-            &["isymbols", "osymbols"],
-            &["acceptor", "show_weight_one"],
-            Shape::One,
-        ),
-        Verb::Info => row("info", &[], &[], Shape::One),
-        Verb::Invert => row("invert", &[], &[], Shape::One),
-        Verb::Reverse => row("reverse", &[], &[], Shape::One),
-        Verb::Connect => row("connect", &[], &[], Shape::One),
-        Verb::Union => row("union", &[], &[], Shape::Two),
-        Verb::Concat => row("concat", &[], &[], Shape::Two),
-        Verb::Closure => row("closure", &[], &["closure_plus"], Shape::One),
-        Verb::Project => row("project", &[], &["project_output"], Shape::One),
-        Verb::Replace => row("replace", &[], &[], Shape::Rules),
-        Verb::Relabel => row(
-            "relabel",
-            &["relabel_ipairs", "relabel_opairs"],
-            &[],
-            Shape::One,
-        ),
-        Verb::Arcsort => row("arcsort", &["sort_type"], &[], Shape::One),
-        Verb::Compose => row("compose", &["connect", "max_states"], &[], Shape::Two),
-        Verb::Rmepsilon => row("rmepsilon", &["connect", "queue_type"], &[], Shape::One),
-        Verb::Shortestdistance => row(
-            "shortestdistance",
-            &["queue_type"],
-            &["reverse"],
-            Shape::One,
-        ),
-        Verb::Shortestpath => row("shortestpath", &["nshortest"], &[], Shape::One),
-        Verb::Push => row(
-            "push",
-            &["queue_type"],
-            &["push_weights", "remove_total_weight"],
-            Shape::One,
-        ),
-        Verb::Encode => row(
-            "encode",
-            &[],
-            &["encode_labels", "encode_weights", "decode"],
-            Shape::Codex,
-        ),
-        Verb::Determinize => row("determinize", &["max_states"], &[], Shape::One),
-        Verb::Minimize => row("minimize", &["queue_type"], &[], Shape::One),
-        Verb::Batch => row(
-            "batch",
-            &["nshortest", "workers", "max_states"],
-            &["summary"],
-            Shape::Three,
-        ),
-        Verb::Make => row(
-            "make",
-            &["seed", "lines", "nshortest", "workers", "max_states"],
-            &[],
-            Shape::NoInput,
-        ),
+    let (_, name, options, flags, shape) = ROWS[verb as usize];
+    Form {
+        name,
+        options,
+        flags,
+        shape,
     }
 }
 

@@ -3,7 +3,7 @@
 ghost use Rattle.std.specs.Prelude.{◌≡◌};
 ghost use Rattle.fst_words.specs.Verbs.{name_of, verb_named, verb_of, without_prefix};
 
-use crate::form::form_of;
+use crate::form::{ROWS, form_of};
 
 /// A command. (OpenFst manual: `compile` is the program `fstcompile`.)
 #[derive(Clone, Copy, Debug, PartialEq, Eq)]
@@ -65,41 +65,15 @@ impl Verb {
     }
 }
 
-// The commands, in the order in which they are tried.
-static ALL: [Verb; 23] = [
-    Verb::Compile,
-    Verb::Print,
-    Verb::Info,
-    Verb::Invert,
-    Verb::Reverse,
-    Verb::Connect,
-    Verb::Union,
-    Verb::Concat,
-    Verb::Closure,
-    Verb::Project,
-    Verb::Replace,
-    Verb::Relabel,
-    Verb::Arcsort,
-    Verb::Compose,
-    Verb::Rmepsilon,
-    Verb::Shortestdistance,
-    Verb::Shortestpath,
-    Verb::Push,
-    Verb::Encode,
-    Verb::Determinize,
-    Verb::Minimize,
-    Verb::Batch,
-    Verb::Make,
-];
-
 /// The command that has this name.
 #[tactic(auto, unfolding(crate::specs::Verbs::verb_named))]
 fn verb_named(name: &[u8]) -> Option<Verb>
     ensures { result ≡ verb_named name.now }
 {
-    for verb in ALL.iter() {
+    for row in ROWS.iter() {
+        let verb = row.0;
         if verb.name().as_bytes() == name {
-            return Some(*verb);
+            return Some(verb);
         }
     }
     None

@@ -1,8 +1,6 @@
-use Rattle.std.proofs.Common.{◌≡◌}
-use Rattle.std.specs.Prelude.{drop, find}
-use Rattle.std.specs.Str.{bytes_eq}
-use Rattle.fst_words.specs.Verbs.{all_verbs, name_of}
+use Rattle.fst_words.specs.Verbs.{all_verbs}
+use Rattle.fst_words.proofs.Searched.{IsSearched}
 use Rattle.fst_words.proofs.verb.verb_named.Given as goal
 
-abbrev pub invariant-loop-verb : goal.invariant-loop-verb
-invariant-loop-verb l = find (λ v. bytes_eq (name_of v) l.name) all_verbs ≡ find (λ v. bytes_eq (name_of v) l.name) (drop l.verb-index all_verbs)
+abbrev pub invariant-loop-row : goal.invariant-loop-row
+invariant-loop-row l = IsSearched all_verbs l.row-items (λ row. row.0) l.row-index l.name

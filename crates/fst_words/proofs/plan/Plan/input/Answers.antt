@@ -1,5 +1,5 @@
-use Rattle.std.proofs.Common.{◌≡◌, ◌∙◌, ◌<◌, ◌/◌, List, ℕ, length, true, arith, rules, sym}
-use Rattle.fst_words.specs.Plans.{input_files, is_replace, pair_machines}
+use Rattle.std.proofs.Common.{◌≡◌, ◌∙◌, ◌<◌, length, true, arith, sym}
+use Rattle.fst_words.specs.Plans.{is_replace, pair_machines}
 use Rattle.fst_words.proofs.PlannedFiles.{machine_count, machine_in}
 use Rattle.fst_words.proofs.plan.Plan.input.Goals as goal
 

@@ -1,4 +1,4 @@
-use Rattle.std.proofs.Common.{◌∙◌, ◌+◌, refl, ap, rules}
+use Rattle.std.proofs.Common.{◌∙◌, ◌+◌, refl, ap}
 use Rattle.fst_words.specs.declared.form.Role.{Role}
 use Rattle.fst_words.specs.Forms.{form_of, role_of}
 use Rattle.fst_words.specs.Inputs.{Input, option_inputs}

@@ -1,4 +1,4 @@
-use Rattle.std.proofs.Common.{◌≡◌, ◌∙◌, ◌+◌, arith, sym, ap, ℕ, List}
+use Rattle.std.proofs.Common.{◌∙◌, ◌+◌, arith, sym, ap, ℕ}
 use Rattle.std.proofs.lemmas.List.{length-drop}
 use Rattle.std.specs.List.{slice_get}
 use Rattle.fst_words.specs.Plans.{outputs_of, output_place_of}

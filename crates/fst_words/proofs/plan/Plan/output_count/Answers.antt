@@ -1,4 +1,4 @@
-use Rattle.std.proofs.Common.{◌≡◌, ◌∙◌, arith}
+use Rattle.std.proofs.Common.{arith}
 use Rattle.std.proofs.lemmas.List.{length-drop}
 use Rattle.fst_words.specs.Plans.{outputs_of, output_place_of}
 use Rattle.fst_words.proofs.plan.Plan.output_count.Goals as goal

@@ -1,5 +1,4 @@
-use Rattle.std.proofs.Common.{◌≡◌, ◌∙◌, ◌<◌, None, Some, arith, sym, ap, length}
-use Rattle.fst_words.specs.Plans.{rule_labels}
+use Rattle.std.proofs.Common.{◌≡◌, None, Some, arith}
 use Rattle.fst_words.specs.Values.{label_of}
 use Rattle.fst_words.proofs.PlannedFiles.{has_label, has_place, rule_label_at}
 use Rattle.fst_words.proofs.plan.Plan.rule_label.Goals as goal
