@@ -1,5 +1,5 @@
 -- What a batch answers, with weights as values.
-use Rattle.std.proofs.Common.{◌≡◌, ◌⊎◌, inl, inr, ℕ, suc, ◌+◌, ◌≤◌, ◌+ℤ◌, ◌<◌, ◌^◌, All, Bool, true, false, cond, List, [], ◌∷◌, ◌++◌, Some, drop, length, map, slice_get, refl, sym, ap, ap₂, ◌∙◌, subst, append_assoc, arith}
+use Rattle.std.proofs.Common.{◌≡◌, inl, inr, ℕ, suc, ◌+◌, ◌≤◌, Bool, true, false, cond, List, [], ◌∷◌, ◌++◌, Some, drop, length, map, slice_get, refl, sym, ap, ap₂, ◌∙◌, subst, append_assoc, arith}
 use Rattle.std.specs.List.{AllZip, flat_map}
 use Rattle.fst_fields.specs.Lines.{in_front, is_line_end, lines_of}
 use Rattle.fst_semiring.specs.Cost.{Cost}

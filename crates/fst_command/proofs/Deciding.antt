@@ -1,5 +1,6 @@
--- What is said of one thing alone: of the one machine or the two, of a machine that is made, of what tells a fault.
-use Rattle.std.proofs.Common.{◌≡◌, List, [], ◌∷◌, refl, sym, ap, ◌∙◌}
+-- What is said of one thing alone: of the one machine or the two, of a machine that is made, of what tells a fault, of
+-- what reading a text, or printing one, gives.
+use Rattle.std.proofs.Common.{◌≡◌, List, [], ◌∷◌, Result, Ok, Err, refl, sym, ap, ◌∙◌}
 use Rattle.fst_semiring.specs.declared.arc_type.ArcType.{ArcType}
 use Rattle.fst_semiring.specs.Cost.{Cost}
 use Rattle.fst_machine.specs.Machine.{Machine}
@@ -13,6 +14,13 @@ one_never f h one two = absurd one
 -- what is equal to this
 pub one_equal : {X : Type 0} (it : X) (Q : X → Type 0) → One (λ x. (x ≡ it) × Q x)
 one_equal it Q x y one two = one.0 ∙ sym two.0
+
+-- what reading a text, or printing one, gives
+pub one_error : {X E : Type 0} (read : Result X E) → One (λ e. read ≡ Err e)
+one_error read e f one two = let same = sym one ∙ two in cc
+
+pub one_value : {X E : Type 0} (read : Result X E) → One (λ x. read ≡ Ok x)
+one_value read x y one two = let same = sym one ∙ two in cc
 
 -- what tells things of which one line is told, and what tells one thing
 pub one_line : {W Y : Type 0} (P : W → Type 0) (tell : W → Y) → ((w v : W) → P w → P v → tell w ≡ tell v) → One (λ y. (w : W) × P w × (y ≡ tell w))

@@ -10,7 +10,7 @@ use Rattle.fst_pushing.specs.Totals.{IsPushFault, IsTotalled, IsWithin, push_tex
 use Rattle.fst_pushing.specs.declared.fault.PushFault.{PushFault}
 use Rattle.fst_pushing.specs.declared.fault.PushFault.TheVariants.{Memory}
 use Rattle.fst_pushing.proofs.OneAnswer.{no_fault, one_fault, one_totalled}
-use Rattle.fst_command.specs.Causes.{Fault, faulty, refused, unmade}
+use Rattle.fst_command.specs.Causes.{faulty, refused, unmade}
 use Rattle.fst_command.specs.Meaning.{Declines, Passes, Stops}
 use Rattle.fst_command.specs.OneOutcome.{One}
 use Rattle.fst_command.specs.Pushing.{Pushes}

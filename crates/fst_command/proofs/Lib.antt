@@ -14,7 +14,6 @@ mod Writing
 mod Completing
 mod Showing
 mod Counted
-mod MadeCount
 mod Stored
 mod Decided
 mod Places
@@ -28,6 +27,8 @@ mod DecidingListing
 mod DecidingRemoving
 mod DecidingMinimizing
 mod DecidingPushing
+mod OneMade
+mod Lawful
 mod OneOutcome
 mod Exactly
 mod Determinized

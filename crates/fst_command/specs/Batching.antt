@@ -1,6 +1,6 @@
 -- `batch`: the answers of lines that go through a cascade of two machines. (This project's own command: OpenFst
 -- composes a machine for each line with the first and the second, and asks for its best paths.)
-use Rattle.std.specs.Prelude.{◌≡◌, ℕ, suc, ◌+◌, ◌++◌, List, [], ◌∷◌, codes, length, map, if◌then◌else◌}
+use Rattle.std.specs.Prelude.{◌≡◌, ℕ, suc, ◌++◌, List, [], ◌∷◌, codes, length, map, if◌then◌else◌}
 use Rattle.std.specs.Fmt.{decimal}
 use Rattle.std.specs.List.{AllZip}
 use Rattle.fst_fields.specs.Lines.{lines_of}

@@ -4,7 +4,7 @@ use Rattle.fst_any.specs.Typed.{typed, typed_codex}
 use Rattle.fst_command.specs.Seeing.{bytes_seen, held_seen}
 use Rattle.fst_command.proofs.Answering.{works_refused}
 use Rattle.fst_command.proofs.Counted.{read_codex, read_lines, read_machines, some_seen}
-use Rattle.fst_command.proofs.MadeCount.{stored_fits}
+use Rattle.fst_command.proofs.Lawful.{stored_fits}
 use Rattle.fst_command.proofs.Meters.{end_refused, end_stored, end_untouched}
 use Rattle.fst_command.proofs.carrying.carry_out.Goals as goal
 
