@@ -50,6 +50,19 @@ static TAKEN: [(&str, usize); 8] = [
     ("shortestdistance --queue_type=shortest m r", 2),
 ];
 
+/// A queue whose puts are counted there.
+fn counted<Q: StateQueue>(
+    alloc: Global,
+    inner: Q,
+    puts: &Rc<Cell<u64>>,
+) -> Result<Box<Counting<Q>>, AllocError> {
+    let counting = Counting {
+        inner,
+        puts: Rc::clone(puts)?,
+    };
+    Ok(Box::new(alloc, counting)?)
+}
+
 /// Asks that a command takes that queue alone.
 fn takes<R: Threads + Sync + Abort>(
     rt: &R,
@@ -64,27 +77,9 @@ fn takes<R: Threads + Sync + Abort>(
         Rc::new(alloc, Cell::new(0u64))?,
     ];
     let queues = Queues {
-        fifo: Box::new(
-            alloc,
-            Counting {
-                inner: Fifo::new(alloc),
-                puts: Rc::clone(&counts[0])?,
-            },
-        )?,
-        lifo: Box::new(
-            alloc,
-            Counting {
-                inner: Lifo::new(alloc),
-                puts: Rc::clone(&counts[1])?,
-            },
-        )?,
-        best: Box::new(
-            alloc,
-            Counting {
-                inner: BestFirst::new(alloc),
-                puts: Rc::clone(&counts[2])?,
-            },
-        )?,
+        fifo: counted(alloc, Fifo::new(alloc), &counts[0])?,
+        lifo: counted(alloc, Lifo::new(alloc), &counts[1])?,
+        best: counted(alloc, BestFirst::new(alloc), &counts[2])?,
     };
     let words = split(alloc, line)?;
     let mut meter = CountMeter::new();

@@ -10,7 +10,7 @@ use std::test::Fail;
 use std::thread::Threads;
 
 /// A row: what is done at the desk, or what is asked of it. Words are written with spaces between them.
-#[derive(Clone, Copy, Debug)]
+#[derive(Clone, Copy)]
 pub(crate) enum Row {
     /// A new desk takes the place of the one before.
     New,

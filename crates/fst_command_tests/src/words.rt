@@ -116,19 +116,34 @@ fn check_rows(rt: &impl Abort, alloc: Global, rows: &[(&[&str], &str)]) -> Resul
     Ok(())
 }
 
+/// The rows of first words, and of each command by itself.
+fn check_commands(rt: &impl Abort, alloc: Global) -> Result<(), Fail> {
+    check_rows(rt, alloc, FIRST_WORDS.as_slice())?;
+    check_rows(rt, alloc, COMMANDS_1.as_slice())?;
+    check_rows(rt, alloc, COMMANDS_2.as_slice())?;
+    check_rows(rt, alloc, COMMANDS_3.as_slice())
+}
+
+/// The rows of options, and of numbers in them.
+fn check_options(rt: &impl Abort, alloc: Global) -> Result<(), Fail> {
+    check_rows(rt, alloc, OPTIONS_1.as_slice())?;
+    check_rows(rt, alloc, OPTIONS_2.as_slice())?;
+    check_rows(rt, alloc, NUMBERS.as_slice())
+}
+
+/// The rows of names that may not be equal, or are labels.
+fn check_names(rt: &impl Abort, alloc: Global) -> Result<(), Fail> {
+    check_rows(rt, alloc, ENCODE.as_slice())?;
+    check_rows(rt, alloc, REPLACE.as_slice())?;
+    check_rows(rt, alloc, TWICE.as_slice())
+}
+
 #[test]
 fn reads_the_words_of_every_command(rt: HostRuntime) -> Result<(), Fail> {
     let alloc = rt.alloc();
-    check_rows(&rt, alloc, FIRST_WORDS.as_slice())?;
-    check_rows(&rt, alloc, COMMANDS_1.as_slice())?;
-    check_rows(&rt, alloc, COMMANDS_2.as_slice())?;
-    check_rows(&rt, alloc, COMMANDS_3.as_slice())?;
-    check_rows(&rt, alloc, OPTIONS_1.as_slice())?;
-    check_rows(&rt, alloc, OPTIONS_2.as_slice())?;
-    check_rows(&rt, alloc, NUMBERS.as_slice())?;
-    check_rows(&rt, alloc, ENCODE.as_slice())?;
-    check_rows(&rt, alloc, REPLACE.as_slice())?;
-    check_rows(&rt, alloc, TWICE.as_slice())?;
+    check_commands(&rt, alloc)?;
+    check_options(&rt, alloc)?;
+    check_names(&rt, alloc)?;
     Ok(())
 }
 
