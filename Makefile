@@ -41,7 +41,7 @@ all: $(FST)
 # The proved program. From nothing each crate is proved that it stands on; after a change, what has changed. The crates of
 # tests are proved beside them, and do not decide.
 out/fst: $(SOURCES)
-	@echo "First the program is proved and built: about three quarters of an hour from nothing on four processors, minutes after a change."
+	@echo "First the program is proved and built: about three quarters of an hour from nothing on four processors, an hour and a quarter on two, minutes after a change."
 	@mkdir -p out && date +%s > out/began
 	-rt all check --jobs $(JOBS)
 	cd crates/fst && rt run -- compile - - < stdin > /dev/null
