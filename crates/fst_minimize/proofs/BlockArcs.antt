@@ -11,7 +11,6 @@ use Rattle.fst_minimize.specs.Behaviour.{Alike}
 use Rattle.fst_minimize.specs.Dividing.{AreBacks, AreBelow, KeepsAlike, LeadsBy, TakesAlike, Under}
 use Rattle.fst_minimize.specs.Numbered.{AreRows, RowsBelow, number_in}
 use Rattle.fst_minimize.specs.declared.backs.Keyed.{Keyed}
-use Rattle.fst_minimize.proofs.InBacks.{backs_whole}
 use Rattle.fst_minimize.proofs.Refining.{Paired, alike_paired}
 use Rattle.fst_minimize.proofs.Splitting.{rows_within}
 
@@ -36,15 +35,15 @@ module _ (g : Graph ℕ) (rows : List (List ℕ)) (are : AreRows g (length rows)
       let same = keeps arc.0.next other.0.next first_low second_low other.2 in
       (other.0.next, (nexts (g.arcs q), are.row q less, at_mapped (λ (a : Arc Cost ℕ). a.next) (g.arcs q) key other.0 other.1), second_low, sym same ∙ ap (number_in blocks) arc.2)
 
-  pub arcs_take : (lists : List (List Keyed)) → AreBacks rows (length rows) 0 lists → (states : List ℕ) (block : ℕ) (items : List Keyed) → ((q : ℕ) → Has states q → number_in blocks q ≡ block) → ((q : ℕ) → q < length rows → number_in blocks q ≡ block → Has states q)
+  pub arcs_take : (lists : List (List Keyed)) → AreBacks rows lists → (states : List ℕ) (block : ℕ) (items : List Keyed) → ((q : ℕ) → Has states q → number_in blocks q ≡ block) → ((q : ℕ) → q < length rows → number_in blocks q ≡ block → Has states q)
       → ((key p : ℕ) → Under items key p → (q : ℕ) × Has states q × Under (get_or lists q []) key p) → ((key p q : ℕ) → Has states q → Under (get_or lists q []) key p → Under items key p) → TakesAlike g (length rows) items
   arcs_take lists b states block items in_block all_of only all key p q low less alike under =
       let from = only key p under in
       let to = alike_leads p q key from.0 low less alike (b.only p key from.0 from.2) in
-      all key q to.0 (all_of to.0 to.2 (to.3 ∙ in_block from.0 from.1)) (backs_whole rows lists b q key to.0 to.1)
+      all key q to.0 (all_of to.0 to.2 (to.3 ∙ in_block from.0 from.1)) (b.all q key to.0 to.1)
 
 -- and they are arcs of states that there are
-pub arcs_below : (rows : List (List ℕ)) (lists : List (List Keyed)) → AreBacks rows (length rows) 0 lists → (states : List ℕ) (items : List Keyed) → ((key p : ℕ) → Under items key p → (q : ℕ) × Has states q × Under (get_or lists q []) key p) → AreBelow (length rows) items
+pub arcs_below : (rows : List (List ℕ)) (lists : List (List Keyed)) → AreBacks rows lists → (states : List ℕ) (items : List Keyed) → ((key p : ℕ) → Under items key p → (q : ℕ) × Has states q × Under (get_or lists q []) key p) → AreBelow (length rows) items
 arcs_below rows lists b states items only i item there =
     let from = only item.key item.state (at_Has items i item there) in
     let leads = b.only item.state item.key from.0 from.2 in

@@ -169,17 +169,18 @@ numbered_takes g numbers items h keeps key p q low less alike under =
     let here : number_in numbers q ≡ key = sym (keeps p q low less alike) ∙ (ap (number_in numbers) (sym state) ∙ named) in
     at_Has items q (record { key = key; state = q }) (h.1 q less ∙ ap (λ (k : ℕ). Some (record { key = k; state = q })) here)
 
+-- a part of a list that is empty, and one that ends later
+pub run_empty : (items : List Keyed) (place end p : ℕ) → end ≤ place → InRun items place end p → ⊥
+run_empty items place end p done r = let low = r.low in let within = r.within in omega arith
+
+pub run_longer : (items : List Keyed) (first end place p : ℕ) → end ≤ place → InRun items first end p → InRun items first place p
+run_longer items first end place p more r = record { place = r.place; item = r.item; low = r.low; within = (let within = r.within in omega arith); there = r.there; same = r.same }
+
 -- a part of a list, and one place more
 module _ (items : List Keyed) (first place : ℕ) where
-  pub run_none : (p : ℕ) → InRun items first first p → ⊥
-  run_none p r = let low = r.low in let within = r.within in omega arith
-
   -- the state in a place
   pub state_at : (n : ℕ) → AreBelow n items → place < length items → (get_or items place (record { key = 0; state = 0 })).state < n
   state_at n below low = below place (get_or items place (record { key = 0; state = 0 })) (slice_get-get_or items place (record { key = 0; state = 0 }) low)
-
-  pub run_grows : (p : ℕ) → InRun items first place p → InRun items first (place + 1) p
-  run_grows p r = record { place = r.place; item = r.item; low = r.low; within = (let within = r.within in omega arith); there = r.there; same = r.same }
 
   pub run_own : (p : ℕ) → first ≤ place → place < length items → (get_or items place (record { key = 0; state = 0 })).state ≡ p → InRun items first (place + 1) p
   run_own p low within same = record { place = place; item = get_or items place (record { key = 0; state = 0 }); low = low; within = omega arith; there = slice_get-get_or items place (record { key = 0; state = 0 }) within; same = same }
@@ -212,7 +213,7 @@ module _ (old cur new : Parts) (items : List Keyed) (first at : ℕ) (m : Marks 
     where
       before : IsMarked old p ⊎ InRun items first at p → IsMarked old p ⊎ InRun items first (at + 1) p
       before (inl was) = inl was
-      before (inr r) = inr (run_grows items first at p r)
+      before (inr r) = inr (run_longer items first at (at + 1) p (omega arith) r)
 
       by : IsMarked cur p ⊎ (p ≡ (get_or items at (record { key = 0; state = 0 })).state) → IsMarked old p ⊎ InRun items first (at + 1) p
       by (inl was) = before (only p p_low was)
@@ -236,13 +237,7 @@ splits_left cur new items at end s left p low mark =
 pub split_more : (g : Graph ℕ) (old new : Parts) (state : ℕ) → Splits old new state → TellsMarked g old → KeepsAlike g (length old.blocks.items) old.blocks.items → KeepsAlike g (length new.blocks.items) new.blocks.items
 split_more g old new state s tells keeps = subst (λ (n : ℕ). KeepsAlike g n new.blocks.items) (sym s.size) (split_keeps g old new state s tells keeps)
 
--- parts that end where a loop has ended
-pub run_empty : (items : List Keyed) (place end p : ℕ) → end ≤ place → InRun items place end p → ⊥
-run_empty items place end p done r = let low = r.low in let within = r.within in omega arith
-
-pub run_longer : (items : List Keyed) (first end place p : ℕ) → end ≤ place → InRun items first end p → InRun items first place p
-run_longer items first end place p more r = record { place = r.place; item = r.item; low = r.low; within = (let within = r.within in omega arith); there = r.there; same = r.same }
-
+-- the part, where the loop has come to its end
 pub run_is : {X : Type 0} (items : List Keyed) (first place end p : ℕ) → place ≡ end → X ⊎ InRun items first place p → X ⊎ InRun items first end p
 run_is {X} items first place end p same h = subst (λ (k : ℕ). X ⊎ InRun items first k p) same h
 

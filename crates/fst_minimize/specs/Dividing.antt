@@ -53,12 +53,18 @@ TellsMarked g parts = (p q : ℕ) → p < length parts.blocks.items → q < leng
 abbrev pub LeadsBy : List (List ℕ) → ℕ → ℕ → ℕ → Type 0
 LeadsBy rows p key q = (r : List ℕ) × (slice_get rows p ≡ Some r) × (slice_get r key ≡ Some q)
 
+-- For each state just the arcs that lead to it, each as the state that it leaves under its place in the row of that.
+pub record AreBacks (rows : List (List ℕ)) (lists : List (List Keyed)) : Type 0 where
+  pub size : length lists ≡ length rows
+  pub only : (p key q : ℕ) → Under (get_or lists q []) key p → LeadsBy rows p key q
+  pub all : (p key q : ℕ) → LeadsBy rows p key q → Under (get_or lists q []) key p
+
 -- the place comes before another: that of an earlier state, or an earlier one of the same state
 abbrev pub ComesBefore : ℕ → ℕ → ℕ → ℕ → Type 0
 ComesBefore p key state place = (p < state) ⊎ ((p ≡ state) × (key < place))
 
--- For each state the arcs that lead to it, of those before a place.
-pub record AreBacks (rows : List (List ℕ)) (state place : ℕ) (lists : List (List Keyed)) : Type 0 where
+-- The same of the arcs before a place.
+pub record AreBacksBefore (rows : List (List ℕ)) (state place : ℕ) (lists : List (List Keyed)) : Type 0 where
   pub size : length lists ≡ length rows
   pub only : (p key q : ℕ) → Under (get_or lists q []) key p → LeadsBy rows p key q
   pub all : (p key q : ℕ) → LeadsBy rows p key q → ComesBefore p key state place → Under (get_or lists q []) key p

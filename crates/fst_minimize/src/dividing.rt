@@ -129,8 +129,8 @@ fn put_arcs_into(
     block: u32,
 ) -> Result<(), AllocError>
     requires { length backs.now ≡ length parts.now.blocks.items }
-    ensures below { OnOk result ((rows : List (List ℕ)) → AreBacks rows (length rows) 0 backs.now → AreBelow (length rows) items.new.items) }
-    ensures alike { OnOk result ((g : Graph ℕ) (rows : List (List ℕ)) → AreBacks rows (length rows) 0 backs.now → AreRows g (length rows) rows → RowsBelow (length rows) rows → KeepsAlike g (length rows) parts.now.blocks.items → TakesAlike g (length rows) items.new.items) }
+    ensures below { OnOk result ((rows : List (List ℕ)) → AreBacks rows backs.now → AreBelow (length rows) items.new.items) }
+    ensures alike { OnOk result ((g : Graph ℕ) (rows : List (List ℕ)) → AreBacks rows backs.now → AreRows g (length rows) rows → RowsBelow (length rows) rows → KeepsAlike g (length rows) parts.now.blocks.items → TakesAlike g (length rows) items.new.items) }
 {
     parts.put_members(members, block)?;
     backs.put_arcs(items, members)?;

@@ -1,12 +1,12 @@
 use Rattle.std.proofs.Common.{◌<◌, inl, length, refl, ap, ◌∙◌, arith}
-use Rattle.fst_minimize.proofs.ByBlocks.{marks_all, marks_only, run_is, run_longer, run_none, state_at}
+use Rattle.fst_minimize.proofs.ByBlocks.{marks_all, marks_only, run_empty, run_is, run_longer, state_at}
 use Rattle.fst_minimize.proofs.dividing.mark_run.Goals as goal
 
 pub loop-place-init : goal.loop-place-init
 loop-place-init c = record {
   blocks = refl;
   only = λ p low mark. inl mark;
-  all = λ p r. absurd (run_none c.args.items.now c.args.first 0 p r);
+  all = λ p r. absurd (run_empty c.args.items.now c.args.first c.args.first p (omega arith) r);
 }
 
 pub mark-requires : goal.mark-requires
