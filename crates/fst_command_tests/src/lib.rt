@@ -1,4 +1,4 @@
-//! Tests of the commands: the words of a command line, and what `run` reads, writes and shows for them.
+//! Tests of the commands: what `run` reads, writes and shows for the words of a command line.
 //!
 //! The crate has nothing but tests, and no other crate stands on it. A test is a table of rows, which [`session`]
 //! plays over a desk in memory: files that are put, words that are run, and what then stands and is shown. The
@@ -16,8 +16,6 @@ mod codices;
 #[cfg(test)]
 mod composition;
 #[cfg(test)]
-mod desks;
-#[cfg(test)]
 mod distances;
 #[cfg(test)]
 mod epsilon_arcs;
@@ -32,8 +30,6 @@ mod operations;
 #[cfg(test)]
 mod paths;
 #[cfg(test)]
-mod plans;
-#[cfg(test)]
 mod pushing;
 #[cfg(test)]
 mod queues;
@@ -41,5 +37,3 @@ mod queues;
 mod replacement;
 #[cfg(test)]
 mod session;
-#[cfg(test)]
-mod words;
