@@ -24,6 +24,7 @@ pub mod Connected
 pub mod Walking
 pub mod Arriving
 pub mod Keeping
+pub mod Retaining
 pub mod Valued
 pub mod Narrowing
 pub mod OneMachine

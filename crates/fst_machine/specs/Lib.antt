@@ -24,6 +24,9 @@ pub mod Steps
 pub mod Marks
 pub mod Walking
 pub mod Store
+pub mod SideBySide
+pub mod Renumbered
+pub mod Retaining
 pub mod Putting
 pub mod KeptMachine
 pub mod Narrowing

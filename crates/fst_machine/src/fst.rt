@@ -8,6 +8,7 @@ ghost use Rattle.fst_machine.specs.Machine.{Machine, IsMachine, arc_total, bare_
 use crate::arc::FstArc;
 use crate::kept::Kept;
 
+mod retain;
 mod state_list;
 
 use fst_semiring::Weight;

@@ -6,7 +6,7 @@ use Rattle.std.specs.Int.{from_bool}
 use Rattle.std.proofs.lemmas.Bool.{cases_lt}
 use Rattle.fst_machine.specs.BreadthFirst.{Apart, Has}
 use Rattle.fst_machine.proofs.Elements.{at_Has}
-use Rattle.fst_trim.specs.Renumbered.{IsNumbering, marked}
+use Rattle.fst_machine.specs.Renumbered.{IsNumbering, marked}
 use Rattle.fst_trim.specs.Counted.{IsCount}
 
 -- one place more

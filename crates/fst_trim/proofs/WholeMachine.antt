@@ -12,7 +12,7 @@ use Rattle.fst_machine.specs.Graph.{graph_of}
 use Rattle.fst_machine.specs.Cycles.{IsUseful}
 use Rattle.fst_machine.specs.Connected.{Kept}
 use Rattle.fst_trim.specs.KeptPaths.{IsConnectedOn}
-use Rattle.fst_trim.specs.Renumbered.{marked}
+use Rattle.fst_machine.specs.Renumbered.{marked}
 use Rattle.fst_trim.proofs.Looking.{look}
 use Rattle.fst_trim.proofs.Marking.{marked_is, marked-ascends}
 

@@ -4,7 +4,6 @@ pub mod FirstArcs
 pub mod Sources
 pub mod Finals
 pub mod Back
-pub mod Renumbered
 pub mod Counted
 pub mod Links
 pub mod Taken

@@ -10,7 +10,7 @@ ghost use Rattle.fst_machine.specs.Machine.{IsMachine, valued};
 ghost use Rattle.fst_machine.specs.Relation.{Rel};
 ghost use Rattle.fst_trim.specs.KeptPaths.{IsConnectedOn, KeepsPaths};
 ghost use Rattle.fst_trim.specs.Handed.{machine_of};
-ghost use Rattle.fst_trim.specs.Renumbered.{IsNumbering, kept_arcs, kept_machine, kept_states, marked, new_start};
+ghost use Rattle.fst_machine.specs.Renumbered.{IsNumbering, marked_arcs, marked_machine, marked_states, marked, new_start};
 
 use crate::useful::useful;
 use fst_machine::{Fst, FstArc, StateList};
@@ -40,7 +40,7 @@ fn keep_arcs<W: Copy>(
 ) -> Result<(), AllocError>
     requires marks { All (λ a. a.next < length marks.now) arcs.now }
     requires numbers { length numbers.now ≡ length marks.now }
-    ensures { OnOk result (kept.new.items ≡ kept.old.items ++ kept_arcs marks.now numbers.now arcs.now) }
+    ensures { OnOk result (kept.new.items ≡ kept.old.items ++ marked_arcs marks.now numbers.now arcs.now) }
 {
     for arc in arcs {
         let next = arc.next as usize;
@@ -66,7 +66,7 @@ fn keep_states<W: Weight>(
 ) -> Result<StateList<W>, AllocError>
     requires marks { length marks.now ≡ length fst.now.states }
     requires numbers { length numbers.now ≡ length marks.now }
-    ensures { IfOk result (λ states. states ≡ kept_states marks.now numbers.now 0 fst.now.states) }
+    ensures { IfOk result (λ states. states ≡ marked_states marks.now numbers.now 0 fst.now.states) }
 {
     let mut states = StateList::with_capacity(alloc, marks.len(), fst.arc_count() as usize)?;
     let mut kept = Vec::new(alloc);
@@ -169,8 +169,38 @@ fn connect_marked<W: Weight>(
     Ok(states.into_machine(start))
 }
 
+/// The marked states of a machine that is given away, with the arcs between them: in place where they stand side by side.
+fn retain_states<W: Weight>(
+    alloc: Global,
+    a: Fst<W>,
+    marks: &[bool],
+    numbers: &[u32],
+) -> Result<StateList<W>, AllocError>
+    requires marks { length marks.now ≡ length a.states }
+    requires numbers { length numbers.now ≡ length marks.now }
+    ensures { IfOk result (λ states. states ≡ marked_states marks.now numbers.now 0 a.states) }
+{
+    match a.retain(marks, numbers)? {
+        Ok(states) => Ok(states),
+        Err(a) => keep_states(alloc, &a, marks, numbers),
+    }
+}
+
+/// The machine of the marked states, as `connect_marked` makes it, of a machine that is given away.
+fn retain_marked<W: Weight>(alloc: Global, a: Fst<W>, marks: &[bool]) -> Result<Fst<W>, AllocError>
+    requires size { length marks.now ≡ length a.states }
+    requires useful { (p : ℕ) → Decides (get_or marks.now p false) (IsUseful (graph_of (valued W.value a)) p) }
+    ensures { IfOk result (λ c. IsConnectedOn (valued W.value a) (valued W.value c) (marked 0 marks.now)) }
+{
+    let _states = a.states();
+    let numbers = numbers_of(alloc, marks)?;
+    let start = number_of_start(a.start(), marks, numbers.as_slice());
+    let states = retain_states(alloc, a, marks, numbers.as_slice())?;
+    Ok(states.into_machine(start))
+}
+
 /// The machine of the marked states, as `connect_marked` makes it; the given machine itself where all are marked. One that
-/// was given away is given up as soon as the other stands.
+/// was given away is changed in place.
 fn trim_marked<'a, W: Weight>(
     alloc: Global,
     a: Handed<'a, W>,
@@ -184,14 +214,22 @@ fn trim_marked<'a, W: Weight>(
     if all_marked(marks) {
         return Ok(a);
     }
-    let own = connect_marked(alloc, a.fst(), marks)?;
-    Ok(Handed::Own(own))
+    match a {
+        Handed::Lent(fst) => {
+            let own = connect_marked(alloc, fst, marks)?;
+            Ok(Handed::Own(own))
+        }
+        Handed::Own(fst) => {
+            let own = retain_marked(alloc, fst, marks)?;
+            Ok(Handed::Own(own))
+        }
+    }
 }
 
 /// The connected machine, as `connect` gives it, with the list of the states that were kept. So a path of the
 /// connected machine can be told in the states and places of the given one: state i is the i-th kept state, and its
 /// arcs are the arcs between kept states, in their order (`IsKeptAt` says of each which it is). Where all states are
-/// useful it is the given machine itself, and nothing is copied; where not, a machine that was given away is given up.
+/// useful it is the given machine itself, and nothing is copied; where not, a machine that was given away is changed in place.
 ///
 /// Time and space: as `connect`.
 pub fn connect_kept<'a, W: Weight>(
@@ -227,8 +265,8 @@ pub fn connect<W: Weight>(alloc: Global, a: &Fst<W>) -> Result<Fst<W>, AllocErro
     Ok(connected)
 }
 
-/// The connected machine, as `connect` gives it, of a machine that is given away. A machine all of whose states are useful
-/// is given back as it is, and no state or arc of it is copied.
+/// The connected machine, as `connect` gives it, of a machine that is given away: a machine all of whose states are useful
+/// is given back as it is, and one whose states stand side by side is changed in place.
 ///
 /// Time and space: as `connect`.
 pub fn into_connected<W: Weight>(alloc: Global, a: Fst<W>) -> Result<Fst<W>, AllocError>
@@ -241,6 +279,6 @@ pub fn into_connected<W: Weight>(alloc: Global, a: Fst<W>) -> Result<Fst<W>, All
     if all_marked(marks.as_slice()) {
         return Ok(a);
     }
-    let connected = connect_marked(alloc, &a, marks.as_slice())?;
+    let connected = retain_marked(alloc, a, marks.as_slice())?;
     Ok(connected)
 }

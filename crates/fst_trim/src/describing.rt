@@ -5,7 +5,7 @@ ghost use Rattle.std.specs.List.{count_by};
 ghost use Rattle.fst_machine.specs.Graph.{graph_of};
 ghost use Rattle.fst_machine.specs.Machine.{arc_total, most_arcs, valued};
 ghost use Rattle.fst_semiring.specs.Cost.{infinite};
-ghost use Rattle.fst_trim.specs.Renumbered.{marked};
+ghost use Rattle.fst_machine.specs.Renumbered.{marked};
 ghost use Rattle.fst_trim.specs.Counted.{IsCount, IsInfo, arcs_with, has_both_epsilons, has_input_epsilon, has_output_epsilon};
 
 use crate::first_arc::{is_acceptor, is_deterministic};

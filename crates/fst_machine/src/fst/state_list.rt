@@ -14,8 +14,8 @@ use std::marker::Model;
 /// States with their arcs, which become a machine once all of them stand.
 #[derive(Drop)]
 pub struct StateList<W: Weight> {
-    slots: Vec<Slot<W>>,
-    store: Vec<FstArc<W>>,
+    pub(super) slots: Vec<Slot<W>>,
+    pub(super) store: Vec<FstArc<W>>,
 }
 
 impl<W: Weight> Model for StateList<W> {

@@ -5,7 +5,7 @@ use Rattle.fst_machine.specs.Graph.{graph_of}
 use Rattle.fst_machine.specs.Cycles.{IsUseful}
 use Rattle.fst_machine.proofs.Connected.{connected-Rel}
 use Rattle.fst_trim.specs.KeptPaths.{IsConnectedOn}
-use Rattle.fst_trim.specs.Renumbered.{marked}
+use Rattle.fst_machine.specs.Renumbered.{marked}
 use Rattle.fst_trim.specs.Handed.{machine_of}
 use Rattle.fst_trim.proofs.KeptPaths.{connected_on_keeps}
 use Rattle.fst_trim.proofs.connected.connect_kept.Goals as goal

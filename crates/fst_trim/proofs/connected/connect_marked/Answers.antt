@@ -1,6 +1,6 @@
 use Rattle.std.proofs.Common.{refl, sym, subst}
 use Rattle.fst_machine.specs.Machine.{Machine, valued}
-use Rattle.fst_trim.specs.Renumbered.{marked}
+use Rattle.fst_machine.specs.Renumbered.{marked}
 use Rattle.fst_trim.specs.KeptPaths.{IsConnectedOn}
 use Rattle.fst_trim.proofs.Trimming.{finished}
 use Rattle.fst_trim.proofs.connected.connect_marked.Goals as goal

@@ -18,8 +18,8 @@ returns-then-all_marked-clause-machine g c =
 pub returns-then-all_marked-clause-paths : goal.returns-then-all_marked-clause-paths
 returns-then-all_marked-clause-paths g c h = connected_keeps (valued g.W.Weight.value c.args.a) (valued g.W.Weight.value c.args.a) h g.W.Weight.KIND
 
-pub connect_marked-requires-clause-useful : goal.connect_marked-requires-clause-useful
-connect_marked-requires-clause-useful g c =
+pub retain_marked-requires-clause-useful : goal.retain_marked-requires-clause-useful
+retain_marked-requires-clause-useful g c =
     subst (λ (ms : List Bool). (p : ℕ) → Decides (get_or ms p false) (IsUseful (graph_of (valued g.W.Weight.value c.args.a)) p)) (sym c.as_slice-2.ensures.value) c.in_ok-marks.ensures.marks
 
 pub returns-clause-machine : goal.returns-clause-machine

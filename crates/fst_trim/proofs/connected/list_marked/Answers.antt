@@ -1,5 +1,5 @@
 use Rattle.std.proofs.Common.{◌≡◌, ◌<◌, ◌+◌, ℕ, Bool, true, false, cond, List, [], ◌∷◌, ◌++◌, get_or, length, take, sym, ap, ◌∙◌, append-nil, arith}
-use Rattle.fst_trim.specs.Renumbered.{marked}
+use Rattle.fst_machine.specs.Renumbered.{marked}
 use Rattle.fst_trim.proofs.Marking.{marked-more}
 use Rattle.fst_trim.proofs.connected.list_marked.Goals.{then-mark+in_ok-push, else-mark}
 use Rattle.fst_trim.proofs.connected.list_marked.Goals as goal

@@ -2,7 +2,7 @@ use Rattle.std.proofs.Common.{◌≡◌, ◌⊎◌, inl, inr, ◌<◌, ◌+◌, 
 use Rattle.std.proofs.lemmas.Bool.{cases_eq}
 use Rattle.std.proofs.lemmas.List.{length-append, get_or_append_left}
 use Rattle.std.proofs.Math.Seq.{get_or-append_seam}
-use Rattle.fst_trim.specs.Renumbered.{marked}
+use Rattle.fst_machine.specs.Renumbered.{marked}
 use Rattle.fst_trim.proofs.Marking.{as_number, count_fits, count_more}
 use Rattle.fst_trim.proofs.connected.numbers_of.Goals as goal
 

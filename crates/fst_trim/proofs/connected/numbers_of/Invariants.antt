@@ -1,5 +1,5 @@
 use Rattle.std.proofs.Common.{ℕ, ◌≡◌, ◌<◌, length, get_or, take}
-use Rattle.fst_trim.specs.Renumbered.{marked}
+use Rattle.fst_machine.specs.Renumbered.{marked}
 use Rattle.fst_trim.proofs.connected.numbers_of.Given as goal
 
 abbrev pub invariant-loop-mark : goal.invariant-loop-mark

@@ -1,5 +1,5 @@
 use Rattle.std.proofs.Common.{◌≡◌, ◌+◌, false, cond, get_or, take, length, ◌∙◌, arith}
-use Rattle.fst_trim.specs.Renumbered.{marked}
+use Rattle.fst_machine.specs.Renumbered.{marked}
 use Rattle.fst_trim.proofs.Marking.{as_number, count_fits, count_more}
 use Rattle.fst_trim.proofs.describing.count_marks.Goals as goal
 

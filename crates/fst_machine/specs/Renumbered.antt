@@ -17,17 +17,17 @@ abbrev pub renumbered : {V : Type 0} → List ℕ → Arc V ℕ → Arc V ℕ
 renumbered numbers a = record { ilabel = a.ilabel; olabel = a.olabel; weight = a.weight; next = get_or numbers a.next 0 }
 
 -- the arcs to marked states
-abbrev pub kept_arcs : {V : Type 0} → List Bool → List ℕ → List (Arc V ℕ) → List (Arc V ℕ)
-kept_arcs marks numbers [] = []
-kept_arcs marks numbers (a ∷ arcs) = cond (get_or marks a.next false) (renumbered numbers a ∷ kept_arcs marks numbers arcs) (kept_arcs marks numbers arcs)
+abbrev pub marked_arcs : {V : Type 0} → List Bool → List ℕ → List (Arc V ℕ) → List (Arc V ℕ)
+marked_arcs marks numbers [] = []
+marked_arcs marks numbers (a ∷ arcs) = cond (get_or marks a.next false) (renumbered numbers a ∷ marked_arcs marks numbers arcs) (marked_arcs marks numbers arcs)
 
 -- the marked states among these, of which the first has this number
-abbrev pub kept_states : {V : Type 0} → List Bool → List ℕ → ℕ → List (State V) → List (State V)
-kept_states marks numbers at [] = []
-kept_states marks numbers at (s ∷ states) =
+abbrev pub marked_states : {V : Type 0} → List Bool → List ℕ → ℕ → List (State V) → List (State V)
+marked_states marks numbers at [] = []
+marked_states marks numbers at (s ∷ states) =
     cond (get_or marks at false)
-    (record { final = s.final; arcs = kept_arcs marks numbers s.arcs } ∷ kept_states marks numbers (at + 1) states)
-    (kept_states marks numbers (at + 1) states)
+    (record { final = s.final; arcs = marked_arcs marks numbers s.arcs } ∷ marked_states marks numbers (at + 1) states)
+    (marked_states marks numbers (at + 1) states)
 
 -- the new number of the start, where it is marked
 abbrev pub new_start : List Bool → List ℕ → Option ℕ → Option ℕ
@@ -35,5 +35,5 @@ new_start marks numbers None = None
 new_start marks numbers (Some s) = cond (get_or marks s false) (Some (get_or numbers s 0)) None
 
 -- the machine of the marked states
-abbrev pub kept_machine : {V : Type 0} → List Bool → List ℕ → Machine V → Machine V
-kept_machine marks numbers m = record { start = new_start marks numbers m.start; states = kept_states marks numbers 0 m.states }
+abbrev pub marked_machine : {V : Type 0} → List Bool → List ℕ → Machine V → Machine V
+marked_machine marks numbers m = record { start = new_start marks numbers m.start; states = marked_states marks numbers 0 m.states }
