@@ -4,7 +4,7 @@ use Rattle.std.specs.Result.{OnOk}
 use Rattle.std.proofs.Math.Seq.{take-add}
 use Rattle.std.proofs.lemmas.Bool.{cases_lt, ne_eqb}
 use Rattle.std.proofs.lemmas.Grind.{flat_map-append}
-use Rattle.std.proofs.lemmas.List.{get_or-drop, get_or-take, length-drop, length-take-le, map-append, take-append-drop, take_rest}
+use Rattle.std.proofs.lemmas.List.{get_or_default, get_or-drop, get_or-take, length-drop, length-take-le, map-append, take-append-drop, take_rest}
 use Rattle.std.proofs.lemmas.List.Folds.{drop_split}
 use Rattle.std.specs.List.{All, flat_map, slice_range}
 use Rattle.fst_semiring.specs.Cost.{Cost}
@@ -15,7 +15,7 @@ use Rattle.fst_trim.specs.declared.side.Side.TheVariants.{Input, Output}
 use Rattle.fst_trim.specs.Runs.{IsRun}
 use Rattle.fst_trim.specs.Sides.{StandsBy, label_of}
 use Rattle.fst_compose.specs.Composition.{both_arc, by_label, first_alone, first_arcs, match_arcs, second_alone, second_arcs}
-use Rattle.fst_compose.specs.Matching.{all_matches}
+use Rattle.fst_compose.specs.Matching.{all_matches, name_arcs}
 use Rattle.fst_compose.specs.Names.{Name}
 
 -- parts of a list
@@ -88,6 +88,28 @@ module _ {V : Type 0} (kind : ArcType) (value : V → Cost) where
       middle_alone (valued_arc value) (match_arcs kind x) ys first last run.order
       (front_all (λ (y : Arc V ℕ). match_arcs kind x (valued_arc value y) ≡ []) ys first (omega (arith, run.order, run.within)) (λ k d low. miss x (get_or ys k d) (let less = run.before k d low in omega arith)))
       (back_all (λ (y : Arc V ℕ). match_arcs kind x (valued_arc value y) ≡ []) ys last run.within (λ k d past low. miss x (get_or ys k d) (let more = run.after k d past low in omega arith)))
+
+  -- the arcs so far, and those that it makes with a run
+  pub run_whole : (x a : Arc V ℕ) (ys : List (Arc V ℕ)) (first last : ℕ) (old new : List (Arc Cost (Name ℕ ℕ))) → x ≡ a → IsRun Input x.olabel ys first last → new ≡ old ++ flat_map (match_arcs kind (valued_arc value x)) (map (valued_arc value) (slice_range ys first last))
+      → new ≡ old ++ flat_map (match_arcs kind (valued_arc value a)) (map (valued_arc value) ys)
+  run_whole x a ys first last old new same run made =
+      let whole : flat_map (match_arcs {N = ℕ} {M = ℕ} kind (valued_arc value x)) (map (valued_arc value) ys) ≡ flat_map (match_arcs kind (valued_arc value a)) (map (valued_arc value) ys) = ap (λ (z : Arc V ℕ). flat_map (match_arcs kind (valued_arc value z)) (map (valued_arc value) ys)) same in
+      made ∙ ap (λ zs. old ++ zs) (sym (run_alone (valued_arc value x) ys first last run) ∙ whole)
+
+  -- which are none where there is no run
+  pub run_none : (x a : Arc V ℕ) (ys : List (Arc V ℕ)) (place : ℕ) (old new : List (Arc Cost (Name ℕ ℕ))) → x ≡ a → IsRun Input x.olabel ys place place → new ≡ old → new ≡ old ++ flat_map (match_arcs kind (valued_arc value a)) (map (valued_arc value) ys)
+  run_none x a ys place old new same run kept =
+      let none : place - place ≡ 0 = omega arith in
+      let nothing : [] ≡ flat_map (match_arcs {N = ℕ} {M = ℕ} kind (valued_arc value x)) (map (valued_arc value) (slice_range ys place place)) = sym (ap (λ n. flat_map (match_arcs {N = ℕ} {M = ℕ} kind (valued_arc value x)) (map (valued_arc value) (take n (drop place ys)))) none) in
+      run_whole x a ys place place old new same run (kept ∙ (sym (append-nil old) ∙ ap (λ zs. old ++ zs) nothing))
+
+  -- arcs of the first machine with greater labels than all of the second match none
+  pub rest_none : (xs ys : List (Arc V ℕ)) (at : ℕ) → at ≤ length xs → ((i j : ℕ) (d e : Arc V ℕ) → at ≤ i → i < length xs → j < length ys → (get_or ys j e).ilabel < (get_or xs i d).olabel)
+      → all_matches {N = ℕ} {M = ℕ} kind (map (valued_arc value) xs) (map (valued_arc value) ys) ≡ all_matches kind (map (valued_arc value) (take at xs)) (map (valued_arc value) ys)
+  rest_none xs ys at within lower =
+      front_alone (valued_arc value) (λ (x : Arc Cost ℕ). flat_map (match_arcs {N = ℕ} {M = ℕ} kind x) (map (valued_arc value) ys)) xs at
+      (back_all (λ (x : Arc V ℕ). flat_map (match_arcs {N = ℕ} {M = ℕ} kind (valued_arc value x)) (map (valued_arc value) ys) ≡ []) xs at within
+      (λ i d past low. flat_none (valued_arc value) (match_arcs kind (valued_arc value (get_or xs i d))) ys (λ j e less. miss (valued_arc value (get_or xs i d)) (get_or ys j e) (let below = lower i j d e past low less in omega arith))))
 
   pub first_found : (n : Name ℕ ℕ) (x : Arc Cost ℕ) (ys : List (Arc V ℕ)) (first last : ℕ) → 0 < x.olabel → IsRun Input x.olabel ys first last → first_arcs kind n (map (valued_arc value) (slice_range ys first last)) x ≡ first_arcs kind n (map (valued_arc value) ys) x
   first_found n x ys first last more run =
@@ -223,6 +245,27 @@ module _ {V : Type 0} (xs ys : List (Arc V ℕ)) (sorted : StandsBy Input ys) (p
       let more = run.after i d past low in
       omega arith
 
+-- A run that is gone along: its first place comes behind the lower labels, and its last before the next other one.
+pub run_along : {V : Type 0} (ys : List (Arc V ℕ)) (label first last : ℕ) → StandsBy Input ys → first ≤ last → last ≤ length ys
+    → ((k : ℕ) (d : Arc V ℕ) → k < first → (get_or ys k d).ilabel < label) → ((d : Arc V ℕ) → first < length ys → label ≤ (get_or ys first d).ilabel)
+    → ((k : ℕ) (d : Arc V ℕ) → first ≤ k → k < last → (get_or ys k d).ilabel ≡ label) → ((d : Arc V ℕ) → last < length ys → (get_or ys last d).ilabel ≢ label) → IsRun Input label ys first last
+run_along ys label first last sorted order within before from here ends = record {
+  order = order;
+  within = within;
+  before = before;
+  here = here;
+  after = λ k d past low. let least = from d (omega arith) in let more = sorted first last d order (omega arith) in let other = ends d (omega arith) in let above = sorted last k d past low in omega arith;
+}
+
+-- lower labels than that of an arc are lower than those of the arcs from it on
+pub still_lower : {V : Type 0} (xs ys : List (Arc V ℕ)) (x a : Arc V ℕ) (at first : ℕ) → StandsBy Output xs → at < length xs → x ≡ a → a ≡ get_or xs at a → ((k : ℕ) (d : Arc V ℕ) → k < first → (get_or ys k d).ilabel < x.olabel)
+    → (i j : ℕ) (d e : Arc V ℕ) → at ≤ i → i < length xs → j < first → (get_or ys j e).ilabel < (get_or xs i d).olabel
+still_lower {V} xs ys x a at first sorted inside same is before i j d e past low less =
+    let label = ap (λ (z : Arc V ℕ). z.olabel) (same ∙ (is ∙ get_or_default xs at a d inside)) in
+    let more = sorted at i d past low in
+    let below = before j e less in
+    omega arith
+
 -- an answer that says more
 pub ok_more : {X E : Type 0} (r : Result X E) (P Q : Type 0) → (P → Q) → OnOk r P → OnOk r Q
 ok_more (Ok x) P Q more h = more h
@@ -235,3 +278,15 @@ name_whole firsts seconds some old mid new same before more = more ∙ (ap (λ z
 -- and the others in two parts
 pub two_wholes : {X : Type 0} (firsts alone others old mid new : List X) → firsts ≡ alone ++ others → mid ≡ old ++ alone → new ≡ mid ++ others → new ≡ old ++ firsts
 two_wholes firsts alone others old mid new same before more = more ∙ (ap (λ zs. zs ++ others) before ∙ (append_assoc old alone others ∙ ap (λ zs. old ++ zs) (sym same)))
+
+-- The arcs of a name of two states in order: those that the first machine makes alone, those of each two with one label, and
+-- those that the second machine makes alone.
+pub order_whole : {V : Type 0} (kind : ArcType) (value : V → Cost) (n : Name ℕ ℕ) (xs ys : List (Arc V ℕ)) (alone epsilons : ℕ) → StandsBy Output xs → StandsBy Input ys → alone ≤ length xs → epsilons ≤ length ys
+    → ((d : Arc V ℕ) → alone < length xs → (get_or xs alone d).olabel ≢ 0) → ((k : ℕ) (d : Arc V ℕ) → 0 ≤ k → k < epsilons → (get_or ys k d).ilabel ≡ 0) → ((d : Arc V ℕ) → epsilons < length ys → (get_or ys epsilons d).ilabel ≢ 0)
+    → (old some mid new : List (Arc Cost (Name ℕ ℕ))) → some ≡ old ++ flat_map (first_arcs kind n (map (valued_arc value) ys)) (map (valued_arc value) (take alone xs))
+    → mid ≡ some ++ all_matches kind (map (valued_arc value) (slice_range xs alone (length xs))) (map (valued_arc value) (slice_range ys epsilons (length ys)))
+    → new ≡ mid ++ flat_map (second_arcs n) (map (valued_arc value) (take epsilons ys)) → new ≡ old ++ name_arcs kind n (map (valued_arc value) xs) (map (valued_arc value) ys)
+order_whole kind value n xs ys alone epsilons first second within room next here ends old some mid new alone_put both_put more =
+    let seconds = seconds_front kind value n ys epsilons room (labels_after Input ys epsilons second ends) in
+    let firsts = firsts_parts kind value n xs ys alone epsilons within room (labels_after Output xs alone first next) (λ k d low. here k d (omega arith) low) in
+    name_whole _ _ _ _ _ _ seconds (two_wholes _ _ _ _ _ _ firsts alone_put both_put) more

@@ -149,10 +149,10 @@ fn composed<W: Weight>(
 /// above 10 to the 18, with the first state that has such a weight. `Memory` may come in place of any answer. States
 /// after the first that does not fit are not kept.
 ///
-/// Time: where both machines have their arcs in order, for each name a search for each label of its second state, each
-/// from where the last one ended, or one for each arc of its first state where the second has many times as many; where
-/// one machine has, as `expand_counted` by its side. And a look-up for each arc of the result. Space: the result, and
-/// the arcs of one name.
+/// Time: where both machines have their arcs in order, for each name one look at the arcs of both its states, or a search
+/// of the longer of the two for each label or arc of the other where it has many times as many arcs; where one machine
+/// has, as `expand_counted` by its side. And a look-up for each arc of the result. Space: the result, and the arcs of one
+/// name.
 pub fn compose<W: Weight>(
     alloc: Global,
     a: &Fst<W>,

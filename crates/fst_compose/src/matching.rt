@@ -1,8 +1,8 @@
 //! The arcs of a name, found by searches among arcs that stand by their labels.
 
-ghost use Rattle.std.specs.Prelude.{◌≡◌, ◌<◌, ◌*◌, ◌++◌, OnOk, length, map};
+ghost use Rattle.std.specs.Prelude.{◌≡◌, ◌<◌, ◌≤◌, ◌*◌, ◌++◌, OnOk, ℕ, get_or, length, map};
 ghost use Rattle.std.specs.List.{flat_map};
-ghost use Rattle.fst_machine.specs.Machine.{valued_arc};
+ghost use Rattle.fst_machine.specs.Machine.{Arc, valued_arc};
 ghost use Rattle.fst_compose.specs.Composition.{composition, first_arcs};
 ghost use Rattle.fst_compose.specs.Matching.{IsInOrder, IsOrdered, SearchSteps, all_matches, name_arcs};
 ghost use Rattle.fst_trim.specs.Runs.{TakesSteps};
@@ -21,7 +21,8 @@ use std::sync::ledger::{Blank, Ledger};
 /// How many arcs of a first state are few enough to be gone along for each arc of a second whose arcs are in no order.
 const FEW: usize = 6;
 
-/// How many times as many arcs the second state has where it is searched for each arc of the first, both being in order.
+/// How many times as many arcs one state has as the other where it is searched for the arcs of the other, both being in
+/// order.
 const MANY_TIMES: usize = 8;
 
 /// Which of two machines have their arcs in the order that lets them be searched: the first by its output labels, the
@@ -132,6 +133,51 @@ fn put_runs<W: Weight, L: Ledger>(
     Ok(())
 }
 
+/// The first place, from one on before which all labels are lower than this one, whose label is not, or the number of arcs.
+fn pass_lower<W: Weight>(bs: &[FstArc<W>], label: u32, start: usize) -> usize
+    requires start { start ≤ length bs.now }
+    requires before { (k : ℕ) (d : Arc W ℕ) → k < start → (get_or bs.now k d).ilabel < label }
+    ensures within { result ≤ length bs.now }
+    ensures before { (k : ℕ) (d : Arc W ℕ) → k < result → (get_or bs.now k d).ilabel < label }
+    ensures next { (d : Arc W ℕ) → result < length bs.now → label ≤ (get_or bs.now result d).ilabel }
+{
+    let mut place = start;
+    while place < bs.len() {
+        let next = &bs[place];
+        if next.ilabel >= label {
+            return place;
+        }
+        place += 1;
+    }
+    place
+}
+
+/// The same as `put_runs` by going along both at once: for each arc of the first, those of the second with lower labels
+/// are passed over, and no arc behind it needs them.
+fn put_merged<W: Weight>(
+    out: &mut Vec<KeyArc<W>>,
+    arcs: &[FstArc<W>],
+    bs: &[FstArc<W>],
+) -> Result<(), AllocError>
+    requires first { StandsBy sides.Output arcs.now }
+    requires second { StandsBy sides.Input bs.now }
+    ensures put { OnOk result (map (key_arc W.wide_value) out.new.items ≡ map (key_arc W.wide_value) out.old.items ++ all_matches W.KIND (map (valued_arc W.value) arcs.now) (map (valued_arc W.value) bs.now)) }
+{
+    let mut place = 0;
+    for a in arcs {
+        place = pass_lower(bs, a.olabel, place);
+        if place == bs.len() {
+            return Ok(());
+        }
+        let next = &bs[place];
+        if next.ilabel == a.olabel {
+            let end = run_end(bs, Side::Input, a.olabel, place);
+            put_matches(out, *a, &bs[place..end])?;
+        }
+    }
+    Ok(())
+}
+
 /// Puts the arcs of a name after the others. The arcs of both states are in order; those of the first are searched.
 fn put_by_both<W: Weight, L: Ledger>(
     out: &mut Vec<KeyArc<W>>,
@@ -150,6 +196,24 @@ fn put_by_both<W: Weight, L: Ledger>(
     put_firsts(out, key, &arcs[..alone], bs)?;
     put_runs(out, &arcs[alone..], &bs[epsilons..], steps)?;
     put_seconds(out, key, &bs[..epsilons])
+}
+
+/// The same by going along both at once.
+fn put_both_merged<W: Weight>(
+    out: &mut Vec<KeyArc<W>>,
+    key: ComposeKey,
+    arcs: &[FstArc<W>],
+    bs: &[FstArc<W>],
+) -> Result<(), AllocError>
+    requires first { StandsBy sides.Output arcs.now }
+    requires second { StandsBy sides.Input bs.now }
+    ensures put { OnOk result (map (key_arc W.wide_value) out.new.items ≡ map (key_arc W.wide_value) out.old.items ++ name_arcs W.KIND key (map (valued_arc W.value) arcs.now) (map (valued_arc W.value) bs.now)) }
+{
+    let first_alone = run_end(arcs, Side::Output, 0, 0);
+    let second_alone = run_end(bs, Side::Input, 0, 0);
+    put_firsts(out, key, &arcs[..first_alone], bs)?;
+    put_merged(out, &arcs[first_alone..], &bs[second_alone..])?;
+    put_seconds(out, key, &bs[..second_alone])
 }
 
 /// Puts the arcs of a name after the others. The arcs of its first state are searched; those of its second are put in
@@ -199,8 +263,8 @@ pub(crate) fn put_by_side<W: Weight, L: Ledger>(
     }
 }
 
-/// The same where both are in order: the second state is searched for each arc of the first where it has many times as
-/// many arcs.
+/// The same where both are in order: the state that has many times as many arcs as the other is searched for these, and
+/// where neither has, both are gone along at once.
 fn put_in_order<W: Weight, L: Ledger>(
     out: &mut Vec<KeyArc<W>>,
     key: ComposeKey,
@@ -215,7 +279,10 @@ fn put_in_order<W: Weight, L: Ledger>(
     if arcs.len() < bs.len() / MANY_TIMES {
         return put_by_second(out, key, arcs, bs, steps);
     }
-    put_by_both(out, key, arcs, bs, steps)
+    if bs.len() < arcs.len() / MANY_TIMES {
+        return put_by_both(out, key, arcs, bs, steps);
+    }
+    put_both_merged(out, key, arcs, bs)
 }
 
 /// Puts the arcs of a name after the others, by what is known of the order of the arcs of both machines.

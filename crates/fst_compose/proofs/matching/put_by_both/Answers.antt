@@ -1,8 +1,7 @@
 use Rattle.std.proofs.Common.{◌*◌, arith, length}
 use Rattle.std.specs.List.{slice_range}
-use Rattle.fst_trim.specs.declared.side.Side.TheVariants.{Input, Output}
 use Rattle.fst_compose.proofs.Counting.{more_steps}
-use Rattle.fst_compose.proofs.Segments.{firsts_parts, labels_after, name_whole, ok_more, rest_short, seconds_front, two_wholes}
+use Rattle.fst_compose.proofs.Segments.{ok_more, order_whole, rest_short}
 use Rattle.fst_compose.proofs.matching.put_by_both.Goals as goal
 
 pub returns-in_err-put_runs-clause-cost : goal.returns-in_err-put_runs-clause-cost
@@ -19,6 +18,4 @@ pub returns-clause-put : goal.returns-clause-put
 returns-clause-put g c =
     let alone = c.run_end-alone.ensures in
     let epsilons = c.run_end-epsilons.ensures in
-    let seconds = seconds_front g.W.Weight.KIND g.W.Weight.value c.args.key c.args.bs.now c.run_end-epsilons.result epsilons.within (labels_after Input c.args.bs.now c.run_end-epsilons.result c.requires.second epsilons.next) in
-    let firsts = firsts_parts g.W.Weight.KIND g.W.Weight.value c.args.key c.args.arcs.now c.args.bs.now c.run_end-alone.result c.run_end-epsilons.result alone.within epsilons.within (labels_after Output c.args.arcs.now c.run_end-alone.result c.requires.first alone.next) (λ k d low. epsilons.here k d (omega arith) low) in
-    ok_more c.put_seconds.result _ _ (λ put. name_whole _ _ _ _ _ _ seconds (two_wholes _ _ _ _ _ _ firsts c.in_ok-put_firsts.ensures c.in_ok-put_runs.ensures.put) put) c.put_seconds.ensures
+    ok_more c.put_seconds.result _ _ (order_whole g.W.Weight.KIND g.W.Weight.value c.args.key c.args.arcs.now c.args.bs.now _ _ c.requires.first c.requires.second alone.within epsilons.within alone.next epsilons.here epsilons.next _ _ _ _ c.in_ok-put_firsts.ensures c.in_ok-put_runs.ensures.put) c.put_seconds.ensures
