@@ -20,6 +20,7 @@ use Rattle.fst_walk.specs.Answers.{ReachesMore}
 use Rattle.fst_walk.specs.Making.{IsNumberedArc, IsReached}
 use Rattle.fst_walk.specs.Names.{IsGoodArc, key_arc}
 use Rattle.fst_walk.proofs.Putting.{items_more, zip_back}
+use Rattle.fst_delayed.specs.Ascending.{those_reading}
 use Rattle.fst_delayed.specs.Graphs.{HasSmallArcs, IsKeyOf, IsSmallArc, delayed_graph}
 use Rattle.fst_delayed.specs.Handed.{Name}
 use Rattle.fst_delayed.proofs.Keys.{Has-map}
@@ -28,7 +29,7 @@ use Rattle.fst_batch.specs.LinePaths.{moves_at}
 use Rattle.fst_batch.specs.Walks.{AreAmong, IsAt, IsJob, IsOver, IsWalkOf, LineWalk, label_arcs}
 use Rattle.fst_batch.specs.declared.stage.Stage.{Stage}
 use Rattle.fst_batch.specs.declared.stage.Stage.TheVariants.{Bad, Going, Stopped}
-use Rattle.fst_batch.proofs.Filtering.{Has-filter}
+use Rattle.fst_batch.proofs.Filtering.{Has-filter, filter_Has, filter_map-of}
 use Rattle.fst_batch.proofs.Finding.{label_append, nexts-append}
 use Rattle.fst_batch.proofs.Jobs.{Has-All}
 use Rattle.fst_batch.proofs.Steps.{IsStep, arc_is_step, reads_byte, stays}
@@ -71,6 +72,14 @@ module _ {N : Type 0} (names : List (Point N)) (line : List ℕ) (position : ℕ
       let n = point (position + 1) a.next in
       let here : Has (nexts (byte_arcs (slice_get line position) position arcs)) n = subst (λ (o : Option ℕ). Has (nexts (byte_arcs o position arcs)) n) (sym at) (label_next b (position + 1) a arcs h e) in
       found n (subst (λ ns. Has ns n) (sym parts) (Has-append_left (nexts (byte_arcs (slice_get line position) position arcs)) (nexts (label_arcs 0 position arcs)) n here))
+
+-- and those that a run of them has
+pub run_found : {V N : Type 0} (names : List (Point N)) (label position : ℕ) (value : V → Cost) (run arcs : List (Arc V N)) → run ≡ those_reading label arcs → AreFound names label position (map (key_arc value) arcs)
+    → AreFound names label position (map (key_arc value) run)
+run_found {V} {N} names label position value run arcs is found a h e =
+    let reads : Arc Cost N → Bool = λ b. nat_eq b.ilabel label in
+    let there : Has (map (key_arc value) (those_reading label arcs)) a = subst (λ (xs : List (Arc V N)). Has (map (key_arc value) xs) a) is h in
+    found a (filter_Has reads (map (key_arc value) arcs) a (subst (λ (ys : List (Arc Cost N)). Has ys a) (sym (filter_map-of (key_arc value) reads arcs)) there)).0 e
 
 -- the arcs of a name of a finished list lead to its names
 pub listed_found : {N : Type 0} (g : Graph N) (start : N) (names : List N) (i : ℕ) (p n : N) → IsBreadthFirst g start names → slice_get names i ≡ Some p → Has (nexts (g.arcs p)) n → Has names n

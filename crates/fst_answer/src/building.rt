@@ -56,10 +56,10 @@ fn put_point<W: Weight, D: Composed<W>>(
 {
     delayed.arcs_are_small();
     let (position, name) = points.item(place);
-    let Some(arcs) = cache.get(name) else {
+    let Some((arcs, ascends)) = cache.get(name) else {
         unreachable!()
     };
-    number_point(made, points, arcs, line, position)?;
+    number_point(made, points, arcs, ascends, line, position)?;
     let room = MOST_ARCS.saturating_sub(fst.arc_count());
     if made.len() > room as usize {
         return Ok(false);

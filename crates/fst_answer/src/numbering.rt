@@ -1,12 +1,13 @@
 //! The arcs of a name of a lattice, to the numbers of names.
 
-ghost use Rattle.std.specs.Prelude.{◌≡◌, ◌+◌, ◌≤◌, ◌∷◌, [], ℕ, IfOk, OnOk, Some, false, length, map, slice_get};
+ghost use Rattle.std.specs.Prelude.{◌≡◌, ◌+◌, ◌≤◌, ◌∷◌, [], ℕ, IfOk, OnOk, Some, false, true, length, map, slice_get};
 ghost use Rattle.std.specs.List.{AllZip};
 ghost use Rattle.fst_machine.specs.BreadthFirst.{Has};
 ghost use Rattle.fst_machine.specs.Graph.{nexts};
 ghost use Rattle.fst_machine.specs.Machine.{most_states, valued_arc};
 ghost use Rattle.fst_walk.specs.Making.{IsNumberedArc};
 ghost use Rattle.fst_walk.specs.Names.{key_arc};
+ghost use Rattle.fst_delayed.specs.Ascending.{Ascends};
 ghost use Rattle.fst_delayed.specs.Handed.{Name};
 ghost use Rattle.fst_batch.specs.Lattice.{Point, byte_arcs, point, point_arcs, reading};
 ghost use Rattle.fst_batch.specs.Walks.{label_arcs};
@@ -14,7 +15,7 @@ ghost use Rattle.fst_answer.specs.Building.{AreFound};
 ghost use Rattle.fst_answer.specs.Filling.{Continues};
 
 use fst_batch::Points;
-use fst_delayed::KeyArc;
+use fst_delayed::{KeyArc, run_of};
 use fst_machine::{FstArc, WideArc};
 use fst_semiring::Weight;
 use std::alloc::AllocError;
@@ -91,8 +92,47 @@ fn number_byte<W: Weight>(
     number_label(out, points, arcs, u32::from(byte), position + 1)
 }
 
-/// Fills a list with the arcs of a name of a lattice, to the numbers of names. Its name in the composition has these arcs.
-pub(crate) fn number_point<W: Weight>(
+/// The same where the arcs ascend by their input labels: those that read the label are found by a search.
+fn number_run<W: Weight>(
+    out: &mut Vec<WideArc<W>>,
+    points: &Points,
+    arcs: &[KeyArc<W>],
+    label: u32,
+    position: u64,
+) -> Result<(), AllocError>
+    requires few { length points.now ≤ most_states }
+    requires found { AreFound points.now label position (map (key_arc W.wide_value) arcs.now) }
+    requires ascends { Ascends arcs.now }
+    ensures { OnOk result (Continues points.now (label_arcs label position (map (key_arc W.wide_value) arcs.now)) (map (valued_arc W.wide_value) out.old.items) (map (valued_arc W.wide_value) out.new.items)) }
+{
+    let run = run_of(arcs, label);
+    number_label(out, points, run, label, position)?;
+    Ok(())
+}
+
+/// Puts those of the arcs that read the byte behind a position, if there is one, where the arcs ascend by their input
+/// labels.
+fn number_byte_run<W: Weight>(
+    out: &mut Vec<WideArc<W>>,
+    points: &Points,
+    arcs: &[KeyArc<W>],
+    line: &[u8],
+    position: u64,
+) -> Result<(), AllocError>
+    requires few { length points.now ≤ most_states }
+    requires found { (byte : ℕ) → slice_get line.now position ≡ Some byte → AreFound points.now byte (position + 1) (map (key_arc W.wide_value) arcs.now) }
+    requires ascends { Ascends arcs.now }
+    ensures { OnOk result (Continues points.now (byte_arcs (slice_get line.now position) position (map (key_arc W.wide_value) arcs.now)) (map (valued_arc W.wide_value) out.old.items) (map (valued_arc W.wide_value) out.new.items)) }
+{
+    if line.len() as u64 <= position {
+        return Ok(());
+    }
+    let byte = line[position as usize];
+    number_run(out, points, arcs, u32::from(byte), position + 1)
+}
+
+/// The same as `number_point`, where the arcs ascend by their input labels.
+fn number_runs<W: Weight>(
     out: &mut Vec<WideArc<W>>,
     points: &Points,
     arcs: &[KeyArc<W>],
@@ -101,8 +141,33 @@ pub(crate) fn number_point<W: Weight>(
 ) -> Result<(), AllocError>
     requires few { length points.now ≤ most_states }
     requires found { (n : Point (Name ℕ ℕ)) → Has (nexts (point_arcs line.now position (map (key_arc W.wide_value) arcs.now))) n → Has points.now n }
+    requires ascends { Ascends arcs.now }
     ensures { OnOk result (AllZip (IsNumberedArc points.now) (point_arcs line.now position (map (key_arc W.wide_value) arcs.now)) (map (valued_arc W.wide_value) out.new.items)) }
 {
+    out.clear();
+    number_byte_run(out, points, arcs, line, position)?;
+    number_run(out, points, arcs, 0, position)?;
+    Ok(())
+}
+
+/// Fills a list with the arcs of a name of a lattice, to the numbers of names. Its name in the composition has these arcs;
+/// where they are known to ascend by their input labels, those that read a label are searched.
+pub(crate) fn number_point<W: Weight>(
+    out: &mut Vec<WideArc<W>>,
+    points: &Points,
+    arcs: &[KeyArc<W>],
+    ascends: bool,
+    line: &[u8],
+    position: u64,
+) -> Result<(), AllocError>
+    requires few { length points.now ≤ most_states }
+    requires found { (n : Point (Name ℕ ℕ)) → Has (nexts (point_arcs line.now position (map (key_arc W.wide_value) arcs.now))) n → Has points.now n }
+    requires ascends { ascends ≡ true → Ascends arcs.now }
+    ensures { OnOk result (AllZip (IsNumberedArc points.now) (point_arcs line.now position (map (key_arc W.wide_value) arcs.now)) (map (valued_arc W.wide_value) out.new.items)) }
+{
+    if ascends {
+        return number_runs(out, points, arcs, line, position);
+    }
     out.clear();
     let silent = number_byte(out, points, arcs, line, position)?;
     // Where none of the arcs reads epsilon, they are looked at once.

@@ -11,9 +11,13 @@ use Rattle.fst_machine.specs.Machine.{Arc}
 use Rattle.fst_machine.proofs.Walks.{Grows-then}
 use Rattle.std.proofs.lemmas.Option.{slice_get-get_or}
 use Rattle.fst_walk.specs.Making.{Passes}
+use Rattle.fst_walk.specs.Names.{key_arc}
 use Rattle.fst_walk.proofs.Putting.{around-map, items_more}
+use Rattle.fst_delayed.specs.Ascending.{those_reading}
+use Rattle.fst_delayed.proofs.Running.{filter_again}
 use Rattle.fst_batch.specs.Lattice.{Point, arc_to, reading}
 use Rattle.fst_batch.specs.Walks.{label_arcs}
+use Rattle.fst_batch.proofs.Filtering.{filter_map-of}
 
 module _ {N : Type 0} where
   pub nexts-append : (xs ys : List (Arc Cost N)) → nexts (xs ++ ys) ≡ nexts xs ++ nexts ys
@@ -81,3 +85,18 @@ module _ {N : Type 0} (limit : ℕ) (old : List N) where
       → MatchOption found (Passes limit mid (nexts ys)) (λ silent. Grows mid (nexts ys) new × (length new ≤ limit)) → MatchBool fits (Grows old (nexts (xs ++ ys)) new × (length new ≤ limit)) (Passes limit old (nexts (xs ++ ys)))
   both_found mid new xs ys grown (Some silent) fits is h = both_parts mid new xs ys grown fits (subst (λ (b : Bool). MatchBool b (Grows mid (nexts ys) new × (length new ≤ limit)) (Passes limit mid (nexts ys))) (sym is) h)
   both_found mid new xs ys grown None fits is p = both_parts mid new xs ys grown fits (subst (λ (b : Bool). MatchBool b (Grows mid (nexts ys) new × (length new ≤ limit)) (Passes limit mid (nexts ys))) (sym is) p)
+
+-- those that read a label are all among those that a run has
+pub run_arcs : {V N : Type 0} (value : V → Cost) (label i : ℕ) (run arcs : List (Arc V N)) → run ≡ those_reading label arcs → label_arcs label i (map (key_arc value) run) ≡ label_arcs label i (map (key_arc value) arcs)
+run_arcs {V} {N} value label i run arcs is =
+    let reads : Arc V N → Bool = λ a. nat_eq a.ilabel label in
+    ap (map (arc_to i)) (filter_map-of (key_arc value) (λ (a : Arc Cost N). nat_eq a.ilabel label) run
+    ∙ (ap (map (key_arc value)) (ap (filter reads) is ∙ (filter_again reads arcs)) ∙ sym (filter_map-of (key_arc value) (λ (a : Arc Cost N). nat_eq a.ilabel label) arcs)))
+
+-- so the names that they find are those of all
+pub run_found : {N : Type 0} (limit : ℕ) (old new : List (Point N)) (xs ys : List (Arc Cost (Point N))) → xs ≡ ys → (found : Option Bool) (fits : Bool) → fits ≡ is_some found
+    → MatchOption found (Passes limit old (nexts xs)) (λ silent. Grows old (nexts xs) new × (length new ≤ limit)) → MatchBool fits (Grows old (nexts ys) new × (length new ≤ limit)) (Passes limit old (nexts ys))
+run_found {N} limit old new xs ys same (Some silent) fits is h =
+    subst (λ (b : Bool). MatchBool b (Grows old (nexts ys) new × (length new ≤ limit)) (Passes limit old (nexts ys))) (sym is) (subst (λ (zs : List (Arc Cost (Point N))). Grows old (nexts zs) new × (length new ≤ limit)) same h)
+run_found {N} limit old new xs ys same None fits is p =
+    subst (λ (b : Bool). MatchBool b (Grows old (nexts ys) new × (length new ≤ limit)) (Passes limit old (nexts ys))) (sym is) (subst (λ (zs : List (Arc Cost (Point N))). Passes limit old (nexts zs)) same p)

@@ -121,11 +121,12 @@ where
     ensures answers { OnOk result (AllZip (A.answers answering.now delayed.now) lines.now answers.new.items) }
 {
     // What the walks of open lines have found is held in memory until they are answered. The first lines are few, since one
-    // worker expands the name with which all begin, and the jobs of the others wait for the end of that phase.
+    // worker expands the name with which all begin, and the jobs of the others wait for the end of that phase. Then they
+    // are 256, since a phase makes its threads anew, and more jobs a worker wait less often.
     let count = lines.count();
     let mut from = 0;
     while from < count {
-        let most = (from + 16).min(256);
+        let most = (16 * (from + 1)).min(256);
         let to = from + (count - from).min(most);
         run_some(
             rt, alloc, delayed, lines, from, to, answering, limit, cache, workers, gate, answers,

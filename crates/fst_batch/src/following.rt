@@ -1,16 +1,17 @@
 //! The arcs of a name of a lattice.
 
-ghost use Rattle.std.specs.Prelude.{◌≡◌, ◌+◌, ◌∷◌, [], ◌<◌, ◌≤◌, ℕ, List, ◌++◌, IfOk, MatchBool, MatchOption, OnOk, Some, false, length, map, slice_get};
+ghost use Rattle.std.specs.Prelude.{◌≡◌, ◌+◌, ◌∷◌, [], ◌<◌, ◌≤◌, ℕ, List, ◌++◌, IfOk, MatchBool, MatchOption, OnOk, Some, false, true, length, map, slice_get};
 ghost use Rattle.fst_machine.specs.BreadthFirst.{Grows};
 ghost use Rattle.fst_machine.specs.Graph.{nexts};
 ghost use Rattle.fst_walk.specs.Making.{Passes};
 ghost use Rattle.fst_walk.specs.Names.{key_arc};
+ghost use Rattle.fst_delayed.specs.Ascending.{Ascends};
 ghost use Rattle.fst_delayed.specs.Handed.{Name};
 ghost use Rattle.fst_batch.specs.Lattice.{Point, byte_arcs, point_arcs, reading};
 ghost use Rattle.fst_batch.specs.Walks.{label_arcs};
 
 use crate::points::Points;
-use fst_delayed::KeyArc;
+use fst_delayed::{KeyArc, run_of};
 use fst_semiring::Weight;
 use std::alloc::AllocError;
 
@@ -81,9 +82,28 @@ fn find_byte<W: Weight>(
     find_label(points, arcs, u32::from(byte), position + 1, limit)
 }
 
-/// Finds the names to which the arcs of a name of a lattice lead, whose name in the composition has these arcs. False
-/// where there are then more names than the limit.
-pub(crate) fn follow<W: Weight>(
+/// The same where the arcs ascend by their input labels: those that read the label are found by a search. Whether the names
+/// are then no more than the limit.
+fn find_run<W: Weight>(
+    points: &mut Points,
+    arcs: &[KeyArc<W>],
+    label: u32,
+    position: u64,
+    limit: u32,
+) -> Result<bool, AllocError>
+    requires few { length points.old ≤ limit }
+    requires ascends { Ascends arcs.now }
+    ensures finds { IfOk result (λ fits. MatchBool fits (Grows points.old (nexts (label_arcs label position (map (key_arc W.wide_value) arcs.now))) points.new × (length points.new ≤ limit)) (Passes limit points.old (nexts (label_arcs label position (map (key_arc W.wide_value) arcs.now))))) }
+    ensures front { OnOk result ((more : List (Point (Name ℕ ℕ))) × (points.new ≡ points.old ++ more)) }
+{
+    let run = run_of(arcs, label);
+    let found = find_label(points, run, label, position, limit)?;
+    Ok(found.is_some())
+}
+
+/// Finds the names to which those of the arcs lead that read the byte behind a position, if there is one, where the arcs
+/// ascend by their input labels. False where there are then more names than the limit.
+fn find_byte_run<W: Weight>(
     points: &mut Points,
     arcs: &[KeyArc<W>],
     line: &[u8],
@@ -91,9 +111,56 @@ pub(crate) fn follow<W: Weight>(
     limit: u32,
 ) -> Result<bool, AllocError>
     requires few { length points.old ≤ limit }
+    requires ascends { Ascends arcs.now }
+    ensures finds { IfOk result (λ fits. MatchBool fits (Grows points.old (nexts (byte_arcs (slice_get line.now position) position (map (key_arc W.wide_value) arcs.now))) points.new × (length points.new ≤ limit)) (Passes limit points.old (nexts (byte_arcs (slice_get line.now position) position (map (key_arc W.wide_value) arcs.now))))) }
+    ensures front { OnOk result ((more : List (Point (Name ℕ ℕ))) × (points.new ≡ points.old ++ more)) }
+{
+    if position >= line.len() as u64 {
+        return Ok(true);
+    }
+    let byte = line[position as usize];
+    find_run(points, arcs, u32::from(byte), position + 1, limit)
+}
+
+/// The same as `follow`, where the arcs ascend by their input labels.
+fn follow_runs<W: Weight>(
+    points: &mut Points,
+    arcs: &[KeyArc<W>],
+    line: &[u8],
+    position: u64,
+    limit: u32,
+) -> Result<bool, AllocError>
+    requires few { length points.old ≤ limit }
+    requires ascends { Ascends arcs.now }
     ensures finds { IfOk result (λ fits. MatchBool fits (Grows points.old (nexts (point_arcs line.now position (map (key_arc W.wide_value) arcs.now))) points.new × (length points.new ≤ limit)) (Passes limit points.old (nexts (point_arcs line.now position (map (key_arc W.wide_value) arcs.now))))) }
     ensures front { OnOk result ((more : List (Point (Name ℕ ℕ))) × (points.new ≡ points.old ++ more)) }
 {
+    let fits = find_byte_run(points, arcs, line, position, limit)?;
+    if !fits {
+        return Ok(false);
+    }
+    find_run(points, arcs, 0, position, limit)
+}
+
+/// Finds the names to which the arcs of a name of a lattice lead, whose name in the composition has these arcs. Where they
+/// are known to ascend by their input labels, those that read a label are searched. False where there are then more names
+/// than the limit.
+pub(crate) fn follow<W: Weight>(
+    points: &mut Points,
+    arcs: &[KeyArc<W>],
+    ascends: bool,
+    line: &[u8],
+    position: u64,
+    limit: u32,
+) -> Result<bool, AllocError>
+    requires few { length points.old ≤ limit }
+    requires ascends { ascends ≡ true → Ascends arcs.now }
+    ensures finds { IfOk result (λ fits. MatchBool fits (Grows points.old (nexts (point_arcs line.now position (map (key_arc W.wide_value) arcs.now))) points.new × (length points.new ≤ limit)) (Passes limit points.old (nexts (point_arcs line.now position (map (key_arc W.wide_value) arcs.now))))) }
+    ensures front { OnOk result ((more : List (Point (Name ℕ ℕ))) × (points.new ≡ points.old ++ more)) }
+{
+    if ascends {
+        return follow_runs(points, arcs, line, position, limit);
+    }
     let Some(silent) = find_byte(points, arcs, line, position, limit)? else {
         return Ok(false);
     };

@@ -1,9 +1,10 @@
 //! The walk of a line.
 
-ghost use Rattle.std.specs.Prelude.{◌≡◌, true, false, ◌+◌, ◌<◌, ◌≤◌, ◌++◌, [], ℕ, List, IfOk, MatchOption, OnOk, Some, length, map, slice_get};
+ghost use Rattle.std.specs.Prelude.{◌≡◌, true, false, ◌+◌, ◌<◌, ◌≤◌, ◌++◌, [], ℕ, List, IfOk, IfSome, MatchOption, OnOk, Some, length, map, slice_get};
 ghost use Rattle.std.specs.Bool.{Decides};
 ghost use Rattle.fst_machine.specs.BreadthFirst.{Has};
 ghost use Rattle.fst_machine.specs.Machine.{most_states};
+ghost use Rattle.fst_delayed.specs.Ascending.{Ascends};
 ghost use Rattle.fst_delayed.specs.Caches.{IsTrueOf, keys};
 ghost use Rattle.fst_delayed.specs.Graphs.{delayed_graph};
 ghost use Rattle.fst_delayed.specs.Handed.{Name};
@@ -31,16 +32,17 @@ fn has_no_zero(line: &[u8]) -> bool
     true
 }
 
-/// The arcs of a name that one of two caches has.
+/// The arcs of a name that one of two caches has, and whether they are known to ascend by their input labels.
 fn held<'a, W: Weight>(
     cache: &'a Cache<W>,
     own: &'a Cache<W>,
     key: ComposeKey,
-) -> Option<&'a [KeyArc<W>]>
-    ensures { MatchOption result (Has (keys cache.now ++ keys own.now) key → ⊥) (λ arcs. Has (cache.now ++ own.now) (key, arcs.now)) }
+) -> Option<(&'a [KeyArc<W>], bool)>
+    ensures arcs { MatchOption result (Has (keys cache.now ++ keys own.now) key → ⊥) (λ held. Has (cache.now ++ own.now) (key, held.0.now)) }
+    ensures ascends { IfSome result (λ held. held.1 ≡ true → Ascends held.0.now) }
 {
     match cache.get(key) {
-        Some(arcs) => Some(arcs),
+        Some(found) => Some(found),
         None => own.get(key),
     }
 }
@@ -163,10 +165,10 @@ impl Job {
         // With the start it is known that both are machines.
         let _start = delayed.start_key();
         let (position, name) = self.points.item(self.taken);
-        let Some(arcs) = held(cache, own, name) else {
+        let Some((arcs, ascends)) = held(cache, own, name) else {
             return Ok(Some(name));
         };
-        let fits = follow(&mut self.points, arcs, line, position, self.limit)?;
+        let fits = follow(&mut self.points, arcs, ascends, line, position, self.limit)?;
         if !fits {
             self.stage = Stage::Stopped;
             self.taken += 1;

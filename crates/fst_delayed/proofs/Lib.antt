@@ -4,3 +4,4 @@ pub mod Held
 pub mod Handed
 pub mod Inside
 pub mod Ranged
+pub mod Running

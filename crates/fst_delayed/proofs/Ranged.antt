@@ -6,17 +6,16 @@ use Rattle.std.proofs.lemmas.Bool.{cases_lt}
 use Rattle.std.proofs.lemmas.List.{get_or_past, take_more}
 use Rattle.std.proofs.lemmas.List.Elements.{All-append, All-cons, All-map, All-nil, All-push, All-weaker}
 use Rattle.fst_semiring.specs.Cost.{Cost}
-use Rattle.fst_semiring.specs.Semiring.{InRange, Within, times}
+use Rattle.fst_semiring.specs.Semiring.{InRange, Within}
 use Rattle.fst_semiring.specs.declared.arc_type.ArcType.{ArcType}
 use Rattle.fst_semiring.proofs.Ranges.{Within-more, Within-times}
 use Rattle.fst_machine.specs.Graph.{Graph, graph_of, no_state}
 use Rattle.fst_machine.specs.Machine.{Arc, IsMachine, Machine, State, valued, valued_arc, valued_state}
 use Rattle.fst_machine.proofs.Walking.{graph_arcs}
-use Rattle.fst_walk.specs.Names.{IsGoodArc}
 use Rattle.fst_compose.specs.Composition.{both_arc, by_label, composed, first_alone, first_arcs, match_arcs, second_alone, second_arcs}
-use Rattle.fst_compose.specs.Good.{IsComposedArc, composed_good}
+use Rattle.fst_compose.specs.Good.{composed_good}
 use Rattle.fst_compose.specs.Names.{Name}
-use Rattle.fst_delayed.specs.Graphs.{HasSmallArcs, IsKeyOf, IsRanged, IsSmallArc, delayed_graph}
+use Rattle.fst_delayed.specs.Graphs.{HasSmallArcs, IsRanged}
 
 -- what holds of those before one, and of it
 pub all_more : {X : Type 0} (P : X → Type 0) (xs : List X) (i : ℕ) (x : X) → i < length xs → x ≡ get_or xs i x → All P (take i xs) → P x → All P (take (i + 1) xs)

@@ -1,5 +1,5 @@
 -- What a delayed machine is: contracts see its two machines.
-use Rattle.std.specs.Prelude.{◌≡◌, ℕ, All, Some, length, slice_get}
+use Rattle.std.specs.Prelude.{ℕ, All, length}
 use Rattle.fst_semiring.specs.Cost.{Cost}
 use Rattle.fst_semiring.specs.Semiring.{InRange, Within}
 use Rattle.fst_semiring.specs.declared.arc_type.ArcType.{ArcType}

@@ -1,9 +1,11 @@
 //! The arcs of names that were expanded.
 
-ghost use Rattle.std.specs.Prelude.{◌≡◌, ◌∷◌, ◌++◌, [], MatchOption, OnErr, OnOk, length};
+ghost use Rattle.std.specs.Prelude.{◌≡◌, ◌∷◌, ◌++◌, [], true, IfSome, MatchOption, OnErr, OnOk, length};
 ghost use Rattle.fst_machine.specs.BreadthFirst.{Apart, Has};
+ghost use Rattle.fst_delayed.specs.Ascending.{Ascends};
 ghost use Rattle.fst_delayed.specs.Caches.{AreApart, keys};
 
+use crate::entry::Entry;
 use fst_compose::{ComposeKey, KeyArc};
 use fst_semiring::Weight;
 use indexmap::IndexMap;
@@ -13,7 +15,7 @@ use std::marker::Model;
 /// Names, each once, with their arcs, in the order in which they came. A name is looked up by its hash.
 #[derive(Drop)]
 pub struct Cache<W: Weight> {
-    by_name: IndexMap<ComposeKey, Vec<KeyArc<W>>>,
+    by_name: IndexMap<ComposeKey, Entry<W>>,
 }
 
 impl<W: Weight> Model for Cache<W> {
@@ -23,7 +25,7 @@ impl<W: Weight> Model for Cache<W> {
 
     ghost Value = { List (Name ℕ ℕ × List (Arc W.Wide (Name ℕ ℕ))) };
 
-    ghost view = { λ c. map (λ e. (e.0, e.1.items)) c.by_name.entries };
+    ghost view = { λ c. map (λ e. (e.0, e.1.arcs.items)) c.by_name.entries };
 }
 
 impl<W: Weight> Cache<W> {
@@ -36,13 +38,15 @@ impl<W: Weight> Cache<W> {
         }
     }
 
-    /// The arcs of a name, which are lent; `None` exactly where it has no entry. Takes no memory.
-    pub fn get(&self, key: ComposeKey) -> Option<&[KeyArc<W>]>
-        ensures { MatchOption result (Has (keys self.now) key → ⊥) (λ arcs. Has self.now (key, arcs.now)) }
+    /// The arcs of a name, which are lent, and whether they are known to ascend by their input labels; `None` exactly where
+    /// it has no entry. Takes no memory.
+    pub fn get(&self, key: ComposeKey) -> Option<(&[KeyArc<W>], bool)>
+        ensures arcs { MatchOption result (Has (keys self.now) key → ⊥) (λ held. Has self.now (key, held.0.now)) }
+        ensures ascends { IfSome result (λ held. held.1 ≡ true → Ascends held.0.now) }
     {
         match self.by_name.get_full(&key) {
             None => None,
-            Some((_place, _key, arcs)) => Some(arcs.as_slice()),
+            Some((_place, _key, entry)) => Some((entry.arcs.as_slice(), entry.ascends)),
         }
     }
 
@@ -52,7 +56,8 @@ impl<W: Weight> Cache<W> {
         ensures added { OnOk result (self.new ≡ self.old ++ (key, arcs.items) ∷ []) }
         ensures err { OnErr result (self.new ≡ self.old) }
     {
-        match self.by_name.insert(key, arcs) {
+        let entry = Entry::new(arcs);
+        match self.by_name.insert(key, entry) {
             Ok(_) => Ok(()),
             Err(_) => Err(AllocError),
         }

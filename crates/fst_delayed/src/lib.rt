@@ -13,9 +13,11 @@ mod cache;
 mod codes;
 mod composed;
 mod delayed;
+mod entry;
 pub mod laws;
 mod meter;
 mod ranging;
+mod run;
 
 pub use cache::Cache;
 pub use codes::code;
@@ -24,3 +26,4 @@ pub use delayed::{Delayed, NotSorted};
 pub use fst_claims::{Claim, Claims, Pass};
 pub use fst_compose::{ComposeKey, KeyArc, KeyList};
 pub use meter::{CountMeter, Meter};
+pub use run::run_of;

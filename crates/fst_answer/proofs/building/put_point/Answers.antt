@@ -10,20 +10,20 @@ use Rattle.fst_answer.proofs.building.put_point.Goals as goal
 pub unreachable-requires : goal.unreachable-requires
 unreachable-requires g c =
     let p = point c.item-position.result.0 c.item-position.result.1 in
-    let none = rw c.in_default.is at c.get.ensures in
+    let none = rw c.in_default.is at c.get.ensures.arcs in
     none (whole_held g.W.Weight.KIND g.W.Weight.value g.W.Weight.wide_value (g.D.Composed.machines c.args.delayed.now) c.args.line.now (keys c.args.cache.now) c.args.points.now c.requires.whole c.args.place p c.item-position.ensures)
 
 pub number_point-requires-clause-found : goal.number_point-requires-clause-found
 number_point-requires-clause-found g c =
     let p = point c.item-position.result.0 c.item-position.result.1 in
     whole_found g.W.Weight.KIND g.W.Weight.value g.W.Weight.wide_value (g.D.Composed.machines c.args.delayed.now) c.args.line.now (keys c.args.cache.now) c.args.points.now c.requires.whole c.args.place p c.item-position.ensures
-    c.args.cache.now c.requires.entries c.in-Some.arcs.now c.in-Some.ensures
+    c.args.cache.now c.requires.entries c.in-Some.arcs.now c.in-Some.ensures.arcs
 
 pub returns-then-len-room-clause-filling : goal.returns-then-len-room-clause-filling
 returns-then-len-room-clause-filling g c =
     let p = point c.item-position.result.0 c.item-position.result.1 in
     whole_many g.W.Weight.KIND g.W.Weight.value g.W.Weight.wide_value (g.D.Composed.machines c.args.delayed.now) c.args.line.now (keys c.args.cache.now) c.args.points.now c.requires.whole c.args.place p c.item-position.ensures
-    c.args.cache.now c.requires.entries c.in-Some.arcs.now c.in-Some.ensures c.number_point.new.out.items c.in_ok-number_point.ensures c.args.fst.now c.requires.filling (omega arith)
+    c.args.cache.now c.requires.entries c.in-Some.arcs.now c.in-Some.ensures.arcs c.number_point.new.out.items c.in_ok-number_point.ensures c.args.fst.now c.requires.filling (omega arith)
 
 pub last_weight-last-requires : goal.last_weight-last-requires
 last_weight-last-requires g c =
@@ -35,14 +35,14 @@ fill_state-requires-clause-arcs g c =
     let p = point c.item-position.result.0 c.item-position.result.1 in
     subst (λ (xs : List (Arc g.row.W-Wide.Denot ℕ)). All (IsArc g.W.Weight.wide_value (length c.args.fst.now.states)) xs) (sym c.deref.ensures.value)
     (whole_arcs g.W.Weight.KIND g.W.Weight.value g.W.Weight.wide_value (g.D.Composed.machines c.args.delayed.now) c.args.line.now (keys c.args.cache.now) c.args.points.now c.requires.whole c.args.place p c.item-position.ensures
-    c.args.cache.now c.requires.entries c.in-Some.arcs.now c.in-Some.ensures c.number_point.new.out.items c.in_ok-number_point.ensures c.args.fst.now c.requires.filling c.arcs_are_small.ensures)
+    c.args.cache.now c.requires.entries c.in-Some.arcs.now c.in-Some.ensures.arcs c.number_point.new.out.items c.in_ok-number_point.ensures c.args.fst.now c.requires.filling c.arcs_are_small.ensures)
 
 pub returns-clause-small : goal.returns-clause-small
 returns-clause-small g c =
     let put = c.in_ok-fill_state.ensures ∙ ap (λ (xs : List (Arc g.row.W-Wide.Denot ℕ)). record { start = c.args.fst.now.start; states = changed (filled c.last_weight-last.result xs) c.args.fst.now.states c.args.place }) c.deref.ensures.value in
     let p = point c.item-position.result.0 c.item-position.result.1 in
     whole_small g.W.Weight.KIND g.W.Weight.value g.W.Weight.wide_value (g.D.Composed.machines c.args.delayed.now) c.args.line.now (keys c.args.cache.now) c.args.points.now c.requires.whole c.args.place p c.item-position.ensures
-    c.args.cache.now c.requires.entries c.in-Some.arcs.now c.in-Some.ensures c.number_point.new.out.items c.in_ok-number_point.ensures c.args.fst.now c.requires.filling c.arcs_are_small.ensures c.requires.small
+    c.args.cache.now c.requires.entries c.in-Some.arcs.now c.in-Some.ensures.arcs c.number_point.new.out.items c.in_ok-number_point.ensures c.args.fst.now c.requires.filling c.arcs_are_small.ensures c.requires.small
     c.last_weight-last.result c.fill_state.new.fst c.last_weight-last.ensures.range put
 
 pub returns-clause-filling : goal.returns-clause-filling
@@ -50,5 +50,5 @@ returns-clause-filling g c =
     let put = c.in_ok-fill_state.ensures ∙ ap (λ (xs : List (Arc g.row.W-Wide.Denot ℕ)). record { start = c.args.fst.now.start; states = changed (filled c.last_weight-last.result xs) c.args.fst.now.states c.args.place }) c.deref.ensures.value in
     let p = point c.item-position.result.0 c.item-position.result.1 in
     whole_more g.W.Weight.KIND g.W.Weight.value g.W.Weight.wide_value (g.D.Composed.machines c.args.delayed.now) c.args.line.now (keys c.args.cache.now) c.args.points.now c.requires.whole c.args.place p c.item-position.ensures
-    c.args.cache.now c.requires.entries c.in-Some.arcs.now c.in-Some.ensures c.number_point.new.out.items c.in_ok-number_point.ensures c.args.fst.now c.requires.filling
+    c.args.cache.now c.requires.entries c.in-Some.arcs.now c.in-Some.ensures.arcs c.number_point.new.out.items c.in_ok-number_point.ensures c.args.fst.now c.requires.filling
     c.last_weight-last.result c.fill_state.new.fst c.last_weight-last.ensures.value put

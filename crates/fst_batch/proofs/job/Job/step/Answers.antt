@@ -26,8 +26,8 @@ returns-then-not-fits-clause-job g c =
     let job = subst (IsJob kind value d line known) (sym c.self.view_is) c.requires.job in
     let head : IsHead (record { index = s.index; limit = s.limit; stage = s.stage; points = s.points; taken = s.taken }) at =
     record { going = ap (λ (w : LineWalk). w.stage) c.self.view_is ∙ c.requires.left.0; there = c.item-position.ensures } in
-    let arcs = held_true g.W.Weight.wide_value graph (c.args.cache.now ++ c.args.own.now) c.requires.entries c.item-position.result.1 c.in-Some.arcs.now c.in-Some.ensures in
-    let has = held_key c.args.cache.now c.args.own.now c.item-position.result.1 c.in-Some.arcs.now c.in-Some.ensures in
+    let arcs = held_true g.W.Weight.wide_value graph (c.args.cache.now ++ c.args.own.now) c.requires.entries c.item-position.result.1 c.in-Some.arcs.now c.in-Some.ensures.arcs in
+    let has = held_key c.args.cache.now c.args.own.now c.item-position.result.1 c.in-Some.arcs.now c.in-Some.ensures.arcs in
     let passes : Passes s.limit s.points (nexts ((lattice line graph).arcs at)) =
     subst (λ (xs : List (Arc Cost (Name ℕ ℕ))). Passes s.limit s.points (nexts (point_arcs line c.item-position.result.0 xs))) arcs (rw c.if-not-fits.true at c.in_ok-fits.ensures.finds) in
     let front = c.in_ok-fits.ensures.front in
@@ -46,8 +46,8 @@ returns-clause-job g c =
     let job = subst (IsJob kind value d line known) (sym c.self.view_is) c.requires.job in
     let head : IsHead (record { index = s.index; limit = s.limit; stage = s.stage; points = s.points; taken = s.taken }) at =
     record { going = ap (λ (w : LineWalk). w.stage) c.self.view_is ∙ c.requires.left.0; there = c.item-position.ensures } in
-    let arcs = held_true g.W.Weight.wide_value graph (c.args.cache.now ++ c.args.own.now) c.requires.entries c.item-position.result.1 c.in-Some.arcs.now c.in-Some.ensures in
-    let has = held_key c.args.cache.now c.args.own.now c.item-position.result.1 c.in-Some.arcs.now c.in-Some.ensures in
+    let arcs = held_true g.W.Weight.wide_value graph (c.args.cache.now ++ c.args.own.now) c.requires.entries c.item-position.result.1 c.in-Some.arcs.now c.in-Some.ensures.arcs in
+    let has = held_key c.args.cache.now c.args.own.now c.item-position.result.1 c.in-Some.arcs.now c.in-Some.ensures.arcs in
     let grown : Grows s.points (nexts ((lattice line graph).arcs at)) c.follow.new.points × (length c.follow.new.points ≤ s.limit) =
     subst (λ (xs : List (Arc Cost (Name ℕ ℕ))). Grows s.points (nexts (point_arcs line c.item-position.result.0 xs)) c.follow.new.points × (length c.follow.new.points ≤ s.limit)) arcs (rw c.if-not-fits.false at c.in_ok-fits.ensures.finds) in
     job_goes kind value d c.start_key-start.ensures.machines.0 c.start_key-start.ensures.machines.1 line known s.index s.limit s.taken s.points s.stage at job head has c.follow.new.points grown.0 grown.1

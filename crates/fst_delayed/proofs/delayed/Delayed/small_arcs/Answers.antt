@@ -1,4 +1,4 @@
-use Rattle.std.proofs.Common.{◌≡◌, subst}
+use Rattle.std.proofs.Common.{subst}
 use Rattle.fst_machine.specs.Machine.{Machine}
 use Rattle.fst_delayed.specs.Graphs.{HasSmallArcs}
 use Rattle.fst_delayed.proofs.Ranged.{has_small}

@@ -1,0 +1,26 @@
+use Rattle.std.proofs.Common.{◌++◌, [], List, map, slice_get, subst}
+use Rattle.fst_machine.specs.Machine.{valued_arc}
+use Rattle.fst_walk.specs.Names.{key_arc}
+use Rattle.fst_batch.specs.Lattice.{byte_arcs}
+use Rattle.fst_batch.specs.Walks.{label_arcs}
+use Rattle.fst_answer.specs.Filling.{Continues}
+use Rattle.fst_answer.proofs.Continuing.{continues_all, continues_then}
+use Rattle.fst_answer.proofs.Lattices.{found_byte, found_silent}
+use Rattle.fst_answer.proofs.numbering.number_runs.Goals as goal
+
+pub number_byte_run-requires-clause-found : goal.number_byte_run-requires-clause-found
+number_byte_run-requires-clause-found g c = found_byte c.args.points.now c.args.line.now c.args.position (map (key_arc g.W.Weight.wide_value) c.args.arcs.now) c.requires.found
+
+pub number_run-requires-clause-found : goal.number_run-requires-clause-found
+number_run-requires-clause-found g c = found_silent c.args.points.now c.args.line.now c.args.position (map (key_arc g.W.Weight.wide_value) c.args.arcs.now) c.requires.found
+
+pub returns : goal.returns
+returns g c =
+    let value = g.W.Weight.wide_value in
+    let arcs = map (key_arc value) c.args.arcs.now in
+    let bytes = byte_arcs (slice_get c.args.line.now c.args.position) c.args.position arcs in
+    let silent = label_arcs 0 c.args.position arcs in
+    let mid = map (valued_arc value) c.number_byte_run.new.out.items in
+    let new = map (valued_arc value) c.number_run.new.out.items in
+    let first = subst (λ (xs : List _). Continues c.args.points.now bytes (map (valued_arc value) xs) mid) c.clear.ensures.items c.in_ok-number_byte_run.ensures in
+    continues_all c.args.points.now (bytes ++ silent) new (continues_then c.args.points.now bytes silent [] mid new first c.in_ok-number_run.ensures)
