@@ -79,6 +79,17 @@ impl Extended {
         Extended { number }
     }
 
+    /// The number; `None` for both infinities.
+    pub fn value(self) -> Option<i64>
+        ensures { MatchOption result ((self ≡ infinite) ⊎ (self ≡ best)) (λ n. (self ≡ finite n (pos 0)) × IsSmall n) }
+    {
+        if self.number > LIMIT || self.number < -LIMIT {
+            None
+        } else {
+            Some(self.number)
+        }
+    }
+
     /// The same in the wide form.
     pub fn widen(self) -> WideExtended
         ensures same { result ≡ self }

@@ -89,6 +89,17 @@ impl Weight for Tropical {
         Some(Tropical { number })
     }
 
+    fn times(self, other: Tropical) -> WideTropical {
+        match (self.number.value(), other.number.value()) {
+            // The sum of two numbers of absolute value at most 10 to the 18 has 64 bits.
+            (Some(first), Some(second)) => {
+                let number = WideExtended::number(i128::from(first + second));
+                WideTropical { number }
+            }
+            _ => Self::wide_times(self.widen(), other.widen()),
+        }
+    }
+
     fn wide_compare(a: WideTropical, b: WideTropical) -> Ordering {
         a.number.compare(b.number)
     }
