@@ -69,6 +69,9 @@ pub(crate) fn composed<W: Weight>(
         Ok(made) => made.fst,
         Err(fault) => return Err(uncomposed(alloc, fault)),
     };
+    // Their memory may be used again.
+    drop(first);
+    drop(second);
     if is_connected(options) {
         Ok(Made::Machine(into_connected(alloc, whole)?))
     } else {

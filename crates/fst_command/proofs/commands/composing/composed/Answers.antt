@@ -15,8 +15,8 @@ returns-in-Err g c =
     settled (compose_meaning c.args.options.now) kind value c.args.given (a ∷ b ∷ []) (Err c.uncomposed.result) c.two-first.ensures
     (uncomposed_declines _ kind (valued value a) (valued value b) c.limit_of.result (state_limit c.args.options.now) c.in-Err.fault c.uncomposed.result c.limit_of.ensures.value c.in-Err.ensures.exact c.uncomposed.ensures.made c.uncomposed.ensures.memory)
 
-pub returns-then-is_connected : goal.returns-then-is_connected
-returns-then-is_connected g c =
+pub returns-in_ok-into_connected : goal.returns-in_ok-into_connected
+returns-in_ok-into_connected g c =
     let kind = g.W.Weight.KIND in
     let value = g.W.Weight.value in
     let o = c.args.options.now in
@@ -28,8 +28,8 @@ returns-then-is_connected g c =
       (refl, composed-connected o kind (valued value a) (valued value b) (valued value c.in-Ok.made.fst) (valued value made) c.in-Ok.made.names (sym c.is_connected.ensures ∙ c.if-is_connected.true) c.in-Ok.ensures.made c.in-Ok.ensures.composes c.in_ok-into_connected.ensures.machine),
     )
 
-pub returns : goal.returns
-returns g c =
+pub returns-else-is_connected : goal.returns-else-is_connected
+returns-else-is_connected g c =
     let kind = g.W.Weight.KIND in
     let value = g.W.Weight.value in
     let o = c.args.options.now in
