@@ -56,7 +56,7 @@ fn put_point<W: Weight, D: Composed<W>>(
 {
     delayed.arcs_are_small();
     let (position, name) = points.item(place);
-    let Some((arcs, ascends)) = cache.get(name) else {
+    let Some((arcs, ascends)) = cache.find(name) else {
         unreachable!()
     };
     number_point(made, points, arcs, ascends, line, position)?;

@@ -41,9 +41,9 @@ fn held<'a, W: Weight>(
     ensures arcs { MatchOption result (Has (keys cache.now ++ keys own.now) key → ⊥) (λ held. Has (cache.now ++ own.now) (key, held.0.now)) }
     ensures ascends { IfSome result (λ held. held.1 ≡ true → Ascends held.0.now) }
 {
-    match cache.get(key) {
+    match cache.find(key) {
         Some(found) => Some(found),
-        None => own.get(key),
+        None => own.find(key),
     }
 }
 

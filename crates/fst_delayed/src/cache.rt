@@ -38,9 +38,18 @@ impl<W: Weight> Cache<W> {
         }
     }
 
-    /// The arcs of a name, which are lent, and whether they are known to ascend by their input labels; `None` exactly where
-    /// it has no entry. Takes no memory.
-    pub fn get(&self, key: ComposeKey) -> Option<(&[KeyArc<W>], bool)>
+    /// The arcs of a name, which are lent; `None` exactly where it has no entry. Takes no memory.
+    pub fn get(&self, key: ComposeKey) -> Option<&[KeyArc<W>]>
+        ensures { MatchOption result (Has (keys self.now) key → ⊥) (λ arcs. Has self.now (key, arcs.now)) }
+    {
+        match self.find(key) {
+            None => None,
+            Some((arcs, _ascends)) => Some(arcs),
+        }
+    }
+
+    /// The same with whether the arcs are known to ascend by their input labels.
+    pub fn find(&self, key: ComposeKey) -> Option<(&[KeyArc<W>], bool)>
         ensures arcs { MatchOption result (Has (keys self.now) key → ⊥) (λ held. Has self.now (key, held.0.now)) }
         ensures ascends { IfSome result (λ held. held.1 ≡ true → Ascends held.0.now) }
     {

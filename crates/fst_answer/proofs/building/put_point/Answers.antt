@@ -10,7 +10,7 @@ use Rattle.fst_answer.proofs.building.put_point.Goals as goal
 pub unreachable-requires : goal.unreachable-requires
 unreachable-requires g c =
     let p = point c.item-position.result.0 c.item-position.result.1 in
-    let none = rw c.in_default.is at c.get.ensures.arcs in
+    let none = rw c.in_default.is at c.find.ensures.arcs in
     none (whole_held g.W.Weight.KIND g.W.Weight.value g.W.Weight.wide_value (g.D.Composed.machines c.args.delayed.now) c.args.line.now (keys c.args.cache.now) c.args.points.now c.requires.whole c.args.place p c.item-position.ensures)
 
 pub number_point-requires-clause-found : goal.number_point-requires-clause-found

@@ -1,5 +1,5 @@
 use Rattle.fst_delayed.proofs.Held.{held_found, held_missed}
-use Rattle.fst_delayed.proofs.cache.Cache.get.Goals as goal
+use Rattle.fst_delayed.proofs.cache.Cache.find.Goals as goal
 
 pub returns-in-None-clause-arcs : goal.returns-in-None-clause-arcs
 returns-in-None-clause-arcs g c = held_missed (λ (e : _). e.arcs.items) c.self.inside.by_name.entries c.args.self.now c.args.key c.self.view_is c.in-None.ensures.value
