@@ -3,29 +3,24 @@ use Rattle.std.proofs.Common.{◌≡◌, ℕ, zero, suc, ◌+◌, ◌<◌, ◌�
 use Rattle.std.specs.List.{All}
 use Rattle.std.proofs.lemmas.List.{get_or_default, length-append, length-take-le, take_all, drop_all}
 use Rattle.std.proofs.Math.Seq.{drop-cons, drop-drop, get_or-drop, take-suc-set}
-use Rattle.fst_machine.specs.Machine.{Arc, State}
+use Rattle.fst_machine.specs.Machine.{Arc, State, arc_total}
 use Rattle.fst_machine.specs.Renumbered.{marked_arcs, marked_states, renumbered}
-use Rattle.fst_machine.specs.Retaining.{IsRetained, IsRetaining}
+use Rattle.fst_machine.specs.Retaining.{IsRetained}
 use Rattle.fst_machine.specs.SideBySide.{Follow, end_of}
 use Rattle.fst_machine.specs.Store.{Slot, LiesIn, kept_state, kept_states, slot_arcs, part_or, arcs_apart}
 use Rattle.fst_machine.proofs.Keeping.{Pushed, kept_length, kept_read, lies_at, pushed, slot_behind}
 
--- where a part that has arcs ends
-pub end_some : (behind first count : ℕ) → 0 < count → end_of behind first count ≡ first + count
-end_some behind first zero some = absurd (omega (arith, some))
-end_some behind first (suc more) some = refl
-
--- where one that has none ends
-pub end_none : (behind first count : ℕ) → count ≡ 0 → end_of behind first count ≡ behind
-end_none behind first zero none = refl
-end_none behind first (suc more) none = absurd (omega (arith, none))
-
--- what follows behind a state follows with it
-pub follow_before : {V : Type 0} (slots : List (Slot V)) (i behind next : ℕ) (s : Slot V) → i < length slots → get_or slots i s ≡ s → (0 < s.count → behind ≤ s.first) → next ≡ end_of behind s.first s.count → Follow next (drop (i + 1) slots) → Follow behind (drop i slots)
-follow_before {V} slots i behind next s within read low e more =
-    let step : i + 1 ≡ suc i = omega arith in
-    let here : drop i slots ≡ s ∷ drop (i + 1) slots = drop-cons slots i s within ∙ (ap (λ (t : Slot V). t ∷ drop (suc i) slots) read ∙ ap (λ n. s ∷ drop n slots) (sym step)) in
-    subst (λ (ss : List (Slot V)). Follow behind ss) (sym here) (low, subst (λ n. Follow n (drop (i + 1) slots)) e more)
+-- the marked ones of the states before the i-th are kept: their arcs end at a place, and what follows the arcs of the old states is as it was
+pub record IsRetaining {V : Type 0} (marks : List Bool) (numbers : List ℕ) (slots : List (Slot V)) (store new_store : List (Arc V ℕ)) (i end : ℕ) (new_slots : List (Slot V)) : Type 0 where
+  pub behind : ℕ
+  pub low : end ≤ behind
+  pub inside : behind ≤ length store
+  pub size : length new_store ≡ length store
+  pub rest : drop behind new_store ≡ drop behind store
+  pub follow : Follow behind (drop i slots)
+  pub states : kept_states (take end new_store) [] new_slots ++ marked_states marks numbers i (drop i (kept_states store [] slots)) ≡ marked_states marks numbers 0 (kept_states store [] slots)
+  pub counted : end ≡ arc_total (kept_states (take end new_store) [] new_slots)
+  pub parts : All (LiesIn end) new_slots
 
 -- the first of what follows, and what follows behind it
 pub follow_at : {V : Type 0} (slots : List (Slot V)) (i behind : ℕ) (s : Slot V) → i < length slots → get_or slots i s ≡ s → Follow behind (drop i slots) → (0 < s.count → behind ≤ s.first) × Follow (end_of behind s.first s.count) (drop (i + 1) slots)
@@ -137,15 +132,8 @@ module _ {V : Type 0} (marks : List Bool) (numbers : List ℕ) (slots : List (Sl
   marked_here : marked_states marks numbers i (drop i (kept_states old [] slots)) ≡ cond (get_or marks i false) (record { final = s.final; arcs = own } ∷ rest) rest
   marked_here = ap (marked_states marks numbers i) here
 
-  -- the part of the state lies in the store, behind the parts before it
-  pub lies : LiesIn (length store) s
-  lies some = let there = lies_at slots (length old) i s parts within (sym read) some in omega (arith, there, is.size)
-
   follows : (0 < s.count → is.behind ≤ s.first) × Follow (end_of is.behind s.first s.count) (drop (i + 1) slots)
   follows = follow_at slots i is.behind s within read is.follow
-
-  pub stands : 0 < s.count → end ≤ s.first
-  stands some = let there = follows.0 some in omega (arith, there, is.low)
 
   abbrev next : ℕ
   next = end_of is.behind s.first s.count

@@ -15,8 +15,8 @@ use Rattle.fst_pushing.proofs.Lists.{push_last}
 use Rattle.fst_minimize.proofs.Refining.{EndsBelow, round_refined, round_last}
 
 -- nothing is seen at first
-pub seen_none : (numbers : List ℕ) (rows : List (List ℕ)) → SeenRows numbers rows 0 []
-seen_none numbers rows = record { size = refl; row = (λ p r low e. absurd (omega arith)) }
+pub seen_none : (numbers : List ℕ) (lists : List (List ℕ)) → SeenRows numbers lists 0 []
+seen_none numbers lists = record { size = refl; row = (λ p r low e. absurd (omega arith)) }
 
 -- one row more
 pub seen_push : (numbers : List ℕ) (rows : List (List ℕ)) (done : ℕ) (seen : List (ℕ × List ℕ)) (r : List ℕ) → slice_get rows done ≡ Some r → SeenRows numbers rows done seen

@@ -1,4 +1,4 @@
-use Rattle.fst_machine.specs.Retaining.{IsRetaining}
+use Rattle.fst_machine.proofs.Retaining.{IsRetaining}
 use Rattle.fst_machine.proofs.fst.retain.retain_states.Given as goal
 
 abbrev pub invariant-loop-state : goal.invariant-loop-state
