@@ -10,7 +10,7 @@ ghost use Rattle.fst_binary.specs.Spelling.{HasSpelling, arc_fields, count_field
 
 use fst_bytes::{
     append, append_arc_type, append_long, append_signed, append_text, append_weight, append_word,
-    count_of_numbers, weight_length,
+    weight_length,
 };
 use fst_machine::{Fst, FstArc};
 use fst_semiring::{ArcType, Weight};
@@ -79,11 +79,9 @@ fn append_arc<W: Weight>(out: &mut Vec<u8>, arc: FstArc<W>)
     ensures items { out.new.items ≡ out.old.items ++ arc_fields W.KIND (valued_arc W.value arc) }
     ensures room { vec_capacity out.old ≤ vec_capacity out.new }
 {
-    let key = W::key(arc.weight.widen());
-    if key.class == 1 && count_of_numbers(W::KIND) == 1 {
-        append_arc_of_number(out, arc.ilabel, arc.olabel, key.first as i64, arc.next);
-    } else {
-        append_arc_by_fields(out, arc);
+    match arc.weight.single_number() {
+        Some(number) => append_arc_of_number(out, arc.ilabel, arc.olabel, number, arc.next),
+        None => append_arc_by_fields(out, arc),
     }
 }
 

@@ -1,9 +1,11 @@
 -- How long the fields are.
-use Rattle.std.proofs.Common.{◌≡◌, ℕ, ℤ, ◌+◌, ◌*◌, ◌≤◌, List, [], ◌∷◌, ◌++◌, length, ◌⊎◌, inl, inr, refl, ap, ◌∙◌, arith}
-use Rattle.std.proofs.lemmas.List.{length-append}
+use Rattle.std.proofs.Common.{◌≡◌, ℕ, ℤ, ◌+◌, ◌*◌, ◌≤◌, List, [], ◌∷◌, ◌++◌, length, Option, None, Some, ◌⊎◌, inl, inr, refl, ap, ◌∙◌, arith}
+use Rattle.std.proofs.lemmas.List.{length-append, append-nil}
+use Rattle.std.proofs.lemmas.Option.{none-some, same_Some}
 use Rattle.fst_semiring.specs.declared.arc_type.ArcType.{ArcType}
 use Rattle.fst_semiring.specs.declared.arc_type.ArcType.TheVariants.{Boolean, Tropical, MinMax, Lexicographic}
 use Rattle.fst_semiring.specs.Cost.{Cost, best, class_of, finite, infinite}
+use Rattle.fst_semiring.specs.Semiring.{single_number}
 use Rattle.fst_bytes.specs.Spelling.{long, signed, weight_field, word}
 use Rattle.fst_bytes.specs.Reading.{number_count}
 
@@ -54,6 +56,19 @@ length-by_class kind (finite a b) e = length-numbers kind a b
 pub one_number : (kind : ArcType) → (kind ≡ Tropical) ⊎ (kind ≡ MinMax) → number_count kind ≡ 1
 one_number kind (inl e) = ap number_count e
 one_number kind (inr e) = ap number_count e
+
+-- the field of a single number
+pub field_of_number : (kind : ArcType) (v : Cost) (n : ℤ) → single_number kind v ≡ Some n → weight_field kind v ≡ 1 ∷ signed n
+field_of_number kind infinite n e = absurd (none-some n e)
+field_of_number kind best n e = absurd (none-some n e)
+field_of_number Boolean (finite a b) n e = absurd (none-some n e)
+field_of_number Tropical (finite a b) n e = ap (λ f. 1 ∷ f) (append-nil (signed a) ∙ ap signed (same_Some _ _ e))
+field_of_number MinMax (finite a b) n e = ap (λ f. 1 ∷ f) (append-nil (signed a) ∙ ap signed (same_Some _ _ e))
+field_of_number Lexicographic (finite a b) n e = absurd (none-some n e)
+
+-- it has the tag and eight bytes
+pub length-by_number : (kind : ArcType) (v : Cost) (n : ℤ) → single_number kind v ≡ Some n → length (weight_field kind v) ≡ 9
+length-by_number kind v n e = let field = ap length (field_of_number kind v n e) in omega (arith, field, length-signed n)
 
 -- a list that is longer by a number with a sign
 pub longer_by_signed : (xs ys : List ℕ) (n : ℤ) → xs ≡ ys ++ signed n → length xs ≡ length ys + 8

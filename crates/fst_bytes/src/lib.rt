@@ -23,6 +23,6 @@ pub use name::read_arc_type;
 pub use number::{expect_word, read_bytes, read_count, read_label, read_long, read_word};
 pub use room::most_that_fit;
 pub use weight_field::{
-    append_weight, count_of_numbers, push_weight_field, read_non_zero_weight, read_weight,
-    read_weight_field, weight_length,
+    append_weight, push_weight_field, read_non_zero_weight, read_weight, read_weight_field,
+    weight_length,
 };

@@ -31,7 +31,7 @@ fn is_key_in_range(key: Key) -> bool
 }
 
 /// How many numbers stand after the tag 1.
-pub fn count_of_numbers(kind: ArcType) -> usize
+fn count_of_numbers(kind: ArcType) -> usize
     ensures { result ≡ number_count kind }
 {
     match kind {
@@ -208,11 +208,12 @@ pub fn weight_length<W: Weight>(weight: W) -> usize
     ensures bound { result ≤ 17 }
     ensures fits { HasField W.KIND (W.value weight) }
 {
-    let key = W::key(weight.widen());
-    if key.class == 1 {
-        1 + 8 * count_of_numbers(W::KIND)
-    } else {
-        1
+    // Of the wide form it is known that the weight has a field.
+    let wide = weight.widen();
+    match weight.single_number() {
+        Some(_number) => 9,
+        None if W::key(wide).class == 1 => 1 + 8 * count_of_numbers(W::KIND),
+        None => 1,
     }
 }
 

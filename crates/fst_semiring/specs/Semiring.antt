@@ -1,6 +1,6 @@
 -- The four semirings over weight values, by their arc type. (Mohri 2009, section 2; OpenFst Quick Tour,
 -- "FST Weights". That the numbers are whole, and the four arc types, are this project's own profile.)
-use Rattle.std.specs.Prelude.{◌≡◌, ℕ, ℤ, pos, neg_ℤ, ◌+ℤ◌, ◌≤ℤ◌, Bool, true, false}
+use Rattle.std.specs.Prelude.{◌≡◌, ℕ, ℤ, pos, neg_ℤ, ◌+ℤ◌, ◌≤ℤ◌, Bool, true, false, Option, None, Some}
 use Rattle.fst_semiring.specs.declared.arc_type.ArcType.{ArcType}
 use Rattle.fst_semiring.specs.declared.arc_type.ArcType.TheVariants.{Boolean, Tropical, MinMax, Lexicographic}
 use Rattle.fst_semiring.specs.Cost.{Cost, best, finite, infinite, worse}
@@ -47,6 +47,15 @@ IsCost Boolean (finite a b) = (a ≡ pos 0) × (b ≡ pos 0)
 IsCost Tropical (finite a b) = b ≡ pos 0
 IsCost MinMax (finite a b) = b ≡ pos 0
 IsCost Lexicographic (finite a b) = Unit {0}
+
+-- the number of a value that is a single number, which true is not, nor a pair
+abbrev pub single_number : ArcType → Cost → Option ℤ
+single_number kind infinite = None
+single_number kind best = None
+single_number Boolean (finite a b) = None
+single_number Tropical (finite a b) = Some a
+single_number MinMax (finite a b) = Some a
+single_number Lexicographic (finite a b) = None
 
 -- the number has absolute value at most n
 abbrev pub IsWithin : ℕ → ℤ → Type 0

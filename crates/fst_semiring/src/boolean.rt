@@ -61,6 +61,10 @@ impl Weight for Boolean {
         Some(wide)
     }
 
+    fn single_number(self) -> Option<i64> {
+        None
+    }
+
     fn wide_compare(a: Boolean, b: Boolean) -> Ordering {
         b.truth.cmp(&a.truth)
     }

@@ -132,6 +132,10 @@ impl Weight for Lexicographic {
         Some(Lexicographic { first, second })
     }
 
+    fn single_number(self) -> Option<i64> {
+        None
+    }
+
     fn wide_compare(a: WideLexicographic, b: WideLexicographic) -> Ordering {
         match a.first.cmp(&b.first) {
             Ordering::Equal => a.second.cmp(&b.second),

@@ -80,6 +80,10 @@ impl Weight for MinMax {
         Some(MinMax { number })
     }
 
+    fn single_number(self) -> Option<i64> {
+        self.number.value()
+    }
+
     fn wide_compare(a: WideMinMax, b: WideMinMax) -> Ordering {
         a.number.compare(b.number)
     }

@@ -89,6 +89,10 @@ impl Weight for Tropical {
         Some(Tropical { number })
     }
 
+    fn single_number(self) -> Option<i64> {
+        self.number.value()
+    }
+
     fn times(self, other: Tropical) -> WideTropical {
         match (self.number.value(), other.number.value()) {
             // The sum of two numbers of absolute value at most 10 to the 18 has 64 bits.

@@ -2,7 +2,7 @@
 
 ghost use Rattle.std.specs.Prelude.{◌≡◌, ◌≢◌, ◌++◌, Bool, OnOk, OnErr, IfOk, IfSome, IfNone};
 ghost use Rattle.fst_semiring.specs.Cost.{Cost, infinite, cost_cmp, is_infinite, plus};
-ghost use Rattle.fst_semiring.specs.Semiring.{cancels, one_of, times, InRange, IsCost, IsWide, Within};
+ghost use Rattle.fst_semiring.specs.Semiring.{cancels, one_of, single_number, times, InRange, IsCost, IsWide, Within};
 ghost use Rattle.fst_semiring.specs.Division.{quotient};
 ghost use Rattle.fst_semiring.specs.Keys.{key_of};
 ghost use Rattle.fst_semiring.specs.WeightText.{cost_of_text, text_of_cost, ReadsAs};
@@ -60,6 +60,11 @@ pub trait Weight: Copy + Eq {
         ensures found { IfSome result (λ w. value w ≡ wide_value wide) }
         ensures range { IfSome result (λ w. InRange (value w)) }
         ensures none { IfNone result (InRange (wide_value wide) → ⊥) };
+
+    /// The number of a weight that is a single number, which has absolute value at most 10 to the 18. `None` for both
+    /// infinities, for the weights of the boolean semiring and for pairs. Takes no memory.
+    fn single_number(self) -> Option<i64>
+        ensures { result ≡ single_number KIND (value self) };
 
     /// How two weights compare in the natural order: Less is better.
     fn compare(self, other: Self) -> Ordering
