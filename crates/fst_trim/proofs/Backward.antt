@@ -3,7 +3,7 @@ use Rattle.std.proofs.Common.{◌≡◌, ◌⊎◌, ◌↔◌, inl, inr, ℕ, �
 use Rattle.std.specs.Bool.{Decides}
 use Rattle.std.proofs.lemmas.Bool.{cases_lt, cases_eq}
 use Rattle.std.specs.Option.{option_map}
-use Rattle.std.proofs.lemmas.List.{append-nil, length-append}
+use Rattle.std.proofs.lemmas.List.{append-nil, get_or_past, length-append}
 use Rattle.std.proofs.lemmas.Option.{slice_get_within}
 use Rattle.fst_semiring.specs.Cost.{Cost, infinite}
 use Rattle.fst_machine.specs.Machine.{Arc, Machine, valued, valued_arc}
@@ -98,6 +98,14 @@ walk_marks g start names seen starts w marks p = (there, back)
 pub both_marks : (g : Graph ℕ) (p : ℕ) (one two both : Bool) → Decides one (IsAccessible g p) → Decides two (IsCoaccessible g p) → both ≡ (one && two) → Decides both (IsUseful g p)
 both_marks g p true two both a c e = ((λ is. (a.0 refl, c.0 (sym e ∙ is))), (λ u. e ∙ c.1 u.1))
 both_marks g p false two both a c e = ((λ is. absurd (let wrong : false ≡ true = sym e ∙ is in cc)), (λ u. absurd (let wrong : false ≡ true = a.1 u.0 in cc)))
+
+-- where the start reaches all states, those from which a path leads to a final one are the useful ones
+pub accessible_marks : (g : Graph ℕ) (size : ℕ) (marks : List Bool) → length marks ≡ size → ((p : ℕ) → p < size → IsAccessible g p) → ((p : ℕ) → Decides (get_or marks p false) (IsCoaccessible g p)) → (p : ℕ) → Decides (get_or marks p false) (IsUseful g p)
+accessible_marks g size marks same all are p = ((λ is. (all p (marked_below is (cases_lt p (length marks))), (are p).0 is)), (λ u. (are p).1 u.1))
+  where
+    marked_below : get_or marks p false ≡ true → (p < length marks) ⊎ (length marks ≤ p) → p < size
+    marked_below is (inl low) = omega arith
+    marked_below is (inr past) = absurd (let wrong : false ≡ true = sym (get_or_past marks p false past) ∙ is in cc)
 
 -- one state more that is not final
 pub finals_skip : (g : Graph ℕ) (k : ℕ) (names : List ℕ) → FoundFinals g k names → ((g.final k ≡ infinite → ⊥) → ⊥) → FoundFinals g (k + 1) names

@@ -4,7 +4,7 @@ ghost use Rattle.std.specs.Prelude.{◌≡◌, ◌<◌, ◌≤◌, ◌↔◌, �
 ghost use Rattle.std.specs.Bool.{Decides};
 ghost use Rattle.fst_semiring.specs.Cost.{Cost};
 ghost use Rattle.fst_machine.specs.Connected.{IsConnected, IsTrim};
-ghost use Rattle.fst_machine.specs.Cycles.{IsUseful};
+ghost use Rattle.fst_machine.specs.Cycles.{IsAccessible, IsUseful};
 ghost use Rattle.fst_machine.specs.Graph.{graph_of};
 ghost use Rattle.fst_machine.specs.Machine.{IsMachine, valued};
 ghost use Rattle.fst_machine.specs.Relation.{Rel};
@@ -12,7 +12,7 @@ ghost use Rattle.fst_trim.specs.KeptPaths.{IsConnectedOn, KeepsPaths};
 ghost use Rattle.fst_trim.specs.Handed.{machine_of};
 ghost use Rattle.fst_machine.specs.Renumbered.{IsNumbering, marked_arcs, marked_machine, marked_states, marked, new_start};
 
-use crate::useful::useful;
+use crate::useful::{coaccessible, useful};
 use fst_machine::{Fst, FstArc, StateList};
 use fst_semiring::Weight;
 use std::alloc::{AllocError, Global};
@@ -199,6 +199,20 @@ fn retain_marked<W: Weight>(alloc: Global, a: Fst<W>, marks: &[bool]) -> Result<
     Ok(states.into_machine(start))
 }
 
+/// The machine of the marked states, as `retain_marked` makes it; the given machine itself where all are marked.
+fn retain_useful<W: Weight>(alloc: Global, a: Fst<W>, marks: &[bool]) -> Result<Fst<W>, AllocError>
+    requires size { length marks.now ≡ length a.states }
+    requires useful { (p : ℕ) → Decides (get_or marks.now p false) (IsUseful (graph_of (valued W.value a)) p) }
+    ensures { IfOk result (λ c. IsConnectedOn (valued W.value a) (valued W.value c) (marked 0 marks.now)) }
+{
+    let _states = a.states();
+    if all_marked(marks) {
+        return Ok(a);
+    }
+    let own = retain_marked(alloc, a, marks)?;
+    Ok(own)
+}
+
 /// The machine of the marked states, as `connect_marked` makes it; the given machine itself where all are marked. One that
 /// was given away is changed in place.
 fn trim_marked<'a, W: Weight>(
@@ -276,9 +290,23 @@ pub fn into_connected<W: Weight>(alloc: Global, a: Fst<W>) -> Result<Fst<W>, All
 {
     let _states = a.states();
     let marks = useful(alloc, &a)?;
-    if all_marked(marks.as_slice()) {
-        return Ok(a);
-    }
-    let connected = retain_marked(alloc, a, marks.as_slice())?;
+    let connected = retain_useful(alloc, a, marks.as_slice())?;
+    Ok(connected)
+}
+
+/// The connected machine, as `connect` gives it, of a machine that is given away and all of whose states the start reaches, as
+/// those of a machine that a walk has made: what the start reaches is not looked for.
+///
+/// Time and space: as `connect`.
+pub fn connect_walked<W: Weight>(alloc: Global, a: Fst<W>) -> Result<Fst<W>, AllocError>
+    requires accessible { (p : ℕ) → p < length a.states → IsAccessible (graph_of (valued W.value a)) p }
+    ensures machine { IfOk result (λ c. IsConnected (valued W.value a) (valued W.value c)) }
+    ensures paths { IfOk result (λ c. (h : IsConnected (valued W.value a) (valued W.value c)) → KeepsPaths W.KIND (valued W.value a) (valued W.value c) h.kept) }
+    ensures relation { IfOk result (λ c. (x y : List ℕ) (w : Cost) → Rel W.KIND (graph_of (valued W.value a)) x y w ↔ Rel W.KIND (graph_of (valued W.value c)) x y w) }
+{
+    let _states = a.states();
+    // A state that the start reaches is useful where a path leads from it to a final one.
+    let marks = coaccessible(alloc, &a)?;
+    let connected = retain_useful(alloc, a, marks.as_slice())?;
     Ok(connected)
 }

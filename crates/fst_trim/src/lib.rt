@@ -23,7 +23,7 @@ mod targets;
 mod useful;
 
 pub use as_machine::AsMachine;
-pub use connected::{Connected, Handed, connect, connect_kept, into_connected};
+pub use connected::{Connected, Handed, connect, connect_kept, connect_walked, into_connected};
 pub use describing::info;
 pub use first_arc::{is_acceptor, is_deterministic, not_acceptor_at, not_deterministic_at};
 pub use laws::one_answer;

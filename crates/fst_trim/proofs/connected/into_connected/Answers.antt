@@ -1,26 +1,15 @@
-use Rattle.std.proofs.Common.{◌≡◌, ℕ, Bool, List, true, false, get_or, sym, subst}
+use Rattle.std.proofs.Common.{ℕ, Bool, List, false, get_or, sym, subst}
 use Rattle.std.specs.Bool.{Decides}
-use Rattle.std.specs.List.{All}
 use Rattle.fst_machine.specs.Machine.{valued}
 use Rattle.fst_machine.specs.Graph.{graph_of}
 use Rattle.fst_machine.specs.Cycles.{IsUseful}
 use Rattle.fst_machine.proofs.Connected.{connected-Rel}
 use Rattle.fst_trim.proofs.KeptPaths.{connected_keeps}
-use Rattle.fst_trim.proofs.WholeMachine.{whole_connected}
 use Rattle.fst_trim.proofs.connected.into_connected.Goals as goal
 
-pub returns-then-all_marked-clause-machine : goal.returns-then-all_marked-clause-machine
-returns-then-all_marked-clause-machine g c =
-    let marks = c.in_ok-marks.marks.items in
-    let every : All (λ mark. mark ≡ true) marks = subst (λ (ms : List Bool). All (λ mark. mark ≡ true) ms) c.as_slice.ensures.value (c.all_marked.ensures.0 c.if-all_marked.true) in
-    (whole_connected g.W.Weight.value c.args.a marks c.states-states.ensures.machine c.in_ok-marks.ensures.size c.in_ok-marks.ensures.marks every).0
-
-pub returns-then-all_marked-clause-paths : goal.returns-then-all_marked-clause-paths
-returns-then-all_marked-clause-paths g c h = connected_keeps (valued g.W.Weight.value c.args.a) (valued g.W.Weight.value c.args.a) h g.W.Weight.KIND
-
-pub retain_marked-requires-clause-useful : goal.retain_marked-requires-clause-useful
-retain_marked-requires-clause-useful g c =
-    subst (λ (ms : List Bool). (p : ℕ) → Decides (get_or ms p false) (IsUseful (graph_of (valued g.W.Weight.value c.args.a)) p)) (sym c.as_slice-2.ensures.value) c.in_ok-marks.ensures.marks
+pub retain_useful-requires-clause-useful : goal.retain_useful-requires-clause-useful
+retain_useful-requires-clause-useful g c =
+    subst (λ (ms : List Bool). (p : ℕ) → Decides (get_or ms p false) (IsUseful (graph_of (valued g.W.Weight.value c.args.a)) p)) (sym c.as_slice.ensures.value) c.in_ok-marks.ensures.marks
 
 pub returns-clause-machine : goal.returns-clause-machine
 returns-clause-machine g c = c.in_ok-connected.ensures.0
