@@ -1,5 +1,5 @@
 use Rattle.fst_walk.proofs.Fronts.{walking_front, walking_further}
-use Rattle.fst_walk.proofs.Numbered.{nothing_numbered}
+use Rattle.fst_walk.proofs.Numbered.{named_accessible, nothing_numbered}
 use Rattle.fst_walk.proofs.Refusing.{reached_few}
 use Rattle.fst_walk.proofs.laws.walk_laws.Goals as goal
 
@@ -14,3 +14,6 @@ returns-clause-few g c = λ graph start names xs. reached_few graph start names 
 
 pub returns-clause-nothing : goal.returns-clause-nothing
 returns-clause-nothing g c = λ graph none. nothing_numbered graph none
+
+pub returns-clause-accessible : goal.returns-clause-accessible
+returns-clause-accessible g c = λ graph names m. named_accessible graph names m
