@@ -1,6 +1,7 @@
 //! The machine of all names that the start reaches.
 
-ghost use Rattle.std.specs.Prelude.{◌≡◌, ◌⊎◌, ◌<◌, ◌≤◌, IfOk, MatchOption};
+ghost use Rattle.std.specs.Prelude.{◌≡◌, ◌⊎◌, ◌<◌, ◌≤◌, ℕ, IfOk, MatchOption, length};
+ghost use Rattle.fst_machine.specs.Cycles.{IsAccessible};
 ghost use Rattle.fst_machine.specs.Graph.{graph_of};
 ghost use Rattle.fst_machine.specs.Machine.{IsMachine, most_states, valued};
 ghost use Rattle.fst_walk.specs.Answers.{IsNamed};
@@ -141,7 +142,7 @@ fn composed<W: Weight>(
 ///
 /// Each successful path of the result is read off to one path of each machine, of which the first writes what the second
 /// reads, and each such pair is read off from one path. So the result relates what `a` does, followed by what `b` does,
-/// with the product of the weights.
+/// with the product of the weights. The start of the result reaches all its states.
 ///
 /// `NotSorted` exactly where neither machine has its arcs in this order; else `StateLimit` exactly where the start
 /// reaches more than `max_states` names, which is answered as soon as so many are found; else `TooManyArcs` exactly
@@ -163,6 +164,7 @@ pub fn compose<W: Weight>(
     requires few { max_states ≤ most_states }
     ensures made { IfOk result (λ c. IsNamed (composition W.KIND W.value a.now b.now) c.names (valued W.value c.fst)) }
     ensures composes { IfOk result (λ c. IsComposition W.KIND (graph_of (valued W.value a.now)) (graph_of (valued W.value b.now)) c.names (valued W.value c.fst)) }
+    ensures accessible { IfOk result (λ c. (p : ℕ) → p < length c.fst.states → IsAccessible (graph_of (valued W.value c.fst)) p) }
     ensures exact { IsExactly W.KIND (valued W.value a.now) (valued W.value b.now) max_states result }
 {
     match composed(alloc, a, b, max_states) {
