@@ -16,7 +16,7 @@ use crate::made::Made;
 use crate::refusal::{Refusal, unmade};
 use fst_compose::{ComposeFault, compose};
 use fst_semiring::Weight;
-use fst_trim::into_connected;
+use fst_trim::connect_walked;
 use fst_words::Options;
 use std::alloc::Global;
 
@@ -73,7 +73,7 @@ pub(crate) fn composed<W: Weight>(
     drop(first);
     drop(second);
     if is_connected(options) {
-        Ok(Made::Machine(into_connected(alloc, whole)?))
+        Ok(Made::Machine(connect_walked(alloc, whole)?))
     } else {
         Ok(Made::Machine(whole))
     }
