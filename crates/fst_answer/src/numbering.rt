@@ -71,17 +71,43 @@ fn number_label<W: Weight>(
     Ok(silent)
 }
 
+/// The same. Where the arcs are known to ascend by their input labels, those that read the label are found by a search, the
+/// others are not looked at, and some may read epsilon.
+fn number_those<W: Weight>(
+    out: &mut Vec<WideArc<W>>,
+    points: &Points,
+    arcs: &[KeyArc<W>],
+    ascends: bool,
+    label: u32,
+    position: u64,
+) -> Result<bool, AllocError>
+    requires few { length points.now ≤ most_states }
+    requires found { AreFound points.now label position (map (key_arc W.wide_value) arcs.now) }
+    requires ascends { ascends ≡ true → Ascends arcs.now }
+    ensures arcs { OnOk result (Continues points.now (label_arcs label position (map (key_arc W.wide_value) arcs.now)) (map (valued_arc W.wide_value) out.old.items) (map (valued_arc W.wide_value) out.new.items)) }
+    ensures silent { IfOk result (λ silent. silent ≡ false → reading 0 (map (key_arc W.wide_value) arcs.now) ≡ []) }
+{
+    if !ascends {
+        return number_label(out, points, arcs, label, position);
+    }
+    let run = run_of(arcs, label);
+    number_label(out, points, run, label, position)?;
+    Ok(true)
+}
+
 /// Puts those of the arcs that read the byte behind a position, if there is one, and tells whether any of the arcs may
 /// read epsilon.
 fn number_byte<W: Weight>(
     out: &mut Vec<WideArc<W>>,
     points: &Points,
     arcs: &[KeyArc<W>],
+    ascends: bool,
     line: &[u8],
     position: u64,
 ) -> Result<bool, AllocError>
     requires few { length points.now ≤ most_states }
     requires found { (byte : ℕ) → slice_get line.now position ≡ Some byte → AreFound points.now byte (position + 1) (map (key_arc W.wide_value) arcs.now) }
+    requires ascends { ascends ≡ true → Ascends arcs.now }
     ensures arcs { OnOk result (Continues points.now (byte_arcs (slice_get line.now position) position (map (key_arc W.wide_value) arcs.now)) (map (valued_arc W.wide_value) out.old.items) (map (valued_arc W.wide_value) out.new.items)) }
     ensures silent { IfOk result (λ silent. silent ≡ false → reading 0 (map (key_arc W.wide_value) arcs.now) ≡ []) }
 {
@@ -89,65 +115,7 @@ fn number_byte<W: Weight>(
         return Ok(true);
     }
     let byte = line[position as usize];
-    number_label(out, points, arcs, u32::from(byte), position + 1)
-}
-
-/// The same where the arcs ascend by their input labels: those that read the label are found by a search.
-fn number_run<W: Weight>(
-    out: &mut Vec<WideArc<W>>,
-    points: &Points,
-    arcs: &[KeyArc<W>],
-    label: u32,
-    position: u64,
-) -> Result<(), AllocError>
-    requires few { length points.now ≤ most_states }
-    requires found { AreFound points.now label position (map (key_arc W.wide_value) arcs.now) }
-    requires ascends { Ascends arcs.now }
-    ensures { OnOk result (Continues points.now (label_arcs label position (map (key_arc W.wide_value) arcs.now)) (map (valued_arc W.wide_value) out.old.items) (map (valued_arc W.wide_value) out.new.items)) }
-{
-    let run = run_of(arcs, label);
-    number_label(out, points, run, label, position)?;
-    Ok(())
-}
-
-/// Puts those of the arcs that read the byte behind a position, if there is one, where the arcs ascend by their input
-/// labels.
-fn number_byte_run<W: Weight>(
-    out: &mut Vec<WideArc<W>>,
-    points: &Points,
-    arcs: &[KeyArc<W>],
-    line: &[u8],
-    position: u64,
-) -> Result<(), AllocError>
-    requires few { length points.now ≤ most_states }
-    requires found { (byte : ℕ) → slice_get line.now position ≡ Some byte → AreFound points.now byte (position + 1) (map (key_arc W.wide_value) arcs.now) }
-    requires ascends { Ascends arcs.now }
-    ensures { OnOk result (Continues points.now (byte_arcs (slice_get line.now position) position (map (key_arc W.wide_value) arcs.now)) (map (valued_arc W.wide_value) out.old.items) (map (valued_arc W.wide_value) out.new.items)) }
-{
-    if line.len() as u64 <= position {
-        return Ok(());
-    }
-    let byte = line[position as usize];
-    number_run(out, points, arcs, u32::from(byte), position + 1)
-}
-
-/// The same as `number_point`, where the arcs ascend by their input labels.
-fn number_runs<W: Weight>(
-    out: &mut Vec<WideArc<W>>,
-    points: &Points,
-    arcs: &[KeyArc<W>],
-    line: &[u8],
-    position: u64,
-) -> Result<(), AllocError>
-    requires few { length points.now ≤ most_states }
-    requires found { (n : Point (Name ℕ ℕ)) → Has (nexts (point_arcs line.now position (map (key_arc W.wide_value) arcs.now))) n → Has points.now n }
-    requires ascends { Ascends arcs.now }
-    ensures { OnOk result (AllZip (IsNumberedArc points.now) (point_arcs line.now position (map (key_arc W.wide_value) arcs.now)) (map (valued_arc W.wide_value) out.new.items)) }
-{
-    out.clear();
-    number_byte_run(out, points, arcs, line, position)?;
-    number_run(out, points, arcs, 0, position)?;
-    Ok(())
+    number_those(out, points, arcs, ascends, u32::from(byte), position + 1)
 }
 
 /// Fills a list with the arcs of a name of a lattice, to the numbers of names. Its name in the composition has these arcs;
@@ -165,15 +133,12 @@ pub(crate) fn number_point<W: Weight>(
     requires ascends { ascends ≡ true → Ascends arcs.now }
     ensures { OnOk result (AllZip (IsNumberedArc points.now) (point_arcs line.now position (map (key_arc W.wide_value) arcs.now)) (map (valued_arc W.wide_value) out.new.items)) }
 {
-    if ascends {
-        return number_runs(out, points, arcs, line, position);
-    }
     out.clear();
-    let silent = number_byte(out, points, arcs, line, position)?;
-    // Where none of the arcs reads epsilon, they are looked at once.
+    let silent = number_byte(out, points, arcs, ascends, line, position)?;
+    // Where it is seen that none of the arcs reads epsilon, they are looked at once.
     if !silent {
         return Ok(());
     }
-    number_label(out, points, arcs, 0, position)?;
+    number_those(out, points, arcs, ascends, 0, position)?;
     Ok(())
 }

@@ -92,11 +92,3 @@ run_arcs {V} {N} value label i run arcs is =
     let reads : Arc V N → Bool = λ a. nat_eq a.ilabel label in
     ap (map (arc_to i)) (filter_map-of (key_arc value) (λ (a : Arc Cost N). nat_eq a.ilabel label) run
     ∙ (ap (map (key_arc value)) (ap (filter reads) is ∙ (filter_again reads arcs)) ∙ sym (filter_map-of (key_arc value) (λ (a : Arc Cost N). nat_eq a.ilabel label) arcs)))
-
--- so the names that they find are those of all
-pub run_found : {N : Type 0} (limit : ℕ) (old new : List (Point N)) (xs ys : List (Arc Cost (Point N))) → xs ≡ ys → (found : Option Bool) (fits : Bool) → fits ≡ is_some found
-    → MatchOption found (Passes limit old (nexts xs)) (λ silent. Grows old (nexts xs) new × (length new ≤ limit)) → MatchBool fits (Grows old (nexts ys) new × (length new ≤ limit)) (Passes limit old (nexts ys))
-run_found {N} limit old new xs ys same (Some silent) fits is h =
-    subst (λ (b : Bool). MatchBool b (Grows old (nexts ys) new × (length new ≤ limit)) (Passes limit old (nexts ys))) (sym is) (subst (λ (zs : List (Arc Cost (Point N))). Grows old (nexts zs) new × (length new ≤ limit)) same h)
-run_found {N} limit old new xs ys same None fits is p =
-    subst (λ (b : Bool). MatchBool b (Grows old (nexts ys) new × (length new ≤ limit)) (Passes limit old (nexts ys))) (sym is) (subst (λ (zs : List (Arc Cost (Point N))). Passes limit old (nexts zs)) same p)

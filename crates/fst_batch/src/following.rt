@@ -61,16 +61,44 @@ fn find_label<W: Weight>(
     Ok(Some(silent))
 }
 
+/// The same. Where the arcs are known to ascend by their input labels, those that read the label are found by a search, the
+/// others are not looked at, and some may read epsilon.
+fn find_those<W: Weight>(
+    points: &mut Points,
+    arcs: &[KeyArc<W>],
+    ascends: bool,
+    label: u32,
+    position: u64,
+    limit: u32,
+) -> Result<Option<bool>, AllocError>
+    requires few { length points.old ≤ limit }
+    requires ascends { ascends ≡ true → Ascends arcs.now }
+    ensures finds { IfOk result (λ found. MatchOption found (Passes limit points.old (nexts (label_arcs label position (map (key_arc W.wide_value) arcs.now)))) (λ silent. Grows points.old (nexts (label_arcs label position (map (key_arc W.wide_value) arcs.now))) points.new × (length points.new ≤ limit))) }
+    ensures silent { IfOk result (λ found. found ≡ Some false → reading 0 (map (key_arc W.wide_value) arcs.now) ≡ []) }
+    ensures front { OnOk result ((more : List (Point (Name ℕ ℕ))) × (points.new ≡ points.old ++ more)) }
+{
+    if !ascends {
+        return find_label(points, arcs, label, position, limit);
+    }
+    let run = run_of(arcs, label);
+    match find_label(points, run, label, position, limit)? {
+        None => Ok(None),
+        Some(_silent) => Ok(Some(true)),
+    }
+}
+
 /// Finds the names to which those of the arcs lead that read the byte behind a position, if there is one, and tells
 /// whether any of the arcs may read epsilon; `None` where there are then more names than the limit.
 fn find_byte<W: Weight>(
     points: &mut Points,
     arcs: &[KeyArc<W>],
+    ascends: bool,
     line: &[u8],
     position: u64,
     limit: u32,
 ) -> Result<Option<bool>, AllocError>
     requires few { length points.old ≤ limit }
+    requires ascends { ascends ≡ true → Ascends arcs.now }
     ensures finds { IfOk result (λ found. MatchOption found (Passes limit points.old (nexts (byte_arcs (slice_get line.now position) position (map (key_arc W.wide_value) arcs.now)))) (λ silent. Grows points.old (nexts (byte_arcs (slice_get line.now position) position (map (key_arc W.wide_value) arcs.now))) points.new × (length points.new ≤ limit))) }
     ensures silent { IfOk result (λ found. found ≡ Some false → reading 0 (map (key_arc W.wide_value) arcs.now) ≡ []) }
     ensures front { OnOk result ((more : List (Point (Name ℕ ℕ))) × (points.new ≡ points.old ++ more)) }
@@ -79,67 +107,7 @@ fn find_byte<W: Weight>(
         return Ok(Some(true));
     }
     let byte = line[position as usize];
-    find_label(points, arcs, u32::from(byte), position + 1, limit)
-}
-
-/// The same where the arcs ascend by their input labels: those that read the label are found by a search. Whether the names
-/// are then no more than the limit.
-fn find_run<W: Weight>(
-    points: &mut Points,
-    arcs: &[KeyArc<W>],
-    label: u32,
-    position: u64,
-    limit: u32,
-) -> Result<bool, AllocError>
-    requires few { length points.old ≤ limit }
-    requires ascends { Ascends arcs.now }
-    ensures finds { IfOk result (λ fits. MatchBool fits (Grows points.old (nexts (label_arcs label position (map (key_arc W.wide_value) arcs.now))) points.new × (length points.new ≤ limit)) (Passes limit points.old (nexts (label_arcs label position (map (key_arc W.wide_value) arcs.now))))) }
-    ensures front { OnOk result ((more : List (Point (Name ℕ ℕ))) × (points.new ≡ points.old ++ more)) }
-{
-    let run = run_of(arcs, label);
-    let found = find_label(points, run, label, position, limit)?;
-    Ok(found.is_some())
-}
-
-/// Finds the names to which those of the arcs lead that read the byte behind a position, if there is one, where the arcs
-/// ascend by their input labels. False where there are then more names than the limit.
-fn find_byte_run<W: Weight>(
-    points: &mut Points,
-    arcs: &[KeyArc<W>],
-    line: &[u8],
-    position: u64,
-    limit: u32,
-) -> Result<bool, AllocError>
-    requires few { length points.old ≤ limit }
-    requires ascends { Ascends arcs.now }
-    ensures finds { IfOk result (λ fits. MatchBool fits (Grows points.old (nexts (byte_arcs (slice_get line.now position) position (map (key_arc W.wide_value) arcs.now))) points.new × (length points.new ≤ limit)) (Passes limit points.old (nexts (byte_arcs (slice_get line.now position) position (map (key_arc W.wide_value) arcs.now))))) }
-    ensures front { OnOk result ((more : List (Point (Name ℕ ℕ))) × (points.new ≡ points.old ++ more)) }
-{
-    if position >= line.len() as u64 {
-        return Ok(true);
-    }
-    let byte = line[position as usize];
-    find_run(points, arcs, u32::from(byte), position + 1, limit)
-}
-
-/// The same as `follow`, where the arcs ascend by their input labels.
-fn follow_runs<W: Weight>(
-    points: &mut Points,
-    arcs: &[KeyArc<W>],
-    line: &[u8],
-    position: u64,
-    limit: u32,
-) -> Result<bool, AllocError>
-    requires few { length points.old ≤ limit }
-    requires ascends { Ascends arcs.now }
-    ensures finds { IfOk result (λ fits. MatchBool fits (Grows points.old (nexts (point_arcs line.now position (map (key_arc W.wide_value) arcs.now))) points.new × (length points.new ≤ limit)) (Passes limit points.old (nexts (point_arcs line.now position (map (key_arc W.wide_value) arcs.now))))) }
-    ensures front { OnOk result ((more : List (Point (Name ℕ ℕ))) × (points.new ≡ points.old ++ more)) }
-{
-    let fits = find_byte_run(points, arcs, line, position, limit)?;
-    if !fits {
-        return Ok(false);
-    }
-    find_run(points, arcs, 0, position, limit)
+    find_those(points, arcs, ascends, u32::from(byte), position + 1, limit)
 }
 
 /// Finds the names to which the arcs of a name of a lattice lead, whose name in the composition has these arcs. Where they
@@ -158,16 +126,13 @@ pub(crate) fn follow<W: Weight>(
     ensures finds { IfOk result (λ fits. MatchBool fits (Grows points.old (nexts (point_arcs line.now position (map (key_arc W.wide_value) arcs.now))) points.new × (length points.new ≤ limit)) (Passes limit points.old (nexts (point_arcs line.now position (map (key_arc W.wide_value) arcs.now))))) }
     ensures front { OnOk result ((more : List (Point (Name ℕ ℕ))) × (points.new ≡ points.old ++ more)) }
 {
-    if ascends {
-        return follow_runs(points, arcs, line, position, limit);
-    }
-    let Some(silent) = find_byte(points, arcs, line, position, limit)? else {
+    let Some(silent) = find_byte(points, arcs, ascends, line, position, limit)? else {
         return Ok(false);
     };
-    // Where none of the arcs reads epsilon, they are looked at once.
+    // Where it is seen that none of the arcs reads epsilon, they are looked at once.
     if !silent {
         return Ok(true);
     }
-    let all = find_label(points, arcs, 0, position, limit)?;
+    let all = find_those(points, arcs, ascends, 0, position, limit)?;
     Ok(all.is_some())
 }

@@ -13,8 +13,8 @@ use Rattle.fst_answer.proofs.numbering.number_point.Goals as goal
 pub number_byte-requires-clause-found : goal.number_byte-requires-clause-found
 number_byte-requires-clause-found g c = found_byte c.args.points.now c.args.line.now c.args.position (map (key_arc g.W.Weight.wide_value) c.args.arcs.now) c.requires.found
 
-pub number_label-requires-clause-found : goal.number_label-requires-clause-found
-number_label-requires-clause-found g c = found_silent c.args.points.now c.args.line.now c.args.position (map (key_arc g.W.Weight.wide_value) c.args.arcs.now) c.requires.found
+pub number_those-requires-clause-found : goal.number_those-requires-clause-found
+number_those-requires-clause-found g c = found_silent c.args.points.now c.args.line.now c.args.position (map (key_arc g.W.Weight.wide_value) c.args.arcs.now) c.requires.found
 
 pub returns-then-not-silent : goal.returns-then-not-silent
 returns-then-not-silent g c =
@@ -34,6 +34,6 @@ returns g c =
     let bytes = byte_arcs (slice_get c.args.line.now c.args.position) c.args.position arcs in
     let silent = label_arcs 0 c.args.position arcs in
     let mid = map (valued_arc value) c.number_byte.new.out.items in
-    let new = map (valued_arc value) c.number_label.new.out.items in
+    let new = map (valued_arc value) c.number_those.new.out.items in
     let first = subst (λ (xs : List _). Continues c.args.points.now bytes (map (valued_arc value) xs) mid) c.clear.ensures.items c.in_ok-silent.ensures.arcs in
-    continues_all c.args.points.now (bytes ++ silent) new (continues_then c.args.points.now bytes silent [] mid new first c.in_ok-number_label.ensures.arcs)
+    continues_all c.args.points.now (bytes ++ silent) new (continues_then c.args.points.now bytes silent [] mid new first c.in_ok-number_those.ensures.arcs)

@@ -30,7 +30,7 @@ returns-clause-finds g c =
     let arcs = map (key_arc g.W.Weight.wide_value) c.args.arcs.now in
     let bytes = byte_arcs (slice_get c.args.line.now c.args.position) c.args.position arcs in
     let one = rw c.in-Some.is at c.in_ok-silent.ensures.finds in
-    both_found c.args.limit c.args.points.now c.find_byte.new.points c.find_label.new.points bytes (label_arcs 0 c.args.position arcs) one.0 c.in_ok-all.all c.is_some.result c.is_some.ensures c.in_ok-all.ensures.finds
+    both_found c.args.limit c.args.points.now c.find_byte.new.points c.find_those.new.points bytes (label_arcs 0 c.args.position arcs) one.0 c.in_ok-all.all c.is_some.result c.is_some.ensures c.in_ok-all.ensures.finds
 
 pub returns-clause-front : goal.returns-clause-front
 returns-clause-front g c =
