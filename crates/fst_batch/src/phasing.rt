@@ -116,7 +116,7 @@ pub struct PhaseReport {
     pub pass: Pass,
 }
 
-/// A phase of a batch over a claim table of 65,521 places: 1 to 64 workers serve their jobs beside each other. A job whose
+/// A phase of a batch over a claim table of 65,353 places: 1 to 64 workers serve their jobs beside each other. A job whose
 /// next name's arcs are not there makes its worker claim that name; the worker that wins it expands it into a cache of its
 /// own and goes on, and where it is taken or the table is full, the job waits and the worker takes up the next. Then what
 /// the workers have expanded stands behind the entries of the shared cache, worker by worker. After `Memory` the batch is
@@ -136,10 +136,10 @@ where
     requires few { length workers.old ≤ 64 }
     requires entries { IsTrueOf W.wide_value (delayed_graph W.KIND W.value delayed.now) cache.old }
     requires idle { (k : ℕ) (w : Laborer W.Wide M) → slice_get workers.old k ≡ Some w → IsIdle W.KIND W.value W.wide_value M.count M.parts_out M.is_part delayed.now lines.now cache.old w }
-    ensures places { IfOk result (λ r. r.claims.places ≡ 65521) }
+    ensures places { IfOk result (λ r. r.claims.places ≡ 65353) }
     ensures phase { IfOk result (λ r. IsPhase W.KIND W.value W.wide_value M.count M.parts_out M.is_part delayed.now lines.now r.claims r.pass cache.old cache.new workers.old workers.new) }
 {
-    let (claims, mut pass) = Claims::new(alloc, 65_521)?;
+    let (claims, mut pass) = Claims::new(alloc, 65_353)?;
     hand_out(&claims, &mut pass, workers);
     run_all(rt, alloc, delayed, gate, &claims, lines, cache, workers);
     gather(&claims, &mut pass, workers, cache)?;
