@@ -1,7 +1,8 @@
 //! What a state gets from those that epsilon arcs reach from it.
 
 ghost use Rattle.std.specs.Prelude.{◌≡◌, ◌<◌, [], All, IfOk, OnOk, length, map};
-ghost use Rattle.fst_semiring.specs.Semiring.{IsWide};
+ghost use Rattle.fst_semiring.specs.Cost.{plus};
+ghost use Rattle.fst_semiring.specs.Semiring.{times, IsWide};
 ghost use Rattle.fst_machine.specs.Graph.{graph_of};
 ghost use Rattle.fst_machine.specs.Machine.{valued, valued_arc};
 ghost use Rattle.fst_distance.specs.Closure.{Reached as ReachedValue};
@@ -12,7 +13,7 @@ ghost use Rattle.fst_epsilon.specs.Merging.{ArePairedUnless};
 use crate::merged::Merged;
 use fst_distance::Reached;
 use fst_machine::{Fst, FstArc, WideArc};
-use fst_semiring::Weight;
+use fst_semiring::{Weight, is_zero};
 use std::alloc::AllocError;
 
 /// Puts those of these arcs that are not epsilon, each with a distance before its weight.
@@ -61,6 +62,17 @@ fn count_all<W: Weight>(fst: &Fst<W>, closure: &[Reached<W::Wide>]) -> usize
     count
 }
 
+/// The better of a weight and a final weight with a distance before it. Most states are not final, and change nothing.
+fn better_end<W: Weight>(last: W::Wide, distance: W::Wide, ends: W) -> W::Wide
+    requires { IsWide (W.wide_value distance) }
+    ensures { W.wide_value result ≡ plus (W.wide_value last) (times W.KIND (W.wide_value distance) (W.value ends)) }
+{
+    if is_zero(ends) {
+        return last;
+    }
+    W::wide_plus(last, W::wide_times(distance, ends.widen()))
+}
+
 /// The arcs of a state by its closure, in order and merged, and its final weight.
 pub(crate) fn gather<W: Weight>(
     out: &mut Merged<W>,
@@ -76,8 +88,7 @@ pub(crate) fn gather<W: Weight>(
     let mut last = W::zero().widen();
     for item in closure {
         put_arcs(out, fst.arcs(item.state), item.distance)?;
-        let ends = W::wide_times(item.distance, fst.final_weight(item.state).widen());
-        last = W::wide_plus(last, ends);
+        last = better_end(last, item.distance, fst.final_weight(item.state));
     }
     Ok(last)
 }

@@ -27,14 +27,14 @@ loop-item-preserved g c =
     let front = take i (pairs_of wide closure) in
     let on : take (i + 1) (pairs_of wide closure) ≡ front ++ (b.state, d) ∷ [] = taken (λ (r : Reached g.row.W-Wide.Denot). (r.state, wide r.distance)) closure i b there in
     let own : graph.arcs b.state ≡ map (valued_arc value) c.arcs.result.now = arcs_read value states b.state c.arcs.result.now c.arcs.ensures in
-    let last : wide c.wide_times-ends.result ≡ times kind d (graph.final b.state) = c.wide_times-ends.ensures.product ∙ ap (times kind d) (c.widen.ensures.same ∙ sym (final_read value states b.state c.final_weight.result c.final_weight.ensures)) in
+    let ends : g.W.Weight.value c.final_weight.result ≡ graph.final b.state = sym (final_read value states b.state c.final_weight.result c.final_weight.ensures) in
     record {
       paired = c.in_ok-put_arcs.ensures.paired;
       arcs = c.in_ok-put_arcs.ensures.arcs
           ∙ (ap₂ (λ (done own : List (Arc Cost ℕ)). merged done (spoken kind d own)) c.loop-item.invariant.arcs (sym own)
           ∙ (sym (merged-append [] (collected kind graph front) (spoken kind d (graph.arcs b.state)))
           ∙ ap (merged []) (sym (ap (collected kind graph) on ∙ collected-push kind graph front b.state d))));
-      ends = c.wide_plus-last.ensures.sum
-          ∙ (ap₂ plus c.loop-item.invariant.ends last
+      ends = c.better_end-last.ensures
+          ∙ (ap₂ plus c.loop-item.invariant.ends (ap (times kind d) ends)
           ∙ sym (ap (best_final kind graph) on ∙ best-push kind graph front b.state d));
     }
