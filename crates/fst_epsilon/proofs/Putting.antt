@@ -1,8 +1,8 @@
 -- Arcs are put beside what makes them alike.
-use Rattle.std.proofs.Common.{◌≡◌, ℕ, ◌+◌, ◌≤◌, ◌&&◌, ◌||◌, Bool, true, false, true≢false, cond, if◌then◌else◌, zero, suc, List, [], ◌∷◌, ◌++◌, Option, None, Some, eqb, eqb-true, eq-eqb, length, map, set, get_or, slice_get, take, refl, sym, ap, ◌∙◌, subst, arith}
+use Rattle.std.proofs.Common.{◌≡◌, ℕ, ◌+◌, ◌≤◌, ◌&&◌, ◌||◌, Bool, true, false, true≢false, cond, if◌then◌else◌, zero, suc, List, [], ◌∷◌, ◌++◌, Option, None, Some, ◌⊎◌, inl, inr, eqb, eqb-true, eq-eqb, length, map, set, get_or, slice_get, take, refl, sym, ap, ◌∙◌, subst, arith}
 use Rattle.std.specs.Prelude.{not}
 use Rattle.std.specs.List.{list_any, position_or_len}
-use Rattle.std.proofs.lemmas.Bool.{and_from, and_parts}
+use Rattle.std.proofs.lemmas.Bool.{and_from, and_parts, cases_Bool}
 use Rattle.indexmap.specs.IndexSet.{insert_key}
 use Rattle.std.proofs.lemmas.List.{length-map, map-append, take_all}
 use Rattle.std.proofs.lemmas.List.Folds.{list_any-append}
@@ -12,7 +12,7 @@ use Rattle.fst_machine.specs.Machine.{Arc, valued_arc}
 use Rattle.fst_machine.proofs.Arcs.{at_mapped}
 use Rattle.fst_machine.proofs.Narrowing.{taken}
 use Rattle.fst_epsilon.specs.Construction.{is_alike, put_arc}
-use Rattle.fst_epsilon.specs.Merging.{ArePaired, Betters, HasNoKey, IsFirstWithKey, key_of, same_key}
+use Rattle.fst_epsilon.specs.Merging.{AreMarked, ArePaired, Betters, HasNoKey, IsFirstWithKey, key_of, same_key, spot_of}
 use Rattle.fst_epsilon.specs.declared.merged.ArcKey.{ArcKey}
 
 -- two tests that say yes to the same say the same
@@ -51,6 +51,21 @@ module _ {V : Type 0} (value : V → Cost) (b : Arc V ℕ) where
       by true same e rest = absurd (true≢false e)
       by false same e rest = ap (λ (t : Bool). cond t (record (valued_arc value a) { weight = plus (value a.weight) (value b.weight) } ∷ map (valued_arc value) arcs) (valued_arc value a ∷ Put arcs)) (sym same)
           ∙ ap (λ (zs : List (Arc Cost ℕ)). valued_arc value a ∷ zs) (rest e)
+
+  -- where the spot of its key is not marked, it is like none of those whose spots are
+  pub none_marked : (spots : List Bool) (arcs : List (Arc V ℕ)) → AreMarked spots arcs → get_or spots (spot_of (key_of b)) false ≡ false → met arcs ≡ false
+  none_marked spots [] marked unmarked = refl
+  none_marked spots (a ∷ arcs) marked unmarked = by (cases_Bool (same_key (key_of b) (key_of a))) (none_marked spots arcs (λ k d low. marked (suc k) d (omega arith)) unmarked)
+    where
+      by : (same_key (key_of b) (key_of a) ≡ true) ⊎ (same_key (key_of b) (key_of a) ≡ false) → met arcs ≡ false → met (a ∷ arcs) ≡ false
+      by (inl e) rest =
+          let p = three _ _ _ e in
+          let one : b.ilabel ≡ a.ilabel = eqb-true b.ilabel a.ilabel p.0 in
+          let two : b.olabel ≡ a.olabel = eqb-true b.olabel a.olabel p.1 in
+          let last : b.next ≡ a.next = eqb-true b.next a.next p.2 in
+          let same : key_of b ≡ key_of a = rw (one, two, last) refl in
+          absurd (true≢false (sym (marked 0 a (omega arith)) ∙ (ap (λ (k : ArcKey). get_or spots (spot_of k) false) (sym same) ∙ unmarked)))
+      by (inr e) rest = ap (λ (t : Bool). t || met arcs) e ∙ rest
 
   abbrev found : List (Arc V ℕ) → ℕ
   found arcs = position_or_len (same_key (key_of b)) (map key_of arcs)

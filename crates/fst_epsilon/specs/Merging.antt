@@ -1,5 +1,5 @@
 -- Arcs beside what makes them alike.
-use Rattle.std.specs.Prelude.{◌≡◌, ◌<◌, ◌&&◌, ℕ, Bool, false, true, List, get_or, length, map, nat_eq, set}
+use Rattle.std.specs.Prelude.{◌≡◌, ◌<◌, ◌+◌, ◌*◌, ◌%◌, ◌&&◌, ℕ, Bool, false, true, All, List, get_or, length, map, nat_eq, set}
 use Rattle.std.specs.List.{list_any, position_or_len}
 use Rattle.fst_semiring.specs.Cost.{Cost, plus}
 use Rattle.fst_machine.specs.Machine.{Arc}
@@ -13,9 +13,18 @@ key_of a = record { ilabel = a.ilabel; olabel = a.olabel; next = a.next }
 abbrev pub ArePaired : {V : Type 0} → List ArcKey → List (Arc V ℕ) → Type 0
 ArePaired keys arcs = keys ≡ map key_of arcs
 
--- where they are not few
-abbrev pub ArePairedUnless : {V : Type 0} → Bool → List ArcKey → List (Arc V ℕ) → Type 0
-ArePairedUnless few keys arcs = few ≡ false → ArePaired keys arcs
+-- one of 64 spots for a key
+abbrev pub spot_of : ArcKey → ℕ
+spot_of key = (key.ilabel + 5 * key.olabel + 9 * key.next) % 64
+
+-- the spot of each arc is marked
+abbrev pub AreMarked : {V : Type 0} → List Bool → List (Arc V ℕ) → Type 0
+AreMarked spots arcs = All (λ a. get_or spots (spot_of (key_of a)) false ≡ true) arcs
+
+-- Few arcs have their spots marked, and others their keys beside them.
+pub record AreHeld {V : Type 0} (few : Bool) (spots : List Bool) (keys : List ArcKey) (arcs : List (Arc V ℕ)) : Type 0 where
+  pub marked : few ≡ true → AreMarked spots arcs
+  pub paired : few ≡ false → ArePaired keys arcs
 
 -- what `==` answers of keys
 abbrev pub same_key : ArcKey → ArcKey → Bool

@@ -3,7 +3,7 @@
 ghost use Rattle.std.specs.Prelude.{◌≡◌, ◌<◌, [], MatchOption, OnOk, length, map};
 ghost use Rattle.fst_machine.specs.Machine.{valued_arc};
 ghost use Rattle.fst_epsilon.specs.Construction.{put_arc};
-ghost use Rattle.fst_epsilon.specs.Merging.{ArePaired, ArePairedUnless, Betters, HasNoKey, IsFirstWithKey, key_of, same_key};
+ghost use Rattle.fst_epsilon.specs.Merging.{AreHeld, AreMarked, ArePaired, Betters, HasNoKey, IsFirstWithKey, key_of, same_key, spot_of};
 
 use fst_machine::{FstArc, WideArc};
 use fst_semiring::Weight;
@@ -46,6 +46,15 @@ fn arc_key<V: Copy>(arc: &FstArc<V>) -> ArcKey
     }
 }
 
+/// The spot of a key.
+fn spot_of(key: ArcKey) -> usize
+    ensures spot { result ≡ spot_of key }
+    ensures low { result < 64 }
+{
+    let sum = u64::from(key.ilabel) + 5 * u64::from(key.olabel) + 9 * u64::from(key.next);
+    (sum % 64) as usize
+}
+
 /// Whether two keys are one.
 fn is_same(a: ArcKey, b: ArcKey) -> bool
     ensures { result ≡ same_key a b }
@@ -65,12 +74,25 @@ fn place_of<V: Copy>(arcs: &[FstArc<V>], key: ArcKey) -> Option<usize>
     None
 }
 
-/// Puts an arc after the others, or its weight into the one that is like it, where it is better. The others are looked
-/// through one by one.
-fn put_by_place<W: Weight>(arcs: &mut Vec<WideArc<W>>, arc: WideArc<W>) -> Result<(), AllocError>
-    ensures { OnOk result (map (valued_arc W.wide_value) arcs.new.items ≡ put_arc (map (valued_arc W.wide_value) arcs.old.items) (valued_arc W.wide_value arc)) }
+/// Puts an arc after the others, or its weight into the one that is like it, where it is better. Where the spot of its key
+/// is marked, the others are looked through one by one; where it is not, none is like it.
+fn put_by_place<W: Weight>(
+    spots: &mut [bool; 64],
+    arcs: &mut Vec<WideArc<W>>,
+    arc: WideArc<W>,
+) -> Result<(), AllocError>
+    requires marked { AreMarked spots.old arcs.old.items }
+    ensures marked { OnOk result (AreMarked spots.new arcs.new.items) }
+    ensures arcs { OnOk result (map (valued_arc W.wide_value) arcs.new.items ≡ put_arc (map (valued_arc W.wide_value) arcs.old.items) (valued_arc W.wide_value arc)) }
 {
-    match place_of(arcs.as_slice(), arc_key(&arc)) {
+    let key = arc_key(&arc);
+    let spot = spot_of(key);
+    if !spots[spot] {
+        spots[spot] = true;
+        arcs.push(arc)?;
+        return Ok(());
+    }
+    match place_of(arcs.as_slice(), key) {
         Some(place) => better::<W>(arcs, place, arc.weight),
         None => arcs.push(arc)?,
     }
@@ -102,6 +124,8 @@ fn put_by_key<W: Weight>(
 pub(crate) struct Merged<W: Weight> {
     /// Whether they are few, and looked through one by one.
     pub(crate) few: bool,
+    /// Which of 64 spots an arc has, where they are few.
+    pub(crate) spots: [bool; 64],
     /// What makes them alike, arc for arc, where they are not few.
     pub(crate) keys: IndexSet<ArcKey>,
     /// The arcs.
@@ -113,6 +137,7 @@ impl<W: Weight> Merged<W> {
     pub(crate) fn new(alloc: Global) -> Merged<W> {
         Merged {
             few: true,
+            spots: [false; 64],
             keys: IndexSet::new(alloc),
             arcs: Vec::new(alloc),
         }
@@ -123,11 +148,12 @@ impl<W: Weight> Merged<W> {
     /// A table is made anew and not cleared, since clearing takes the time of its greatest length.
     pub(crate) fn clear(&mut self, count: usize)
         ensures arcs { self.new.arcs.items ≡ [] }
-        ensures paired { ArePairedUnless self.new.few self.new.keys.keys self.new.arcs.items }
+        ensures held { AreHeld self.new.few self.new.spots self.new.keys.keys self.new.arcs.items }
     {
         let alloc = *self.arcs.allocator();
         self.arcs.clear();
         self.few = count <= FEW;
+        self.spots = [false; 64];
         if !self.few {
             self.keys = IndexSet::new(alloc);
         }
@@ -135,12 +161,12 @@ impl<W: Weight> Merged<W> {
 
     /// Puts an arc after the others, or its weight into the one that is like it, where it is better.
     pub(crate) fn put(&mut self, arc: WideArc<W>) -> Result<(), AllocError>
-        requires paired { ArePairedUnless self.old.few self.old.keys.keys self.old.arcs.items }
-        ensures paired { OnOk result (ArePairedUnless self.new.few self.new.keys.keys self.new.arcs.items) }
+        requires held { AreHeld self.old.few self.old.spots self.old.keys.keys self.old.arcs.items }
+        ensures held { OnOk result (AreHeld self.new.few self.new.spots self.new.keys.keys self.new.arcs.items) }
         ensures arcs { OnOk result (map (valued_arc W.wide_value) self.new.arcs.items ≡ put_arc (map (valued_arc W.wide_value) self.old.arcs.items) (valued_arc W.wide_value arc)) }
     {
         if self.few {
-            put_by_place::<W>(&mut self.arcs, arc)
+            put_by_place::<W>(&mut self.spots, &mut self.arcs, arc)
         } else {
             put_by_key::<W>(&mut self.keys, &mut self.arcs, arc)
         }
