@@ -11,6 +11,7 @@ ghost use Rattle.fst_batch.specs.Phases.{AreEach};
 
 use crate::job::Job;
 use crate::lines::Lines;
+use crate::threads::threads_for;
 use crate::worker::Worker;
 use fst_delayed::{Cache, Delayed, Meter};
 use fst_semiring::Weight;
@@ -134,7 +135,7 @@ where
     requires walked { All (λ share. AreWalked W.KIND W.value W.wide_value reader.now.delayed.now reader.now.lines.now (A.limit reader.now.answering.now) reader.now.cache.now share.jobs.now) shares.old }
     ensures { AreEach (λ share now. IfSome now.answers (λ answers. AllZip (IsAnswerAt (A.answers reader.now.answering.now reader.now.delayed.now) reader.now.lines.now) (job_lines share.jobs.now) answers.items)) shares.old shares.new }
 {
-    let threads = shares.len();
+    let threads = threads_for(rt, shares.len());
     for_each_mut(
         rt,
         shares,

@@ -23,6 +23,7 @@ mod points;
 mod serving;
 mod stage;
 mod state;
+mod threads;
 mod worker;
 
 pub use answering::Answering;

@@ -14,6 +14,7 @@ ghost use Rattle.fst_batch.specs.Phases.{AllRun, AreEach, AreGathered, HasRun, I
 
 use crate::gate::Gate;
 use crate::lines::Lines;
+use crate::threads::threads_for;
 use crate::worker::Worker;
 use fst_claims::{Claims, Pass};
 use fst_delayed::{Cache, Delayed, Meter};
@@ -21,7 +22,7 @@ use fst_semiring::Weight;
 use std::alloc::{AllocError, Global};
 use std::thread::{Threads, for_each_mut};
 
-/// Runs the workers, each with its pass, beside each other.
+/// Runs the workers, each with its pass, beside each other, in at most as many threads as there are processors, or two.
 fn run_all<R: Threads + Sync, W: Weight + Send + Sync, G: Gate, M: Meter>(
     rt: &R,
     alloc: Global,
@@ -40,7 +41,7 @@ where
     requires ready { (k : ℕ) (w : Laborer W.Wide M) → slice_get workers.old k ≡ Some w → IsReady W.KIND W.value W.wide_value M.count M.parts_out M.is_part delayed.now lines.now cache.now claims.now w }
     ensures run { AllRun W.KIND W.value W.wide_value M.count M.parts_out M.is_part delayed.now lines.now cache.now claims.now workers.old workers.new }
 {
-    let threads = workers.len();
+    let threads = threads_for(rt, workers.len());
     for_each_mut(
         rt,
         workers,
