@@ -199,18 +199,20 @@ fn retain_marked<W: Weight>(alloc: Global, a: Fst<W>, marks: &[bool]) -> Result<
     Ok(states.into_machine(start))
 }
 
-/// The machine of the marked states, as `retain_marked` makes it; the given machine itself where all are marked.
+/// The connected machine of one that is given away, whose useful states just are marked: that machine itself where all are.
 fn retain_useful<W: Weight>(alloc: Global, a: Fst<W>, marks: &[bool]) -> Result<Fst<W>, AllocError>
     requires size { length marks.now ≡ length a.states }
     requires useful { (p : ℕ) → Decides (get_or marks.now p false) (IsUseful (graph_of (valued W.value a)) p) }
-    ensures { IfOk result (λ c. IsConnectedOn (valued W.value a) (valued W.value c) (marked 0 marks.now)) }
+    ensures machine { IfOk result (λ c. IsConnected (valued W.value a) (valued W.value c)) }
+    ensures paths { IfOk result (λ c. (h : IsConnected (valued W.value a) (valued W.value c)) → KeepsPaths W.KIND (valued W.value a) (valued W.value c) h.kept) }
+    ensures relation { IfOk result (λ c. (x y : List ℕ) (w : Cost) → Rel W.KIND (graph_of (valued W.value a)) x y w ↔ Rel W.KIND (graph_of (valued W.value c)) x y w) }
 {
     let _states = a.states();
     if all_marked(marks) {
         return Ok(a);
     }
-    let own = retain_marked(alloc, a, marks)?;
-    Ok(own)
+    let connected = retain_marked(alloc, a, marks)?;
+    Ok(connected)
 }
 
 /// The machine of the marked states, as `connect_marked` makes it; the given machine itself where all are marked. One that
@@ -288,10 +290,8 @@ pub fn into_connected<W: Weight>(alloc: Global, a: Fst<W>) -> Result<Fst<W>, All
     ensures paths { IfOk result (λ c. (h : IsConnected (valued W.value a) (valued W.value c)) → KeepsPaths W.KIND (valued W.value a) (valued W.value c) h.kept) }
     ensures relation { IfOk result (λ c. (x y : List ℕ) (w : Cost) → Rel W.KIND (graph_of (valued W.value a)) x y w ↔ Rel W.KIND (graph_of (valued W.value c)) x y w) }
 {
-    let _states = a.states();
     let marks = useful(alloc, &a)?;
-    let connected = retain_useful(alloc, a, marks.as_slice())?;
-    Ok(connected)
+    retain_useful(alloc, a, marks.as_slice())
 }
 
 /// The connected machine, as `connect` gives it, of a machine that is given away and all of whose states the start reaches, as
@@ -304,9 +304,7 @@ pub fn connect_walked<W: Weight>(alloc: Global, a: Fst<W>) -> Result<Fst<W>, All
     ensures paths { IfOk result (λ c. (h : IsConnected (valued W.value a) (valued W.value c)) → KeepsPaths W.KIND (valued W.value a) (valued W.value c) h.kept) }
     ensures relation { IfOk result (λ c. (x y : List ℕ) (w : Cost) → Rel W.KIND (graph_of (valued W.value a)) x y w ↔ Rel W.KIND (graph_of (valued W.value c)) x y w) }
 {
-    let _states = a.states();
     // A state that the start reaches is useful where a path leads from it to a final one.
     let marks = coaccessible(alloc, &a)?;
-    let connected = retain_useful(alloc, a, marks.as_slice())?;
-    Ok(connected)
+    retain_useful(alloc, a, marks.as_slice())
 }
