@@ -1,6 +1,6 @@
 //! Writing the binary form.
 
-ghost use Rattle.std.specs.Prelude.{◌≡◌, ◌≤◌, ◌++◌, ◌∷◌, ◌+◌, ◌*◌, ◌<◌, length, map, take, vec_capacity, All, Contains, IfOk, Ok};
+ghost use Rattle.std.specs.Prelude.{◌≡◌, ◌≤◌, ◌++◌, ◌∷◌, ◌+◌, ◌*◌, ◌<◌, drop, length, map, take, vec_capacity, All, Contains, IfOk, Ok, OnOk};
 ghost use Rattle.std.specs.List.{flat_map};
 ghost use Rattle.fst_machine.specs.Machine.{valued, valued_arc, valued_state};
 ghost use Rattle.fst_semiring.specs.Names.{known, name_of};
@@ -12,7 +12,7 @@ use fst_bytes::{
     append, append_arc_type, append_long, append_signed, append_text, append_weight, append_word,
     weight_length,
 };
-use fst_machine::{Fst, FstArc};
+use fst_machine::{Fst, FstArc, Leaving};
 use fst_semiring::{ArcType, Weight};
 use std::alloc::{AllocError, Global};
 
@@ -117,6 +117,37 @@ fn append_states<W: Weight>(out: &mut Vec<u8>, fst: &Fst<W>)
     }
 }
 
+/// In how many parts the states of a machine that is given away are written. Of so many parts of an arc's room and of its
+/// bytes there is never more than the room of the machine and one part of its bytes.
+const PARTS: usize = 4;
+
+/// Appends the first states where there is room.
+fn append_first<W: Weight>(out: &mut Vec<u8>, leaving: &Leaving<W>, count: usize)
+    requires few { count ≤ length leaving.now }
+    requires room { length out.old.items + length (flat_map (state_fields W.KIND) (map (valued_state W.value) leaving.now)) ≤ vec_capacity out.old }
+    ensures items { out.new.items ++ flat_map (state_fields W.KIND) (map (valued_state W.value) (drop count leaving.now)) ≡ out.old.items ++ flat_map (state_fields W.KIND) (map (valued_state W.value) leaving.now) }
+    ensures room { vec_capacity out.old ≤ vec_capacity out.new }
+{
+    for place in 0..count {
+        append_state(out, leaving.final_weight(place), leaving.arcs(place));
+    }
+}
+
+/// Appends the states of a machine that is given away where there is room, part by part, and forgets each part.
+fn append_leaving<W: Weight>(out: &mut Vec<u8>, leaving: Leaving<W>) -> Result<(), AllocError>
+    requires { length out.old.items + length (flat_map (state_fields W.KIND) (map (valued_state W.value) leaving)) ≤ vec_capacity out.old }
+    ensures { OnOk result (out.new.items ≡ out.old.items ++ flat_map (state_fields W.KIND) (map (valued_state W.value) leaving)) }
+{
+    let mut left = leaving;
+    let part = left.len() / PARTS + 1;
+    while left.len() > 0 {
+        let count = part.min(left.len());
+        append_first(out, &left, count);
+        left.forget(count)?;
+    }
+    Ok(())
+}
+
 /// How many bytes stand before the states.
 fn header_length(kind: ArcType) -> usize
     ensures { result ≡ 58 + length (name_of kind) }
@@ -160,9 +191,10 @@ fn append_counts<W: Weight>(out: &mut Vec<u8>, fst: &Fst<W>)
     append_long(out, u64::from(fst.arc_count()));
 }
 
-/// The bytes of a machine, which has a spelling.
-fn write_whole<W: Weight>(alloc: Global, fst: &Fst<W>) -> Result<Vec<u8>, AllocError>
-    ensures spelled { IfOk result (λ bytes. bytes.items ≡ spelling W.KIND (valued W.value fst.now)) }
+/// The bytes of a machine up to its states, with room for these.
+fn write_header<W: Weight>(alloc: Global, fst: &Fst<W>) -> Result<Vec<u8>, AllocError>
+    ensures items { IfOk result (λ out. out.items ++ flat_map (state_fields W.KIND) (map (valued_state W.value) fst.now.states) ≡ spelling W.KIND (valued W.value fst.now)) }
+    ensures room { IfOk result (λ out. length out.items + length (flat_map (state_fields W.KIND) (map (valued_state W.value) fst.now.states)) ≤ vec_capacity out) }
     ensures fits { HasSpelling W.KIND (valued W.value fst.now) }
 {
     let states = states_length(fst);
@@ -170,7 +202,29 @@ fn write_whole<W: Weight>(alloc: Global, fst: &Fst<W>) -> Result<Vec<u8>, AllocE
     append_types(&mut out, W::KIND);
     append_long(&mut out, 3);
     append_counts(&mut out, fst);
+    Ok(out)
+}
+
+/// The bytes of a machine, which has a spelling.
+fn write_whole<W: Weight>(alloc: Global, fst: &Fst<W>) -> Result<Vec<u8>, AllocError>
+    ensures spelled { IfOk result (λ bytes. bytes.items ≡ spelling W.KIND (valued W.value fst.now)) }
+    ensures fits { HasSpelling W.KIND (valued W.value fst.now) }
+{
+    let mut out = write_header(alloc, fst)?;
     append_states(&mut out, fst);
+    Ok(out)
+}
+
+/// The bytes of a machine that is given away, whose states are forgotten as they are written.
+fn write_given<W: Weight>(alloc: Global, fst: Fst<W>) -> Result<Vec<u8>, AllocError>
+    ensures spelled { IfOk result (λ bytes. bytes.items ≡ spelling W.KIND (valued W.value fst)) }
+    ensures fits { HasSpelling W.KIND (valued W.value fst) }
+{
+    let mut out = write_header(alloc, &fst)?;
+    match fst.leave() {
+        Ok(leaving) => append_leaving(&mut out, leaving)?,
+        Err(fst) => append_states(&mut out, &fst),
+    }
     Ok(out)
 }
 
@@ -186,4 +240,15 @@ pub fn encode<W: Weight>(alloc: Global, fst: &Fst<W>) -> Result<Vec<u8>, AllocEr
     ensures fits { HasSpelling W.KIND (valued W.value fst.now) }
 {
     write_whole(alloc, fst)
+}
+
+/// The bytes of a machine that is given away. The room of its arcs is given back as they are written, so that the machine
+/// and its bytes never stand beside each other whole.
+pub fn encode_given<W: Weight>(alloc: Global, fst: Fst<W>) -> Result<Vec<u8>, AllocError>
+    ensures spelled { IfOk result (λ bytes. bytes.items ≡ spelling W.KIND (valued W.value fst)) }
+    ensures again { IfOk result (λ bytes. machine_of_bytes W.KIND bytes.items ≡ Ok (valued W.value fst)) }
+    ensures named { IfOk result (λ bytes. Contains known W.KIND → arc_type_of_bytes bytes.items ≡ Ok W.KIND) }
+    ensures fits { HasSpelling W.KIND (valued W.value fst) }
+{
+    write_given(alloc, fst)
 }

@@ -25,24 +25,27 @@ use fst_semiring::Weight;
 use fst_trim::Links;
 use std::alloc::{AllocError, Global};
 
-/// Searches from a begun table, and gives the values of all states, or the cycle that is better than One.
+/// Searches from a begun table, and gives the values of all states, or the cycle that is better than One. The links are
+/// freed before the values are made.
 pub(crate) fn measure<W: Weight, V: Copy, M: Widens<W, V>, Q: StateQueue>(
     alloc: Global,
     table: &mut Table<W>,
     queue: &mut Q,
-    links: &Links<V>,
+    links: Links<V>,
     marks: &[bool],
     direction: Direction,
 ) -> Result<Result<Vec<W::Wide>, Path>, AllocError>
-    requires size { length links.now ≤ most_states }
-    requires net { IsNet (IsHop M.value marks.now links.now) (length links.now) }
-    requires known { (q : ℕ) (l : LinkValue V) → Has (get_or links.now q []) l → M.known l.weight }
+    requires size { length links ≤ most_states }
+    requires net { IsNet (IsHop M.value marks.now links) (length links) }
+    requires known { (q : ℕ) (l : LinkValue V) → Has (get_or links q []) l → M.known l.weight }
     requires none { table.old.later.items ≡ [] }
-    requires begun { IsBegun W.KIND (length links.now) M.bound (map (valued_node W.wide_value) table.old.nodes.items) (Q.members queue.old) table.old.met.items }
-    ensures found { IfOk result (λ r. Measures (λ v. map W.wide_value v.items) (λ path. path) W.KIND (IsHop M.value marks.now links.now) (distance_at (map (valued_node W.wide_value) table.old.nodes.items)) direction (length links.now) M.bound (Q.members queue.new) r) }
-    ensures below { AreBelow (length links.now) (Q.members queue.new) }
+    requires begun { IsBegun W.KIND (length links) M.bound (map (valued_node W.wide_value) table.old.nodes.items) (Q.members queue.old) table.old.met.items }
+    ensures found { IfOk result (λ r. Measures (λ v. map W.wide_value v.items) (λ path. path) W.KIND (IsHop M.value marks.now links) (distance_at (map (valued_node W.wide_value) table.old.nodes.items)) direction (length links) M.bound (Q.members queue.new) r) }
+    ensures below { AreBelow (length links) (Q.members queue.new) }
 {
-    if let Some(path) = solve::<W, V, M, Q>(alloc, table, queue, links, marks, direction)? {
+    let cycle = solve::<W, V, M, Q>(alloc, table, queue, &links, marks, direction)?;
+    drop(links);
+    if let Some(path) = cycle {
         return Ok(Err(path));
     }
     let values = distances_of::<W>(alloc, &table.nodes)?;
@@ -92,7 +95,7 @@ pub(crate) fn from_start<W: Weight, V: Copy, M: Widens<W, V>, Q: StateQueue>(
         alloc,
         &mut table,
         queue,
-        &links,
+        links,
         marks.as_slice(),
         Direction::FromStart,
     )
@@ -170,5 +173,5 @@ pub(crate) fn to_finals<W: Weight, V: Copy, M: Widens<W, V>, Q: StateQueue>(
     let links = Links::turned(alloc, fst)?;
     let mut table = blank_table::<W>(alloc, states as usize)?;
     begin_finals(fst, marks, &mut table, queue)?;
-    measure::<W, V, M, Q>(alloc, &mut table, queue, &links, marks, Direction::ToFinals)
+    measure::<W, V, M, Q>(alloc, &mut table, queue, links, marks, Direction::ToFinals)
 }

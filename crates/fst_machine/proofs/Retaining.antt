@@ -67,7 +67,7 @@ module _ {V : Type 0} (marks : List Bool) (numbers : List ℕ) (old store before
       ∙ (ap (λ l. take end store ++ l) (sym here) ∙ kept))
 
 -- the arcs of a state where no list stands apart
-arcs_here : {V : Type 0} (store : List (Arc V ℕ)) (i : ℕ) (s : Slot V) → slot_arcs store [] i s ≡ take s.count (drop s.first store)
+pub arcs_here : {V : Type 0} (store : List (Arc V ℕ)) (i : ℕ) (s : Slot V) → slot_arcs store [] i s ≡ take s.count (drop s.first store)
 arcs_here {V} store i s = by_count s.count
   where
     by_first : (first : ℕ) → arcs_apart {V = V} [] first i ≡ []
