@@ -117,9 +117,16 @@ fn append_states<W: Weight>(out: &mut Vec<u8>, fst: &Fst<W>)
     }
 }
 
-/// In how many parts the states of a machine that is given away are written. Of so many parts of an arc's room and of its
-/// bytes there is never more than the room of the machine and one part of its bytes.
-const PARTS: usize = 4;
+/// From so many arcs on, a machine that is given away is written in parts. The room of a smaller one is not worth the time
+/// in which its arcs move.
+const LARGE: u32 = 1 << 20;
+
+/// In how many parts a machine of so many arcs is written.
+fn parts_of(arcs: u32) -> usize
+    ensures { 0 < result }
+{
+    if arcs < LARGE { 1 } else { 4 }
+}
 
 /// Appends the first states where there is room.
 fn append_first<W: Weight>(out: &mut Vec<u8>, leaving: &Leaving<W>, count: usize)
@@ -134,12 +141,17 @@ fn append_first<W: Weight>(out: &mut Vec<u8>, leaving: &Leaving<W>, count: usize
 }
 
 /// Appends the states of a machine that is given away where there is room, part by part, and forgets each part.
-fn append_leaving<W: Weight>(out: &mut Vec<u8>, leaving: Leaving<W>) -> Result<(), AllocError>
-    requires { length out.old.items + length (flat_map (state_fields W.KIND) (map (valued_state W.value) leaving)) ≤ vec_capacity out.old }
+fn append_leaving<W: Weight>(
+    out: &mut Vec<u8>,
+    leaving: Leaving<W>,
+    parts: usize,
+) -> Result<(), AllocError>
+    requires parts { 0 < parts }
+    requires room { length out.old.items + length (flat_map (state_fields W.KIND) (map (valued_state W.value) leaving)) ≤ vec_capacity out.old }
     ensures { OnOk result (out.new.items ≡ out.old.items ++ flat_map (state_fields W.KIND) (map (valued_state W.value) leaving)) }
 {
     let mut left = leaving;
-    let part = left.len() / PARTS + 1;
+    let part = left.len() / parts + 1;
     while left.len() > 0 {
         let count = part.min(left.len());
         append_first(out, &left, count);
@@ -221,8 +233,9 @@ fn write_given<W: Weight>(alloc: Global, fst: Fst<W>) -> Result<Vec<u8>, AllocEr
     ensures fits { HasSpelling W.KIND (valued W.value fst) }
 {
     let mut out = write_header(alloc, &fst)?;
+    let parts = parts_of(fst.arc_count());
     match fst.leave() {
-        Ok(leaving) => append_leaving(&mut out, leaving)?,
+        Ok(leaving) => append_leaving(&mut out, leaving, parts)?,
         Err(fst) => append_states(&mut out, &fst),
     }
     Ok(out)
@@ -242,8 +255,8 @@ pub fn encode<W: Weight>(alloc: Global, fst: &Fst<W>) -> Result<Vec<u8>, AllocEr
     write_whole(alloc, fst)
 }
 
-/// The bytes of a machine that is given away. The room of its arcs is given back as they are written, so that the machine
-/// and its bytes never stand beside each other whole.
+/// The bytes of a machine that is given away. Where it has 1,048,576 arcs or more, the room of its arcs is given back in
+/// four parts as they are written, so that the machine and its bytes never stand beside each other whole.
 pub fn encode_given<W: Weight>(alloc: Global, fst: Fst<W>) -> Result<Vec<u8>, AllocError>
     ensures spelled { IfOk result (λ bytes. bytes.items ≡ spelling W.KIND (valued W.value fst)) }
     ensures again { IfOk result (λ bytes. machine_of_bytes W.KIND bytes.items ≡ Ok (valued W.value fst)) }
