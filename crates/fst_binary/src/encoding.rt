@@ -151,7 +151,7 @@ fn append_leaving<W: Weight>(
     ensures { OnOk result (out.new.items ≡ out.old.items ++ flat_map (state_fields W.KIND) (map (valued_state W.value) leaving)) }
 {
     let mut left = leaving;
-    let part = left.len() / parts + 1;
+    let part = (left.len() / parts).max(1);
     while left.len() > 0 {
         let count = part.min(left.len());
         append_first(out, &left, count);
