@@ -1,5 +1,5 @@
 -- Tables of places after a write.
-use Rattle.std.proofs.Common.{◌≡◌, ◌≢◌, ℕ, ◌+◌, ◌-◌, ◌<◌, ◌≤◌, ◌==◌, true, List, length, drop, get_or, set, Some, None, cond, sym, ap, ◌∙◌, subst, arith, ◌⊎◌, inl, inr}
+use Rattle.std.proofs.Common.{◌≡◌, ◌≢◌, ℕ, ◌+◌, ◌-◌, ◌<◌, ◌≤◌, ◌==◌, Bool, true, false, List, Option, refl, length, min, drop, get_or, set, Some, None, cond, sym, ap, ◌∙◌, subst, arith, ◌⊎◌, inl, inr}
 use Rattle.std.specs.Prelude.{not}
 use Rattle.std.specs.List.{position_or_len}
 use Rattle.std.proofs.lemmas.List.{drop-set-add, drop-set-lt, get_or-drop, get_or-set_other, get_or-set_same, get_or_past, length-drop, length-set}
@@ -7,10 +7,13 @@ use Rattle.std.proofs.lemmas.List.Sums.{fails_before_first, passes_at_first, pos
 use Rattle.std.proofs.lemmas.List.Folds.{position_or_len-set}
 use Rattle.std.proofs.lemmas.Bool.{cases_eq, cases_lt, eq-eqb, eqb-true, ne_eqb}
 use Rattle.fst_table.specs.declared.flat_table.Slot.{Slot}
-use Rattle.fst_table.specs.Slots.{IsProbed, empty_slot, ends_probe, first_slot, number_at, number_of, place_at, place_in_slot, placed_in, probe_end, probe_from, slot_of}
+use Rattle.std.specs.Option.{option_or}
+use Rattle.std.specs.BTreeMap.{BTreeMap, get}
+use Rattle.std.specs.Ordering.{nat_cmp}
+use Rattle.fst_table.specs.Slots.{IsNear, IsOverflow, IsProbed, empty_slot, ends_probe, first_slot, number_at, number_of, place_at, place_in_slot, placed_among, placed_in_slots, probe_end, probe_from, slot_of, window_end, with_place}
 
 -- a place that is not the one of empty slots is told
-place-told : (place : ℕ) → place ≢ 4294967295 → place_in_slot place ≡ Some place
+pub place-told : (place : ℕ) → place ≢ 4294967295 → place_in_slot place ≡ Some place
 place-told place taken = ap (λ b. cond b None (Some place)) (ne_eqb place 4294967295 taken)
 
 pub place-empty : (place : ℕ) → place ≡ 4294967295 → place_in_slot place ≡ None
@@ -30,7 +33,7 @@ within-taken xs k taken = go (cases_lt k (length xs)) where
   go (inr high) = absurd (taken (ap (λ (s : Slot). s.place) (get_or_past xs k empty_slot high)))
 
 -- when the probe for a number ends at a slot
-ends-empty : (n : ℕ) (slot : Slot) → slot.place ≡ 4294967295 → ends_probe n slot ≡ true
+pub ends-empty : (n : ℕ) (slot : Slot) → slot.place ≡ 4294967295 → ends_probe n slot ≡ true
 ends-empty n slot empty = ap (λ b. cond b true (number_of slot == n)) (eq-eqb slot.place 4294967295 empty)
 
 ends-taken : (n : ℕ) (slot : Slot) → slot.place ≢ 4294967295 → ends_probe n slot ≡ (number_of slot == n)
@@ -43,7 +46,7 @@ probe-ends xs n from within =
     let long = length-drop from xs in
     ap (ends_probe n) (sym (get_or-drop from xs (position_or_len (ends_probe n) ys) empty_slot)) ∙ passes_at_first (ends_probe n) ys empty_slot (omega arith)
 
-probe-holds : (xs : List Slot) (n : ℕ) → place_at xs (probe_end xs n) ≢ 4294967295 → number_at xs (probe_end xs n) ≡ n
+pub probe-holds : (xs : List Slot) (n : ℕ) → place_at xs (probe_end xs n) ≢ 4294967295 → number_at xs (probe_end xs n) ≡ n
 probe-holds xs n taken =
     let slot = get_or xs (probe_end xs n) empty_slot in
     eqb-true (number_of slot) n (sym (ends-taken n slot taken) ∙ probe-ends xs n (first_slot (length xs) n) (within-taken xs (probe_end xs n) taken))
@@ -83,7 +86,7 @@ set-other xs j y n from apart empty = go (cases_lt j from) where
       ap (λ (zs : List Slot). from + position_or_len (ends_probe n) zs) moved ∙ ap (λ (k : ℕ). from + k) stays
 
 -- A number that is not known is written where its probe ends.
-module _ (xs : List Slot) (n p : ℕ) (small : p < 4294967295) (within : probe_end xs n < length xs) (probed : IsProbed xs) (absent : placed_in xs n ≡ None) where
+module _ (xs : List Slot) (n p : ℕ) (small : p < 4294967295) (within : probe_end xs n < length xs) (probed : IsProbed xs) (absent : placed_in_slots xs n ≡ None) where
   abbrev end : ℕ
   end = probe_end xs n
 
@@ -119,13 +122,13 @@ module _ (xs : List Slot) (n p : ℕ) (small : p < 4294967295) (within : probe_e
   read-elsewhere : (k : ℕ) → k ≢ end → get_or ys k empty_slot ≡ get_or xs k empty_slot
   read-elsewhere k apart = get_or-set_other xs end k written empty_slot apart
 
-  number-told : placed_in ys n ≡ Some p
+  number-told : placed_in_slots ys n ≡ Some p
   number-told = ap (λ (k : ℕ). place_in_slot (place_at ys k)) number-ends ∙ ap (λ (s : Slot). place_in_slot s.place) read-there ∙ place-told p taken-now
 
   -- a number whose probe ended there was in no slot
-  other-none : (m : ℕ) → m ≢ n → probe_end xs m ≡ end → placed_in ys m ≡ None
+  other-none : (m : ℕ) → m ≢ n → probe_end xs m ≡ end → placed_in_slots ys m ≡ None
   other-none m apart same = go (cases_eq (place_at ys (probe_end ys m)) 4294967295) where
-    go : (place_at ys (probe_end ys m) ≡ 4294967295) ⊎ (place_at ys (probe_end ys m) ≢ 4294967295) → placed_in ys m ≡ None
+    go : (place_at ys (probe_end ys m) ≡ 4294967295) ⊎ (place_at ys (probe_end ys m) ≢ 4294967295) → placed_in_slots ys m ≡ None
     go (inl empty) = place-empty (place_at ys (probe_end ys m)) empty
     go (inr taken) = absurd (
         let at = probe_end ys m in
@@ -135,18 +138,18 @@ module _ (xs : List Slot) (n p : ℕ) (small : p < 4294967295) (within : probe_e
         let there = probed at (λ e. taken (ap (λ (s : Slot). s.place) before ∙ e)) in
         elsewhere (sym there ∙ ap (probe_end xs) (sym (ap number_of before) ∙ holds) ∙ same))
 
-  other-told : (m : ℕ) → m ≢ n → placed_in ys m ≡ placed_in xs m
+  other-told : (m : ℕ) → m ≢ n → placed_in_slots ys m ≡ placed_in_slots xs m
   other-told m apart = go (cases_eq (probe_end xs m) end) where
-    go : (probe_end xs m ≡ end) ⊎ (probe_end xs m ≢ end) → placed_in ys m ≡ placed_in xs m
+    go : (probe_end xs m ≡ end) ⊎ (probe_end xs m ≢ end) → placed_in_slots ys m ≡ placed_in_slots xs m
     go (inl same) = other-none m apart same ∙ sym (place-empty (place_at xs (probe_end xs m)) (ap (place_at xs) same ∙ was-empty))
     go (inr elsewhere) =
         ap (λ (k : ℕ). place_in_slot (place_at ys k)) (other-ends m elsewhere) ∙ ap (λ (s : Slot). place_in_slot s.place) (read-elsewhere (probe_end xs m) elsewhere)
 
-  pub write-told : (m : ℕ) → placed_in ys m ≡ cond (m == n) (Some p) (placed_in xs m)
+  pub write-told : (m : ℕ) → placed_in_slots ys m ≡ cond (m == n) (Some p) (placed_in_slots xs m)
   write-told m = go (cases_eq m n) where
-    go : (m ≡ n) ⊎ (m ≢ n) → placed_in ys m ≡ cond (m == n) (Some p) (placed_in xs m)
-    go (inl same) = ap (placed_in ys) same ∙ number-told ∙ sym (ap (λ b. cond b (Some p) (placed_in xs m)) (eq-eqb m n same))
-    go (inr apart) = other-told m apart ∙ sym (ap (λ b. cond b (Some p) (placed_in xs m)) (ne_eqb m n apart))
+    go : (m ≡ n) ⊎ (m ≢ n) → placed_in_slots ys m ≡ cond (m == n) (Some p) (placed_in_slots xs m)
+    go (inl same) = ap (placed_in_slots ys) same ∙ number-told ∙ sym (ap (λ b. cond b (Some p) (placed_in_slots xs m)) (eq-eqb m n same))
+    go (inr apart) = other-told m apart ∙ sym (ap (λ b. cond b (Some p) (placed_in_slots xs m)) (ne_eqb m n apart))
 
   pub write-probed : IsProbed ys
   write-probed k taken = go (cases_eq k end) where
@@ -157,17 +160,51 @@ module _ (xs : List Slot) (n p : ℕ) (small : p < 4294967295) (within : probe_e
         let there = probed k (λ e. taken (ap (λ (s : Slot). s.place) before ∙ e)) in
         ap (λ (s : Slot). probe_end ys (number_of s)) before ∙ other-ends (number_at xs k) (λ e. apart (sym there ∙ e)) ∙ there
 
--- The numbers of the first slots of a table, and no others, are known in another.
-pub record HasFront (from slots : List Slot) (count : ℕ) : Type 0 where
-  pub known : (k : ℕ) → k < count → place_at from k ≢ 4294967295 → placed_in slots (number_at from k) ≡ Some (place_at from k)
-  pub others : (n : ℕ) → ((k : ℕ) → k < count → place_at from k ≢ 4294967295 → number_at from k ≢ n) → placed_in slots n ≡ None
+  window-same : (m : ℕ) → window_end ys m ≡ window_end xs m
+  window-same m = ap (λ (len : ℕ). min (first_slot len m + 128) len) (length-set xs end written)
 
-pub front-none : (from slots : List Slot) → ((n : ℕ) → placed_in slots n ≡ None) → HasFront from slots 0
-front-none from slots none = record { known = λ k low _. absurd (omega arith); others = λ n _. none n }
+  still-taken : (k : ℕ) → place_at xs k ≢ 4294967295 → place_at ys k ≢ 4294967295
+  still-taken k taken = go (cases_eq k end) where
+    go : (k ≡ end) ⊎ (k ≢ end) → place_at ys k ≢ 4294967295
+    go (inl same) = absurd (taken (ap (place_at xs) same ∙ was-empty))
+    go (inr apart) = λ e. taken (ap (λ (s : Slot). s.place) (sym (read-elsewhere k apart)) ∙ e)
+
+  pub write-near : end < window_end xs n → IsNear xs → IsNear ys
+  write-near low near k taken = go (cases_eq k end) where
+    go : (k ≡ end) ⊎ (k ≢ end) → k < window_end ys (number_at ys k)
+    go (inl same) = let at = ap (window_end ys) (ap (number_at ys) same ∙ ap number_of read-there ∙ number-written) ∙ window-same n in omega arith
+    go (inr apart) =
+        let before = read-elsewhere k apart in
+        let there = near k (λ e. taken (ap (λ (s : Slot). s.place) before ∙ e)) in
+        let at = ap (window_end ys) (ap number_of before) ∙ window-same (number_at xs k) in
+        omega arith
+
+  module _ (overflow : BTreeMap ℕ ℕ) (lacks : get nat_cmp overflow n ≡ None) where
+    pub write-overflow : IsOverflow xs overflow → IsOverflow ys overflow
+    write-overflow overflows m q is =
+        let was = overflows m q is in (
+          λ k from low. let first = ap (λ (len : ℕ). first_slot len m) (length-set xs end written) in let window = window-same m in still-taken k (was.0 k (omega arith) (omega arith)),
+          other-told m (λ e. let none = ap (get nat_cmp overflow) e ∙ lacks in absurd (let both = sym is ∙ none in cc)) ∙ was.1,
+          was.2,
+        )
+
+    pub write-placed : (m : ℕ) → placed_among ys overflow m ≡ with_place (placed_among xs overflow) n p m
+    write-placed m = ap (λ o. option_or o (get nat_cmp overflow m)) (write-told m) ∙ go (m == n) where
+      go : (b : Bool) → option_or (cond b (Some p) (placed_in_slots xs m)) (get nat_cmp overflow m) ≡ cond b (Some p) (placed_among xs overflow m)
+      go true = refl
+      go false = refl
+
+-- The numbers of the first slots of a table, and no others, are known.
+pub record HasFront (from : List Slot) (found : ℕ → Option ℕ) (count : ℕ) : Type 0 where
+  pub known : (k : ℕ) → k < count → place_at from k ≢ 4294967295 → found (number_at from k) ≡ Some (place_at from k)
+  pub others : (n : ℕ) → ((k : ℕ) → k < count → place_at from k ≢ 4294967295 → number_at from k ≢ n) → found n ≡ None
+
+pub front-none : (from : List Slot) (found : ℕ → Option ℕ) → ((n : ℕ) → found n ≡ None) → HasFront from found 0
+front-none from found none = record { known = λ k low _. absurd (omega arith); others = λ n _. none n }
 
 -- an empty slot more
-pub front-empty : (from slots : List Slot) (count : ℕ) → place_at from count ≡ 4294967295 → HasFront from slots count → HasFront from slots (count + 1)
-front-empty from slots count empty front = record {
+pub front-empty : (from : List Slot) (found : ℕ → Option ℕ) (count : ℕ) → place_at from count ≡ 4294967295 → HasFront from found count → HasFront from found (count + 1)
+front-empty from found count empty front = record {
   known = λ k low taken. front.known k (within k low taken) taken;
   others = λ n lacks. front.others n (λ k low taken. lacks k (omega arith) taken);
 } where
@@ -183,42 +220,45 @@ front-apart from count probed taken k low there same =
     let ends : k ≡ count = sym (probed k there) ∙ ap (probe_end from) same ∙ probed count taken in
     absurd (omega arith)
 
-pub front-absent : (from slots : List Slot) (count : ℕ) → IsProbed from → place_at from count ≢ 4294967295 → HasFront from slots count → placed_in slots (number_at from count) ≡ None
-front-absent from slots count probed taken front = front.others (number_at from count) (front-apart from count probed taken)
+pub front-absent : (from : List Slot) (found : ℕ → Option ℕ) (count : ℕ) → IsProbed from → place_at from count ≢ 4294967295 → HasFront from found count → found (number_at from count) ≡ None
+front-absent from found count probed taken front = front.others (number_at from count) (front-apart from count probed taken)
 
 -- and then it is
-pub front-more : (from slots more : List Slot) (count : ℕ) → IsProbed from → place_at from count ≢ 4294967295 → HasFront from slots count → ((m : ℕ) → placed_in more m ≡ cond (m == number_at from count) (Some (place_at from count)) (placed_in slots m)) → HasFront from more (count + 1)
-front-more from slots more count probed taken front told = record {
+pub front-more : (from : List Slot) (found more : ℕ → Option ℕ) (count : ℕ) → IsProbed from → place_at from count ≢ 4294967295 → HasFront from found count → ((m : ℕ) → more m ≡ with_place found (number_at from count) (place_at from count) m) → HasFront from more (count + 1)
+front-more from found more count probed taken front told = record {
   known = known;
-  others = λ n lacks. told n ∙ ap (λ b. cond b (Some (place_at from count)) (placed_in slots n)) (ne_eqb n (number_at from count) (λ e. lacks count (omega arith) taken (sym e))) ∙ front.others n (λ k low there. lacks k (omega arith) there);
+  others = λ n lacks. told n ∙ ap (λ b. cond b (Some (place_at from count)) (found n)) (ne_eqb n (number_at from count) (λ e. lacks count (omega arith) taken (sym e))) ∙ front.others n (λ k low there. lacks k (omega arith) there);
 } where
-  known : (k : ℕ) → k < count + 1 → place_at from k ≢ 4294967295 → placed_in more (number_at from k) ≡ Some (place_at from k)
+  known : (k : ℕ) → k < count + 1 → place_at from k ≢ 4294967295 → more (number_at from k) ≡ Some (place_at from k)
   known k low there = go (cases_eq k count) where
-    go : (k ≡ count) ⊎ (k ≢ count) → placed_in more (number_at from k) ≡ Some (place_at from k)
+    go : (k ≡ count) ⊎ (k ≢ count) → more (number_at from k) ≡ Some (place_at from k)
     go (inl same) =
         told (number_at from k)
-        ∙ ap (λ b. cond b (Some (place_at from count)) (placed_in slots (number_at from k))) (eq-eqb (number_at from k) (number_at from count) (ap (number_at from) same))
+        ∙ ap (λ b. cond b (Some (place_at from count)) (found (number_at from k))) (eq-eqb (number_at from k) (number_at from count) (ap (number_at from) same))
         ∙ ap (λ (j : ℕ). Some (place_at from j)) (sym same)
     go (inr apart) =
         let below : k < count = omega arith in
         told (number_at from k)
-        ∙ ap (λ b. cond b (Some (place_at from count)) (placed_in slots (number_at from k))) (ne_eqb (number_at from k) (number_at from count) (front-apart from count probed taken k below there))
+        ∙ ap (λ b. cond b (Some (place_at from count)) (found (number_at from k))) (ne_eqb (number_at from k) (number_at from count) (front-apart from count probed taken k below there))
         ∙ front.known k below there
 
--- with all slots the two tables tell the same
-pub front-all : (from slots : List Slot) → IsProbed from → HasFront from slots (length from) → (n : ℕ) → placed_in slots n ≡ placed_in from n
-front-all from slots probed front n = go (cases_eq (place_at from (probe_end from n)) 4294967295) where
-  go : (place_at from (probe_end from n) ≡ 4294967295) ⊎ (place_at from (probe_end from n) ≢ 4294967295) → placed_in slots n ≡ placed_in from n
+-- with all slots the same is told as by them
+pub front-all : (from : List Slot) (found : ℕ → Option ℕ) → IsProbed from → HasFront from found (length from) → (n : ℕ) → found n ≡ placed_in_slots from n
+front-all from found probed front n = go (cases_eq (place_at from (probe_end from n)) 4294967295) where
+  go : (place_at from (probe_end from n) ≡ 4294967295) ⊎ (place_at from (probe_end from n) ≢ 4294967295) → found n ≡ placed_in_slots from n
   go (inl empty) =
       front.others n (λ k low taken same. taken (ap (place_at from) (sym (probed k taken) ∙ ap (probe_end from) same) ∙ empty))
       ∙ sym (place-empty (place_at from (probe_end from n)) empty)
   go (inr taken) =
       let at = probe_end from n in
-      ap (placed_in slots) (sym (probe-holds from n taken)) ∙ front.known at (within-taken from at taken) taken ∙ sym (place-told (place_at from at) taken)
+      ap found (sym (probe-holds from n taken)) ∙ front.known at (within-taken from at taken) taken ∙ sym (place-told (place_at from at) taken)
 
 -- slots that are all empty
-pub empty-none : (slots : List Slot) → ((k : ℕ) → place_at slots k ≡ 4294967295) → (n : ℕ) → placed_in slots n ≡ None
+pub empty-none : (slots : List Slot) → ((k : ℕ) → place_at slots k ≡ 4294967295) → (n : ℕ) → placed_in_slots slots n ≡ None
 empty-none slots empty n = place-empty (place_at slots (probe_end slots n)) (empty (probe_end slots n))
 
 pub empty-probed : (slots : List Slot) → ((k : ℕ) → place_at slots k ≡ 4294967295) → IsProbed slots
 empty-probed slots empty k taken = absurd (taken (empty k))
+
+pub empty-near : (slots : List Slot) → ((k : ℕ) → place_at slots k ≡ 4294967295) → IsNear slots
+empty-near slots empty k taken = absurd (taken (empty k))

@@ -15,14 +15,20 @@ use Rattle.std.specs.Prelude.{
   List,
   drop,
   get_or,
+  ◌<◌,
+  ◌≤◌,
   nat_lt,
+  min,
   length,
   Option,
   Some,
   None,
   if◌then◌else◌,
 }
+use Rattle.std.specs.BTreeMap.{BTreeMap, get}
 use Rattle.std.specs.List.{position_or_len}
+use Rattle.std.specs.Option.{option_or}
+use Rattle.std.specs.Ordering.{nat_cmp}
 use Rattle.fst_table.specs.declared.flat_table.Slot.{Slot}
 
 -- a slot of a table of places; the greatest number of 32 bits stands for none
@@ -58,6 +64,14 @@ probe_from slots n at = at + position_or_len (ends_probe n) (drop at slots)
 abbrev pub probe_end : List Slot → ℕ → ℕ
 probe_end slots n = probe_from slots n (first_slot (length slots) n)
 
+-- a probe looks at 128 slots at most, at those before this one
+abbrev pub window_end : List Slot → ℕ → ℕ
+window_end slots n = min (first_slot (length slots) n + 128) (length slots)
+
+-- the slot at which it ends among these; the number of slots where it ends at none of them
+abbrev pub probed_slot : List Slot → ℕ → ℕ
+probed_slot slots n = if nat_lt (probe_end slots n) (window_end slots n) then probe_end slots n else length slots
+
 -- the number and the place in a slot; a slot behind the last is empty
 abbrev pub number_at : List Slot → ℕ → ℕ
 number_at slots k = number_of (get_or slots k empty_slot)
@@ -65,18 +79,33 @@ number_at slots k = number_of (get_or slots k empty_slot)
 abbrev pub place_at : List Slot → ℕ → ℕ
 place_at slots k = (get_or slots k empty_slot).place
 
--- the place of a number
-abbrev pub placed_in : List Slot → ℕ → Option ℕ
-placed_in slots n = place_in_slot (place_at slots (probe_end slots n))
+-- the place of a number in the slots
+abbrev pub placed_in_slots : List Slot → ℕ → Option ℕ
+placed_in_slots slots n = place_in_slot (place_at slots (probe_end slots n))
+
+-- the place of a number in the slots, or else in the map
+abbrev pub placed_among : List Slot → BTreeMap ℕ ℕ → ℕ → Option ℕ
+placed_among slots overflow n = option_or (placed_in_slots slots n) (get nat_cmp overflow n)
 
 -- each number is where its probe ends
 abbrev pub IsProbed : List Slot → Type 0
 IsProbed slots = (k : ℕ) → place_at slots k ≢ 4294967295 → probe_end slots (number_at slots k) ≡ k
 
+-- and its probe looks there
+abbrev pub IsNear : List Slot → Type 0
+IsNear slots = (k : ℕ) → place_at slots k ≢ 4294967295 → k < window_end slots (number_at slots k)
+
+-- the probe for a number meets no empty slot
+abbrev pub MeetsNoEmpty : List Slot → ℕ → Type 0
+MeetsNoEmpty slots n = (k : ℕ) → first_slot (length slots) n ≤ k → k < window_end slots n → place_at slots k ≢ 4294967295
+
+-- so a number is in the map: its probe meets no empty slot, it is in no slot, and its place is not the one of empty slots
+abbrev pub Overflows : List Slot → ℕ → ℕ → Type 0
+Overflows slots n p = MeetsNoEmpty slots n × (placed_in_slots slots n ≡ None) × (p < 4294967295)
+
+abbrev pub IsOverflow : List Slot → BTreeMap ℕ ℕ → Type 0
+IsOverflow slots overflow = (n p : ℕ) → get nat_cmp overflow n ≡ Some p → Overflows slots n p
+
 -- one more number with its place
 abbrev pub with_place : (ℕ → Option ℕ) → ℕ → ℕ → ℕ → Option ℕ
 with_place found n place m = if m == n then Some place else found m
-
--- numbers below the bound stand in the list by number, and others in the slots
-abbrev pub found_among : ℕ → List ℕ → List Slot → ℕ → Option ℕ
-found_among bound dense sparse n = if nat_lt n bound then place_in_slot (get_or dense n 4294967295) else placed_in sparse n

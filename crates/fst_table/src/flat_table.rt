@@ -1,10 +1,13 @@
-//! A table from numbers to places, in one list of slots: open addressing with linear probing.
+//! A table from numbers to places, in one list of slots: open addressing with linear probing, where a probe looks at no
+//! more than a bounded number of slots. The numbers that find no slot within it stand in a sorted map. So a look-up costs
+//! a bounded number of slots and at most the logarithm of a search in the map, whatever the numbers are, also where
+//! they are chosen so that all their probes begin at one slot.
 
-ghost use Rattle.std.specs.Prelude.{◌≡◌, ◌<◌, ℕ, length, None, IfOk, OnErr, OnOk};
-ghost use Rattle.std.specs.Bool.{OnFalse, OnTrue};
-ghost use Rattle.fst_table.specs.Slots.{IsProbed, first_slot, number_of, placed_in, probe_end, slot_of};
+ghost use Rattle.std.specs.Prelude.{◌≡◌, ◌+◌, ◌*◌, ◌<◌, ◌≤◌, ℕ, length, None, IfOk, OnErr, OnOk};
+ghost use Rattle.fst_table.specs.Slots.{IsNear, IsOverflow, IsProbed, first_slot, number_of, placed_in_slots, probed_slot, slot_of};
 
 use std::alloc::{AllocError, Global};
+use std::collections::BTreeMap;
 
 /// The place in an empty slot.
 const ABSENT: u32 = u32::MAX;
@@ -13,6 +16,10 @@ const ABSENT: u32 = u32::MAX;
 const FIRST_FACTOR: u64 = 0x9E3779B97F4A7C15;
 
 const SECOND_FACTOR: u64 = 0xD6E8FEB86659FD93;
+
+/// A probe looks at so many slots at most. Of numbers that are spread evenly one in a thousand finds none of them empty,
+/// when the table is as full as it may be; and to read so many slots takes about the time of a search in a large map.
+const PROBE_LIMIT: usize = 128;
 
 /// A number is its low half and so many times its high half.
 const HALF: u64 = 1 << 32;
@@ -55,9 +62,13 @@ impl Slot {
 #[derive(Drop)]
 pub struct FlatTable {
     slots: Vec<Slot>,
-    // How many numbers were added; it says no more than when the table grows.
+    // The numbers whose probes met no empty slot. A slot never becomes empty, so that their probes never do.
+    overflow: BTreeMap<u64, u32>,
+    // How many numbers were added, to the slots and to the map; it says no more than when the table grows.
     used: usize,
     ghost probed: { IsProbed slots.items },
+    ghost near: { IsNear slots.items },
+    ghost overflows: { IsOverflow slots.items overflow },
 }
 
 /// The slot at which the probe for a number begins.
@@ -72,41 +83,47 @@ fn first_slot(len: usize, number: u64) -> usize
     ((twice >> 32).wrapping_mul(firsts) >> 32) as usize
 }
 
-/// The first slot from the first one of a number on that is empty or holds it; behind the slots where there is none.
+/// The first slot from the first one of a number on that is empty or holds it; the number of slots where there is none
+/// within the limit.
 fn probe(slots: &[Slot], number: u64) -> usize
-    ensures { result ≡ probe_end slots.now number }
+    ensures { result ≡ probed_slot slots.now number }
 {
     let mut at = first_slot(slots.len(), number);
-    while at < slots.len() {
+    let end = at.saturating_add(PROBE_LIMIT).min(slots.len());
+    while at < end {
         let slot = slots[at];
         if slot.place == ABSENT || slot.number() == number {
             return at;
         }
         at += 1;
     }
-    at
+    slots.len()
 }
 
+#[tactic(auto, unfolding(crate::specs::Placed::placed_in))]
 impl FlatTable {
+    ghost use Rattle.fst_table.specs.Placed.{placed_in};
     ghost use Rattle.fst_table.specs.Slots.{with_place};
 
     /// No number is known. Takes no memory.
     pub fn new(alloc: Global) -> FlatTable
-        ensures { (n : ℕ) → placed_in result.slots.items n ≡ None }
+        ensures { (n : ℕ) → placed_in result n ≡ None }
     {
         FlatTable {
             slots: Vec::new(alloc),
+            overflow: BTreeMap::new(alloc),
             used: 0,
         }
     }
 
     /// The place of a number; `None` exactly where it is not known. Takes no memory.
+    #[tactic(auto, using(crate::proofs::Overflow::past_told), unfolding(crate::specs::Placed::placed_in))]
     pub fn find(&self, number: u64) -> Option<u32>
-        ensures { result ≡ placed_in self.now.slots.items number }
+        ensures { result ≡ placed_in self.now number }
     {
         let at = probe(&self.slots, number);
         if at >= self.slots.len() {
-            return None;
+            return self.overflow.get(&number).copied();
         }
         let place = self.slots[at].place;
         if place == ABSENT { None } else { Some(place) }
@@ -114,76 +131,100 @@ impl FlatTable {
 
     /// So many empty slots.
     fn with_slots(alloc: Global, len: usize) -> Result<FlatTable, AllocError>
-        ensures none { IfOk result (λ t. (n : ℕ) → placed_in t.slots.items n ≡ None) }
+        ensures none { IfOk result (λ t. (n : ℕ) → placed_in t n ≡ None) }
         ensures len { IfOk result (λ t. length t.slots.items ≡ len) }
     {
         let mut slots = Vec::new(alloc);
         slots.resize(len, EMPTY)?;
-        Ok(FlatTable { slots, used: 0 })
+        Ok(FlatTable {
+            slots,
+            overflow: BTreeMap::new(alloc),
+            used: 0,
+        })
     }
 
-    /// Writes a number with its place where its probe ends; `false` where that is behind the slots.
-    fn write(&mut self, number: u64, place: u32) -> bool
+    /// Writes a number with its place in the slot where its probe ends, or in the map where it meets no empty slot.
+    /// Where memory runs out, what is known stays.
+    fn put(&mut self, number: u64, place: u32) -> Result<(), AllocError>
         requires place { place < 4294967295 }
-        requires absent { placed_in self.old.slots.items number ≡ None }
-        ensures written { OnTrue result ((n : ℕ) → placed_in self.new.slots.items n ≡ with_place (placed_in self.old.slots.items) number place n) }
-        ensures same { OnFalse result (self.new ≡ self.old) }
+        requires absent { placed_in self.old number ≡ None }
+        ensures put { OnOk result ((n : ℕ) → placed_in self.new n ≡ with_place (placed_in self.old) number place n) }
+        ensures err { OnErr result ((n : ℕ) → placed_in self.new n ≡ placed_in self.old n) }
         ensures len { length self.new.slots.items ≡ length self.old.slots.items }
     {
         let at = probe(&self.slots, number);
-        if at >= self.slots.len() {
-            return false;
+        if at < self.slots.len() {
+            self.slots[at] = Slot::new(number, place);
+            return Ok(());
         }
-        self.slots[at] = Slot::new(number, place);
-        self.used = self.used.saturating_add(1);
-        true
+        self.overflow.insert(number, place)?;
+        Ok(())
     }
 
-    /// Adds the numbers of a table to one that has none; `false` where a probe ends behind the slots.
-    fn fill(&mut self, from: &FlatTable) -> bool
-        requires { (n : ℕ) → placed_in self.old.slots.items n ≡ None }
-        ensures filled { OnTrue result ((n : ℕ) → placed_in self.new.slots.items n ≡ placed_in from.now.slots.items n) }
+    /// Adds the numbers in the slots of a table to one that has none.
+    fn fill_from_slots(&mut self, from: &FlatTable) -> Result<(), AllocError>
+        requires { (n : ℕ) → placed_in self.old n ≡ None }
+        ensures filled { OnOk result ((n : ℕ) → placed_in self.new n ≡ placed_in_slots from.now.slots.items n) }
         ensures len { length self.new.slots.items ≡ length self.old.slots.items }
     {
         for slot in &from.slots {
-            if slot.place != ABSENT && !self.write(slot.number(), slot.place) {
-                return false;
+            if slot.place != ABSENT {
+                self.put(slot.number(), slot.place)?;
             }
         }
-        true
+        Ok(())
     }
 
-    /// The same numbers in more slots: twice as many, and again twice as many where a probe ends behind them.
-    fn grown(&self) -> Result<FlatTable, AllocError>
-        ensures same { IfOk result (λ t. (n : ℕ) → placed_in t.slots.items n ≡ placed_in self.now.slots.items n) }
-        ensures longer { IfOk result (λ t. length self.now.slots.items < length t.slots.items) }
+    /// Adds the numbers in the map of a table to one that has those in its slots.
+    fn fill_from_overflow(&mut self, from: &FlatTable) -> Result<(), AllocError>
+        requires { (n : ℕ) → placed_in self.old n ≡ placed_in_slots from.now.slots.items n }
+        ensures filled { OnOk result ((n : ℕ) → placed_in self.new n ≡ placed_in from.now n) }
+        ensures len { length self.new.slots.items ≡ length self.old.slots.items }
     {
-        let alloc = *self.slots.allocator();
-        let mut len = self.slots.len();
-        while len <= usize::MAX / 4 {
-            len = 2 * len + 64;
-            let mut more = Self::with_slots(alloc, len)?;
-            if more.fill(self) {
-                return Ok(more);
-            }
+        for (number, place) in &from.overflow {
+            self.put(*number, *place)?;
         }
-        Err(AllocError)
+        Ok(())
+    }
+
+    /// The same numbers in more than twice as many slots.
+    fn grown(&self) -> Result<FlatTable, AllocError>
+        ensures same { IfOk result (λ t. (n : ℕ) → placed_in t n ≡ placed_in self.now n) }
+        ensures longer { IfOk result (λ t. length t.slots.items ≡ 2 * length self.now.slots.items + 64) }
+    {
+        let len = self.slots.len();
+        if len > usize::MAX / 4 {
+            return Err(AllocError);
+        }
+        let mut more = Self::with_slots(*self.slots.allocator(), 2 * len + 64)?;
+        more.fill_from_slots(self)?;
+        more.fill_from_overflow(self)?;
+        more.used = self.used;
+        Ok(more)
+    }
+
+    /// Makes the table larger where it is as full as it may be. Where memory runs out, what is known stays.
+    fn make_room(&mut self) -> Result<(), AllocError>
+        ensures { (n : ℕ) → placed_in self.new n ≡ placed_in self.old n }
+    {
+        // Fuller, probes get long; emptier, the slots take more memory, which costs a look-up more than a short probe.
+        // The table grows for no other reason, so that the numbers do not tell how often it does.
+        if self.used >= self.slots.len() / 5 * 4 {
+            *self = self.grown()?;
+        }
+        Ok(())
     }
 
     /// Adds a number with its place. Where memory runs out, what is known stays.
     pub fn add(&mut self, number: u64, place: u32) -> Result<(), AllocError>
         requires place { place < 4294967295 }
-        requires absent { placed_in self.old.slots.items number ≡ None }
-        ensures added { OnOk result ((n : ℕ) → placed_in self.new.slots.items n ≡ with_place (placed_in self.old.slots.items) number place n) }
-        ensures err { OnErr result ((n : ℕ) → placed_in self.new.slots.items n ≡ placed_in self.old.slots.items n) }
+        requires absent { placed_in self.old number ≡ None }
+        ensures added { OnOk result ((n : ℕ) → placed_in self.new n ≡ with_place (placed_in self.old) number place n) }
+        ensures err { OnErr result ((n : ℕ) → placed_in self.new n ≡ placed_in self.old n) }
     {
-        // Fuller, probes get long; emptier, the slots take more memory, which costs a look-up more than a short probe.
-        if self.used >= self.slots.len() / 5 * 4 {
-            *self = self.grown()?;
-        }
-        while !self.write(number, place) {
-            *self = self.grown()?;
-        }
+        self.make_room()?;
+        self.put(number, place)?;
+        self.used = self.used.saturating_add(1);
         Ok(())
     }
 }

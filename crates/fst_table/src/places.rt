@@ -2,7 +2,7 @@
 
 ghost use Rattle.std.specs.Prelude.{◌≡◌, ◌<◌, ◌≤◌, ℕ, None, Some, OnErr, OnOk, length};
 ghost use Rattle.std.specs.Option.{ForSome};
-ghost use Rattle.fst_table.specs.Slots.{found_among};
+ghost use Rattle.fst_table.specs.Placed.{found_among};
 
 use crate::flat_table::FlatTable;
 use std::alloc::{AllocError, Global};
@@ -20,7 +20,7 @@ pub struct Places {
     // The number that was asked for last as one that is likely to be asked for again.
     recent: Option<(u64, u32)>,
     ghost room: { length dense.items ≤ bound },
-    ghost remembered: { ForSome recent (λ r. found_among bound dense.items sparse.slots.items r.0 ≡ Some r.1) },
+    ghost remembered: { ForSome recent (λ r. found_among bound dense.items sparse r.0 ≡ Some r.1) },
 }
 
 impl Places {
