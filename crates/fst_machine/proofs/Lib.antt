@@ -25,6 +25,7 @@ pub mod Walking
 pub mod Arriving
 pub mod Keeping
 pub mod Retaining
+pub mod ArcsChanged
 pub mod Valued
 pub mod Narrowing
 pub mod OneMachine

@@ -27,6 +27,7 @@ pub mod Store
 pub mod SideBySide
 pub mod Renumbered
 pub mod Retaining
+pub mod ArcsChanged
 pub mod Putting
 pub mod KeptMachine
 pub mod Narrowing
