@@ -26,6 +26,7 @@ pub mod Arriving
 pub mod Keeping
 pub mod Retaining
 pub mod Forgetting
+pub mod ArcsChanged
 pub mod Valued
 pub mod Narrowing
 pub mod OneMachine

@@ -91,7 +91,7 @@ take_same old store first zero same = refl
 take_same old store first (suc more) same = ap (take (suc more)) (same (omega arith))
 
 -- the place behind a state is no less than the one before it, lies in the store, and leaves room for its arcs
-end_low : (behind first count : ℕ) → (0 < count → behind ≤ first) → behind ≤ end_of behind first count
+pub end_low : (behind first count : ℕ) → (0 < count → behind ≤ first) → behind ≤ end_of behind first count
 end_low behind first zero low = omega arith
 end_low behind first (suc more) low = omega (arith, low (omega arith))
 
@@ -103,7 +103,7 @@ end_high : (behind first count end next : ℕ) → end ≤ behind → (0 < count
 end_high behind first zero end next before low few = omega (arith, before, few)
 end_high behind first (suc more) end next before low few = omega (arith, before, few, low (omega arith))
 
-end_past : (behind first count : ℕ) → 0 < count → first + count ≤ end_of behind first count
+pub end_past : (behind first count : ℕ) → 0 < count → first + count ≤ end_of behind first count
 end_past behind first zero some = absurd (omega (arith, some))
 end_past behind first (suc more) some = omega arith
 

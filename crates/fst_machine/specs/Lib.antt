@@ -28,6 +28,7 @@ pub mod SideBySide
 pub mod Renumbered
 pub mod Retaining
 pub mod Forgetting
+pub mod ArcsChanged
 pub mod Putting
 pub mod KeptMachine
 pub mod Narrowing

@@ -8,10 +8,12 @@ ghost use Rattle.fst_machine.specs.Machine.{Machine, IsMachine, arc_total, bare_
 use crate::arc::FstArc;
 use crate::kept::Kept;
 
+mod change;
 mod leaving;
 mod retain;
 mod state_list;
 
+pub use change::ArcsChange;
 use fst_semiring::Weight;
 pub use leaving::Leaving;
 pub use state_list::StateList;

@@ -1,5 +1,6 @@
 pub mod States
 pub mod Labelling
+pub mod LabelledGiven
 pub mod Made
 pub mod Reading
 pub mod Blocks

@@ -8,7 +8,7 @@ ghost use Rattle.fst_rational.specs.Relations.{Inverts, Projects, Relabels};
 
 use crate::change::{Change, put_states};
 use crate::pairs::Pairs;
-use fst_machine::{Fst, FstArc, StateList};
+use fst_machine::{ArcsChange, Fst, FstArc, StateList};
 use fst_semiring::Weight;
 use indexmap::IndexMap;
 use std::alloc::{AllocError, Global};
@@ -32,6 +32,18 @@ trait Rules {
         ensures { result ≡ writes self.now ilabel olabel };
 }
 
+/// An arc with labels by rules.
+fn labelled_arc<W: Copy, R: Rules>(rules: &R, arc: FstArc<W>) -> FstArc<W>
+    ensures { result ≡ labelled (R.reads rules.now) (R.writes rules.now) arc }
+{
+    FstArc {
+        ilabel: rules.input(arc.ilabel, arc.olabel),
+        olabel: rules.output(arc.ilabel, arc.olabel),
+        weight: arc.weight,
+        next: arc.next,
+    }
+}
+
 /// The change of labels by rules.
 #[derive(Clone, Copy)]
 struct Labelling<R> {
@@ -51,12 +63,7 @@ impl<W: Weight, R: Rules> Change<W> for Labelling<R> {
         requires good { IsArc W.value most_states arc }
         ensures { valued_arc W.value result ≡ labelled (R.reads self.now.rules) (R.writes self.now.rules) (valued_arc W.value arc) }
     {
-        FstArc {
-            ilabel: self.rules.input(arc.ilabel, arc.olabel),
-            olabel: self.rules.output(arc.ilabel, arc.olabel),
-            weight: arc.weight,
-            next: arc.next,
-        }
+        labelled_arc(&self.rules, arc)
     }
 
     fn last(&self, last: W) -> W
@@ -69,6 +76,19 @@ impl<W: Weight, R: Rules> Change<W> for Labelling<R> {
         ensures { result ≡ None }
     {
         None
+    }
+}
+
+impl<W: Weight, R: Rules> ArcsChange<W> for Labelling<R> {
+    ghost use Rattle.std.specs.Prelude.{◌≡◌, map};
+
+    ghost changes = { λ s arcs new. new ≡ map (labelled (R.reads s.rules) (R.writes s.rules)) arcs };
+
+    fn change(&self, arcs: &mut [FstArc<W>]) -> Result<(), AllocError> {
+        for place in 0..arcs.len() {
+            arcs[place] = labelled_arc(&self.rules, arcs[place]);
+        }
+        Ok(())
     }
 }
 
@@ -86,6 +106,23 @@ fn with_labels<W: Weight, R: Rules + Copy>(
     let mut own = Vec::new(alloc);
     put_states(&mut states, &mut own, &change, a)?;
     Ok(states.into_machine(a.start()))
+}
+
+/// The same of a machine that is given away: its arcs are changed where they stand, where those of its states stand side by
+/// side.
+fn with_labels_given<W: Weight, R: Rules + Copy>(
+    alloc: Global,
+    a: Fst<W>,
+    rules: R,
+) -> Result<Fst<W>, AllocError>
+    requires { KeepsRange (R.reads rules) (R.writes rules) }
+    ensures { IfOk result (λ m. valued W.value m ≡ labelled_machine (R.reads rules) (R.writes rules) (valued W.value a)) }
+{
+    let change = Labelling { rules };
+    match a.with_arcs(&change)? {
+        Ok(machine) => Ok(machine),
+        Err(a) => with_labels(alloc, &a, rules),
+    }
 }
 
 /// The rules of inversion.
@@ -197,4 +234,44 @@ pub fn relabel<W: Weight>(
         output: output.news(),
     };
     with_labels(alloc, a, rules)
+}
+
+/// The inversion of a machine that is given away, as `invert` makes it. It takes memory only where the arcs of the states do
+/// not stand side by side.
+pub fn into_inverted<W: Weight>(alloc: Global, a: Fst<W>) -> Result<Fst<W>, AllocError>
+    ensures machine { IfOk result (λ m. valued W.value m ≡ inverted (valued W.value a)) }
+    ensures relation { IfOk result (λ m. Inverts W.KIND (valued W.value a) (valued W.value m)) }
+{
+    with_labels_given(alloc, a, Inversion)
+}
+
+/// The projection of a machine that is given away, as `project` makes it. It takes memory only where the arcs of the states
+/// do not stand side by side.
+pub fn into_projected<W: Weight>(
+    alloc: Global,
+    a: Fst<W>,
+    output: bool,
+) -> Result<Fst<W>, AllocError>
+    ensures machine { IfOk result (λ m. valued W.value m ≡ projected output (valued W.value a)) }
+    ensures relation { IfOk result (λ m. Projects W.KIND output (valued W.value a) (valued W.value m)) }
+{
+    with_labels_given(alloc, a, Projection { written: output })
+}
+
+/// A machine that is given away with labels replaced by pairs, as `relabel` makes it. It takes memory only where the arcs of
+/// the states do not stand side by side.
+pub fn into_relabelled<W: Weight>(
+    alloc: Global,
+    a: Fst<W>,
+    input: &Pairs,
+    output: &Pairs,
+) -> Result<Fst<W>, AllocError>
+    ensures machine { IfOk result (λ m. valued W.value m ≡ relabelled input.now output.now (valued W.value a)) }
+    ensures relation { IfOk result (λ m. Relabels W.KIND input.now output.now (valued W.value a) (valued W.value m)) }
+{
+    let rules = Relabelling {
+        input: input.news(),
+        output: output.news(),
+    };
+    with_labels_given(alloc, a, rules)
 }

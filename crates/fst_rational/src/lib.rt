@@ -19,7 +19,7 @@ pub use change::{count_onward, put_onward};
 pub use close::closure;
 pub use concatenate::concat;
 pub use fault::RationalFault;
-pub use labels::{invert, project, relabel};
+pub use labels::{into_inverted, into_projected, into_relabelled, invert, project, relabel};
 pub use pairs::{Pairs, PairsFault, read_pairs};
 pub use reversal::reverse;
 pub use size::entries;

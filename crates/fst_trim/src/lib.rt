@@ -31,6 +31,6 @@ pub use links::{Link, Links};
 pub use run::{find_run, run_end, run_from};
 pub use side::Side;
 pub use sorted::{is_sorted, stands_by};
-pub use sorting::{arcsort, sort_arcs};
+pub use sorting::{arcsort, into_arcsorted, sort_arcs};
 pub use summary::Info;
 pub use useful::accessible;

@@ -12,7 +12,9 @@ ghost use Rattle.fst_command.specs.Told.{IsMade};
 use crate::given::{Given, one};
 use crate::made::Made;
 use crate::refusal::{Refusal, unmade};
-use fst_rational::{RationalFault, closure, concat, invert, project, relabel, reverse, union};
+use fst_rational::{
+    RationalFault, closure, concat, into_inverted, into_projected, into_relabelled, reverse, union,
+};
 use fst_semiring::Weight;
 use fst_words::Options;
 use std::alloc::Global;
@@ -34,7 +36,7 @@ pub(crate) fn inverted<W: Weight>(alloc: Global, given: Given<W>) -> Result<Made
     ensures { Settles invert_meaning (given_seen W.KIND W.value given) (result_map_both (made_seen W.KIND W.value) (λ e. e) result) }
 {
     let machine = given.one();
-    Ok(Made::Machine(invert(alloc, &machine)?))
+    Ok(Made::Machine(into_inverted(alloc, machine)?))
 }
 
 /// `project`.
@@ -47,7 +49,7 @@ pub(crate) fn projected<W: Weight>(
     ensures { Settles (project_meaning options.now) (given_seen W.KIND W.value given) (result_map_both (made_seen W.KIND W.value) (λ e. e) result) }
 {
     let machine = given.one();
-    Ok(Made::Machine(project(alloc, &machine, options.project_output)?))
+    Ok(Made::Machine(into_projected(alloc, machine, options.project_output)?))
 }
 
 /// `relabel`.
@@ -56,7 +58,7 @@ pub(crate) fn relabelled<W: Weight>(alloc: Global, given: Given<W>) -> Result<Ma
     ensures { Settles relabel_meaning (given_seen W.KIND W.value given) (result_map_both (made_seen W.KIND W.value) (λ e. e) result) }
 {
     let machine = one(given.machines);
-    Ok(Made::Machine(relabel(alloc, &machine, &given.ipairs, &given.opairs)?))
+    Ok(Made::Machine(into_relabelled(alloc, machine, &given.ipairs, &given.opairs)?))
 }
 
 /// `reverse`.

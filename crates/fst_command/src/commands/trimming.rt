@@ -10,7 +10,7 @@ use crate::given::Given;
 use crate::made::Made;
 use crate::refusal::Refusal;
 use fst_semiring::Weight;
-use fst_trim::{Side, arcsort, into_connected};
+use fst_trim::{Side, into_arcsorted, into_connected};
 use fst_words::{Name, Options};
 use std::alloc::Global;
 
@@ -50,5 +50,5 @@ pub(crate) fn sorted<W: Weight>(
 {
     let machine = given.one();
     let side = side(&options.sort_type);
-    Ok(Made::Machine(arcsort(alloc, &machine, side)?))
+    Ok(Made::Machine(into_arcsorted(alloc, machine, side)?))
 }

@@ -16,7 +16,7 @@ use fst_semiring::Weight;
 use std::alloc::AllocError;
 
 /// Whether the arcs of each state stand behind those of the states before it.
-fn are_side_by_side<V>(slots: &[Slot<V>]) -> bool
+pub(super) fn are_side_by_side<V>(slots: &[Slot<V>]) -> bool
     ensures { result ≡ true → Follow 0 slots.now }
 {
     let mut behind = 0usize;

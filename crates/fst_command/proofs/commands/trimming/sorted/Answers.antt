@@ -10,6 +10,6 @@ pub returns : goal.returns
 returns g c =
     let kind = g.W.Weight.KIND in
     let value = g.W.Weight.value in
-    let made = c.in_ok-arcsort.field-0 in
+    let made = c.in_ok-into_arcsorted.field-0 in
     settled (arcsort_meaning c.args.options.now) kind value c.args.given (c.one-machine.result ∷ []) (Ok (machine kind (valued value made))) c.one-machine.ensures
-    ((λ fault stops. stops), (refl, sorts value kind c.side-side.result c.args.options.now.sort_type c.one-machine.result made c.side-side.ensures c.in_ok-arcsort.ensures.machine c.in_ok-arcsort.ensures.paths c.in_ok-arcsort.ensures.relation))
+    ((λ fault stops. stops), (refl, sorts value kind c.side-side.result c.args.options.now.sort_type c.one-machine.result made c.side-side.ensures c.in_ok-into_arcsorted.ensures.machine c.in_ok-into_arcsorted.ensures.paths c.in_ok-into_arcsorted.ensures.relation))
