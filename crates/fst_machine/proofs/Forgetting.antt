@@ -4,8 +4,8 @@ use Rattle.std.specs.List.{All, AllByRecursion}
 use Rattle.std.proofs.lemmas.List.{length-drop}
 use Rattle.std.proofs.lemmas.List.Elements.{All-drop, All-map, recursion_from_All}
 use Rattle.std.proofs.Math.Seq.{drop-drop}
-use Rattle.fst_machine.specs.Machine.{Arc, State}
-use Rattle.fst_machine.specs.Store.{Slot, LiesIn, kept_from, kept_state, kept_states, slot_arcs}
+use Rattle.fst_machine.specs.Machine.{Arc}
+use Rattle.fst_machine.specs.Store.{Slot, LiesIn, kept_from, kept_state, kept_states}
 use Rattle.fst_machine.specs.Forgetting.{BeginsFrom, first_back, moved_back}
 use Rattle.fst_machine.proofs.Retaining.{arcs_here}
 
