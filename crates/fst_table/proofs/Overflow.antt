@@ -1,6 +1,6 @@
 -- Probes that look at a bounded number of slots, and the map of the numbers that find none.
 use Rattle.std.proofs.Common.{◌≡◌, ◌≢◌, ℕ, ◌+◌, ◌-◌, ◌<◌, ◌≤◌, ◌==◌, List, [], ◌∷◌, Option, refl, length, drop, get_or, Some, None, cond, sym, ap, ◌∙◌, subst, arith, ◌⊎◌, inl, inr}
-use Rattle.std.specs.BTreeMap.{BTreeMap, IsOrdered, IsUnchanged, Updates, get, is_at}
+use Rattle.std.specs.BTreeMap.{BTreeMap, IsUnchanged, Updates, get, is_at}
 use Rattle.std.specs.Cmp.{eq_by_cmp_equiv, nat_cmp_total}
 use Rattle.std.specs.List.Sorted.{IsStrictlySortedBy}
 use Rattle.std.specs.Map.{keys_of, lookup}
@@ -10,7 +10,7 @@ use Rattle.std.specs.Prelude.{Err, Ok, OnErr, OnOk}
 use Rattle.std.specs.declared.result.Result.{Result}
 use Rattle.std.proofs.lemmas.List.{get_or-drop}
 use Rattle.std.proofs.lemmas.List.Sums.{fails_before_first}
-use Rattle.std.proofs.lemmas.Bool.{cases_eq, cases_lt, eq-eqb, le-ltb, lt-ltb, ne_eqb}
+use Rattle.std.proofs.lemmas.Bool.{cases_eq, eq-eqb, ne_eqb}
 use Rattle.std.proofs.lemmas.Bool.Decides.{nat_tests}
 use Rattle.std.proofs.lemmas.Map.{lookup-none}
 use Rattle.std.proofs.lemmas.Map.Entries.{none_past_head}
@@ -19,23 +19,13 @@ use Rattle.fst_table.specs.declared.flat_table.Slot.{Slot}
 use Rattle.fst_table.specs.Slots.{IsNear, IsOverflow, MeetsNoEmpty, Overflows, empty_slot, ends_probe, first_slot, place_at, placed_among, placed_in_slots, probe_end, probed_slot, window_end, with_place}
 use Rattle.fst_table.proofs.Slots.{ends-empty, place-empty, probe-holds}
 
-or-none : (o : Option ℕ) → option_or o None ≡ o
-or-none None = refl
-or-none (Some x) = refl
-
 -- A probe that looks at no more slots than its limit.
 module _ (xs : List Slot) (n : ℕ) where
   pub ends-within : probed_slot xs n < length xs → (probed_slot xs n ≡ probe_end xs n) × (probe_end xs n < window_end xs n)
-  ends-within within = go (cases_lt (probe_end xs n) (window_end xs n)) where
-    go : (probe_end xs n < window_end xs n) ⊎ (window_end xs n ≤ probe_end xs n) → (probed_slot xs n ≡ probe_end xs n) × (probe_end xs n < window_end xs n)
-    go (inl low) = (ap (λ b. cond b (probe_end xs n) (length xs)) (lt-ltb (probe_end xs n) (window_end xs n) low), low)
-    go (inr high) = absurd (let past = ap (λ b. cond b (probe_end xs n) (length xs)) (le-ltb (probe_end xs n) (window_end xs n) high) in omega arith)
+  ends-within within = (grind (arith, nat_tests), grind (arith, nat_tests))
 
   pub ends-past : length xs ≤ probed_slot xs n → window_end xs n ≤ probe_end xs n
-  ends-past past = go (cases_lt (probe_end xs n) (window_end xs n)) where
-    go : (probe_end xs n < window_end xs n) ⊎ (window_end xs n ≤ probe_end xs n) → window_end xs n ≤ probe_end xs n
-    go (inl low) = absurd (let ends = ap (λ b. cond b (probe_end xs n) (length xs)) (lt-ltb (probe_end xs n) (window_end xs n) low) in omega arith)
-    go (inr high) = high
+  ends-past past = grind (arith, nat_tests)
 
   -- where it meets no empty slot, the number is in no slot
   pub past-none : IsNear xs → length xs ≤ probed_slot xs n → placed_in_slots xs n ≡ None
@@ -50,13 +40,11 @@ module _ (xs : List Slot) (n : ℕ) where
       let high = ends-past past in
       let fails = fails_before_first (ends_probe n) (drop first xs) (k - first) empty_slot (omega arith) in
       let at : first + (k - first) ≡ k = omega arith in
-      let ends = ends-empty n (get_or xs k empty_slot) empty in
       let read = get_or-drop first xs (k - first) empty_slot ∙ ap (λ (j : ℕ). get_or xs j empty_slot) at in
-      absurd (let ends2 = ap (ends_probe n) read ∙ ends in cc)
+      absurd (let ends = ap (ends_probe n) read ∙ ends-empty n (get_or xs k empty_slot) empty in cc)
 
-  module _ (overflow : BTreeMap ℕ ℕ) where
-    pub past_told : IsNear xs → length xs ≤ probed_slot xs n → placed_among xs overflow n ≡ get nat_cmp overflow n
-    past_told near past = ap (λ o. option_or o (get nat_cmp overflow n)) (past-none near past)
+  pub past_told : (overflow : BTreeMap ℕ ℕ) → IsNear xs → length xs ≤ probed_slot xs n → placed_among xs overflow n ≡ get nat_cmp overflow n
+  past_told overflow near past = ap (λ o. option_or o (get nat_cmp overflow n)) (past-none near past)
 
 -- A number whose probe meets no empty slot is written in the map.
 module _ (xs : List Slot) (overflow more : BTreeMap ℕ ℕ) (n p : ℕ) (small : p < 4294967295) (near : IsNear xs) (past : length xs ≤ probed_slot xs n) (told : (m : ℕ) → get nat_cmp more m ≡ with_place (get nat_cmp overflow) n p m) where
@@ -91,14 +79,6 @@ pub record HasRest (found whole : ℕ → Option ℕ) (rest : List (ℕ × ℕ))
   pub ordered : IsStrictlySortedBy nat_cmp (keys_of rest)
   pub left : (n p : ℕ) → lookup (is_at (nat_cmp n)) rest ≡ Some p → (found n ≡ None) × (p < 4294967295)
   pub same : (n : ℕ) → option_or (found n) (lookup (is_at (nat_cmp n)) rest) ≡ whole n
-
--- at first all of them
-pub rest-all : (slots : List Slot) (overflow : BTreeMap ℕ ℕ) (found : ℕ → Option ℕ) → IsOrdered nat_cmp overflow → IsOverflow slots overflow → ((n : ℕ) → found n ≡ placed_in_slots slots n) → HasRest found (placed_among slots overflow) overflow.entries
-rest-all slots overflow found ordered overflows told = record {
-  ordered = ordered;
-  left = λ n p is. let over = overflows n p is in (told n ∙ over.1, over.2);
-  same = λ n. ap (λ o. option_or o (get nat_cmp overflow n)) (told n);
-}
 
 -- the first one
 finds-itself : (n p : ℕ) (rest : List (ℕ × ℕ)) → lookup (is_at (nat_cmp n)) ((n, p) ∷ rest) ≡ Some p
@@ -135,5 +115,9 @@ rest-less found more whole n p all rest is told has-all = record {
       ∙ ap (option_or (found m)) (sym (later m apart))
 
 -- and in the end none
+or-none : (o : Option ℕ) → option_or o None ≡ o
+or-none None = refl
+or-none (Some x) = refl
+
 pub rest-none : (found whole : ℕ → Option ℕ) → HasRest found whole [] → (n : ℕ) → found n ≡ whole n
 rest-none found whole has n = sym (or-none (found n)) ∙ has.same n
