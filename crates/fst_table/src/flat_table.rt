@@ -64,7 +64,7 @@ pub struct FlatTable {
     slots: Vec<Slot>,
     // The numbers whose probes met no empty slot. A slot never becomes empty, so that their probes never do.
     overflow: BTreeMap<u64, u32>,
-    // How many numbers were added, to the slots and to the map; it says no more than when the table grows.
+    // How many numbers stand in the slots; it says no more than when the table grows.
     used: usize,
     ghost probed: { IsProbed slots.items },
     ghost near: { IsNear slots.items },
@@ -155,6 +155,7 @@ impl FlatTable {
         let at = probe(&self.slots, number);
         if at < self.slots.len() {
             self.slots[at] = Slot::new(number, place);
+            self.used = self.used.saturating_add(1);
             return Ok(());
         }
         self.overflow.insert(number, place)?;
@@ -199,7 +200,6 @@ impl FlatTable {
         let mut more = Self::with_slots(*self.slots.allocator(), 2 * len + 64)?;
         more.fill_from_slots(self)?;
         more.fill_from_overflow(self)?;
-        more.used = self.used;
         Ok(more)
     }
 
@@ -208,7 +208,8 @@ impl FlatTable {
         ensures { (n : ℕ) → placed_in self.new n ≡ placed_in self.old n }
     {
         // Fuller, probes get long; emptier, the slots take more memory, which costs a look-up more than a short probe.
-        // The table grows for no other reason, so that the numbers do not tell how often it does.
+        // The table grows for no other reason: numbers that are chosen to meet in one slot stand in the map, and do not make
+        // it grow.
         if self.used >= self.slots.len() / 5 * 4 {
             *self = self.grown()?;
         }
@@ -223,8 +224,6 @@ impl FlatTable {
         ensures err { OnErr result ((n : ℕ) → placed_in self.new n ≡ placed_in self.old n) }
     {
         self.make_room()?;
-        self.put(number, place)?;
-        self.used = self.used.saturating_add(1);
-        Ok(())
+        self.put(number, place)
     }
 }
