@@ -2,10 +2,13 @@
 
 use crate::products::{add_arcs, closed};
 use fst_machine::Fst;
-use fst_rational::{closure, invert, project, read_pairs, relabel, reverse};
+use fst_rational::{
+    closure, into_inverted, into_projected, into_relabelled, invert, project, read_pairs, relabel,
+    reverse,
+};
 use fst_samples::{Triple, put};
 use fst_semiring::{ArcType, Weight};
-use fst_trim::{Side, arcsort, connect};
+use fst_trim::{Side, arcsort, connect, into_arcsorted, into_connected};
 use std::alloc::{AllocError, Global};
 use std::process::Abort;
 use std::test::Fail;
@@ -62,6 +65,33 @@ pub(crate) fn apply<W: Weight>(
         Change::Connect => connect(alloc, fst)?,
         Change::Star => closure(alloc, fst, false)?,
         Change::Plus => closure(alloc, fst, true)?,
+    };
+    Ok(made)
+}
+
+/// What the operation makes of a machine that is given away.
+pub(crate) fn apply_given<W: Weight>(
+    alloc: Global,
+    change: Change,
+    fst: Fst<W>,
+) -> Result<Fst<W>, Fail> {
+    let made = match change {
+        Change::Invert => into_inverted(alloc, fst)?,
+        Change::ProjectInput => into_projected(alloc, fst, false)?,
+        Change::ProjectOutput => into_projected(alloc, fst, true)?,
+        Change::Relabel => {
+            // The texts of `INPUT_PAIRS` and `OUTPUT_PAIRS`.
+            let input = read_pairs(alloc, b"1 2\n3 0\n")?;
+            let output = read_pairs(alloc, b"1 2\n2 0\n")?;
+            into_relabelled(alloc, fst, &input, &output)?
+        }
+        Change::SortInput => into_arcsorted(alloc, fst, Side::Input)?,
+        Change::SortOutput => into_arcsorted(alloc, fst, Side::Output)?,
+        Change::Connect => into_connected(alloc, fst)?,
+        Change::Reverse | Change::Star | Change::Plus => {
+            let fst = fst;
+            apply(alloc, change, &fst)?
+        }
     };
     Ok(made)
 }

@@ -1,6 +1,6 @@
 //! What each operation makes of small tropical machines, by hand.
 
-use crate::operations::{Change, apply, with_new_labels};
+use crate::operations::{Change, apply, apply_given, with_new_labels};
 use fst_machine::{Fst, MOST_STATES};
 use fst_rational::{PairsFault, RationalFault, concat, read_pairs, union};
 use fst_samples::{bare_states, chain, is_text, machine, without_start};
@@ -69,6 +69,17 @@ fn changes_one_machine(rt: HostRuntime) -> Result<(), Fail> {
     for (change, text, want) in &CHANGES {
         let fst: Fst<Tropical> = machine(alloc, text)?;
         let made = apply(alloc, *change, &fst)?;
+        assert!(rt; is_text(alloc, &made, want)?, "{change:?} of {text:?}");
+    }
+    Ok(())
+}
+
+#[test]
+fn changes_one_machine_that_is_given_away(rt: HostRuntime) -> Result<(), Fail> {
+    let alloc = rt.alloc();
+    for (change, text, want) in &CHANGES {
+        let fst: Fst<Tropical> = machine(alloc, text)?;
+        let made = apply_given(alloc, *change, fst)?;
         assert!(rt; is_text(alloc, &made, want)?, "{change:?} of {text:?}");
     }
     Ok(())
