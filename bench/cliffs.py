@@ -37,6 +37,13 @@ PATHS = [
     Row("rmepsilon, a chain of 10,000 epsilon arcs", "rmepsilon {long_epsilon_chain} {out}"),
     Row("shortestpath, a thousand of equal weight", "shortestpath --nshortest=1000 {forks} {out}"),
     Row("shortestpath, 100,000 from one state", "shortestpath --nshortest=100000 {fan} {out}"),
+    # A total after the other, with a pass over the arcs for each.
+    Row(
+        "shortestpath, a thousand of min-max (OpenFst: tropical)",
+        "shortestpath --nshortest=1000 {fan.minmax} {out}",
+        8,
+        theirs="shortestpath --nshortest=1000 {fan} {out}",
+    ),
 ]
 CLIFFS = [*FANS, *BETWEEN, *CHAINS, *DOUBLES, *NAMED, *PATHS]
 # It takes gigabytes.

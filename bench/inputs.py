@@ -52,6 +52,8 @@ RECIPES = [
     Recipe("--confusion", ("confusion",)),
     Recipe("--classes", ("classes",)),
     Recipe("--cycle", ("cycle",)),
+    # A batch, of as many lines as the size.
+    Recipe("--cascade", ("cascade", "other_cascade", "lines")),
     # The corners.
     Recipe("--word", ("word", "lexicon"), lambda size: [20, size // 10]),
     Recipe("--hubs", ("hub", "other_hub"), lambda size: [100, size // 10]),
@@ -133,6 +135,11 @@ class File:
     def lexicographic(self):
         """The machine of pairs of costs; OpenFst's tools do not have its arc type."""
         return self.made(".lexicographic", lambda path: ["compile", "--arc_type=lexicographic", self.text, path])
+
+    @property
+    def numbered(self):
+        """The machine with the states that are written."""
+        return self.made(".numbered", lambda path: ["compile", "--keep_state_numbering", self.text, path])
 
     @property
     def minmax(self):

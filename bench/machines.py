@@ -271,6 +271,36 @@ def write_cycle(path, states):
         out.write("0\n")
 
 
+def write_cascade(first, second, lines, count, seed=1):
+    """Writes the two machines and so many lines that `fst make` draws, as docs/FORMATS.md says."""
+    state = seed
+
+    def draw(end):
+        nonlocal state
+        state = (state * 6364136223846793005 + 1442695040888963407) % 2**64
+        return state // 2**33 % end
+
+    letters = range(ord("a"), ord("z") + 1)
+    with open(first, "w") as out:
+        for source in range(500):
+            for letter in letters:
+                written, weight, target = letters[draw(26)], draw(10), draw(500)
+                out.write(f"{source}\t{target}\t{letter}\t{written}\t{weight}\n")
+                weight, target = 5 + draw(10), draw(500)
+                out.write(f"{source}\t{target}\t{letter}\t0\t{weight}\n")
+            out.write(f"{source}\t{draw(5)}\n")
+    with open(second, "w") as out:
+        for source in range(200):
+            for letter in letters:
+                weight, target = draw(10), draw(200)
+                out.write(f"{source}\t{target}\t{letter}\t{letter}\t{weight}\n")
+            out.write(f"{source}\t0\n")
+    with open(lines, "w") as out:
+        for _ in range(count):
+            length = 1 + draw(12)
+            out.write("".join(chr(letters[draw(26)]) for _ in range(length)) + "\n")
+
+
 # What each mode writes, and how many files: their names come first, and numbers after them.
 MODES = {
     "--dense": (write_text, 1),
@@ -288,6 +318,7 @@ MODES = {
     "--classes": (write_classes, 1),
     "--cycle": (write_cycle, 1),
     "--confusion": (write_confusion, 1),
+    "--cascade": (write_cascade, 3),
     "--useless": (corners.write_useless, 1),
     "--huge": (corners.write_huge, 1),
     "--between": (corners.write_between, 1),

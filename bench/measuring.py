@@ -4,6 +4,7 @@ import os
 import re
 import subprocess
 import sys
+import time
 from statistics import median
 from typing import NamedTuple
 
@@ -16,10 +17,11 @@ LONG = 40
 
 
 class Run(NamedTuple):
-    """Processor seconds, user and system, and the peak resident KiB."""
+    """Processor seconds, user and system, the peak resident KiB, and seconds by the clock."""
 
     seconds: float
     peak: int
+    clock: float
 
 
 class Sides(NamedTuple):
@@ -71,23 +73,31 @@ def measured(argv, stdout="/dev/null"):
     with subprocess.Popen(["sh", "-c", WAITING, "sh", stdout, *argv], stdin=subprocess.PIPE, stdout=subprocess.PIPE) as shell:
         child = int(shell.stdout.readline())
         shell.wait()
+        began = time.monotonic()
         shell.stdin.write(b"go\n")
     _, status, usage = os.wait4(child, 0)
     if status != 0:
         sys.exit(f"{' '.join(argv)} ended with status {os.waitstatus_to_exitcode(status)}")
-    return Run(usage.ru_utime + usage.ru_stime, usage.ru_maxrss)
+    return Run(usage.ru_utime + usage.ru_stime, usage.ru_maxrss, time.monotonic() - began)
+
+
+def in_turn(commands, rounds, long=LONG):
+    """The runs of commands in turn, the other way round by turns; so many, or fewer where they take long, but one at least."""
+    runs = [[] for _ in commands]
+    spent = 0.0
+    for turn in range(rounds):
+        if turn and spent > long:
+            break
+        order = list(zip(runs, commands))
+        for own, argv in order if turn % 2 == 0 else reversed(order):
+            own.append(measured(argv))
+            spent += own[-1].seconds
+    return runs
 
 
 def compared(ours, theirs, rounds, long=LONG):
-    """The runs of two programs in turn, which go first by turns; so many, or fewer where they take long, but one at least."""
-    sides = Sides([], [])
-    spent = 0.0
-    while len(sides.ours) < rounds and spent < long:
-        order = [(sides.ours, ours), (sides.theirs, theirs)]
-        for runs, argv in order if len(sides.ours) % 2 == 0 else reversed(order):
-            runs.append(measured(argv))
-            spent += runs[-1].seconds
-    return sides
+    """The runs of two programs in turn."""
+    return Sides(*in_turn([ours, theirs], rounds, long))
 
 
 def refusal(argv):

@@ -5,8 +5,8 @@
                     [--large] [--table | --growth] [--gate]
 
 The runs of the two programs alternate, so that a slow minute of the machine falls on both. For each run the processor time (user
-and system) and the peak resident size are taken; the tables show medians. The parts are forms, operations, algebra, cliffs and
-crafted; without --only all are shown. --table shows the first three in one table with a line for each command, --growth their
+and system) and the peak resident size are taken; the tables show medians. The parts are forms, operations, algebra, cliffs,
+crafted and batch; without --only all are shown. --table shows the first three in one table with a line for each command, --growth their
 instructions, which no load changes. With --large the machine of the cliffs is added that takes gigabytes.
 
 With --gate the status is 1 where a ratio passes the bound of its row at 10^6 arcs, where an operation takes more than GROWTH times
@@ -22,11 +22,12 @@ import tempfile
 from statistics import mean, median
 
 import tables
+from batch import LINES, batch
 from cliffs import CLIFFS, LARGE
 from crafted import KEYS, crafted
 from growth import growth
 from inputs import Inputs
-from measuring import adopt, compared, lacks, measured
+from measuring import adopt, compared, in_turn, lacks, measured
 from rows import ALGEBRA, FORMS, OPERATIONS
 
 # Where the start stands in a tropical binary file.
@@ -37,7 +38,7 @@ BOUND_SIZE = 1_000_000
 GROWTH = 20
 # Bounds of what stands by itself: megabytes a second, milliseconds, and times as long.
 MEGABYTES, CALL, SHUFFLED = 300, 5, 1.5
-PARTS = ["forms", "operations", "algebra", "cliffs", "crafted"]
+PARTS = ["forms", "operations", "algebra", "cliffs", "crafted", "batch"]
 
 
 def compare(rows, inputs, rounds, tell):
@@ -97,11 +98,7 @@ def reading_alone(inputs, rounds):
 def shuffled_alone(inputs, rounds):
     """How much more texts with gaps cost than the dense one: medians of runs that alternate, so that they share slow minutes."""
     commands = [inputs.words(f"compile {{{name}.text}} {{out}}", "ours") for name in ("dense", "gaps", "wide_gaps")]
-    times = [[] for _ in commands]
-    for _ in range(rounds):
-        for runs, argv in zip(times, commands):
-            runs.append(measured(argv).seconds)
-    dense, *others = map(median, times)
+    dense, *others = (median(run.seconds for run in runs) for runs in in_turn(commands, rounds))
     return [other / dense for other in others]
 
 
@@ -173,6 +170,7 @@ def read_words():
     words.add_argument("--only", choices=PARTS)
     words.add_argument("--rows", default="", type=re.compile, help="a pattern: only rows whose names have it")
     words.add_argument("--keys", type=int, default=KEYS, help="how many crafted keys")
+    words.add_argument("--lines", type=int, default=LINES, help="how many lines a batch has")
     words.add_argument("--folder", default="/dev/shm", help="where the files stand meanwhile")
     for flag in "--large", "--table", "--growth", "--gate":
         words.add_argument(flag, action="store_true")
@@ -197,6 +195,9 @@ def measure(words, scratch):
             print()
     if words.only in (None, "crafted"):
         over = crafted(words.fst, words.rounds, scratch, words.keys, lambda name: words.rows.search(name)) or over
+        print()
+    if words.only in (None, "batch"):
+        over = batch(words.fst, words.rounds, scratch, words.lines) or over
     return over
 
 
