@@ -1,7 +1,9 @@
 """The rows of crafted keys: inputs whose keys a stranger chose, each beside one with as many plain keys."""
 import os
 import random
+import string
 import tempfile
+from itertools import product
 from typing import Callable, NamedTuple
 
 import crafted_keys as keys
@@ -11,6 +13,8 @@ from rows import MOST
 
 # How many keys, and how many states a machine has whose pairs are keys.
 KEYS, PAIR_STATES = 20_000, 4096
+# The states to which words of three letters lead; those that they pass are before them.
+WORD_ENDS = range(4096, 8192)
 # How many times as long as the plain keys the crafted ones may take.
 MOST_TIMES = 2.0
 # Behind so many seconds of both runs there are no more rounds.
@@ -95,6 +99,22 @@ def weights_text(weights):
     return {"machine": [*arcs, "1\n"]}
 
 
+def batch_text(pairs):
+    """Words of three letters, and two machines that read them, in which each word leads to a pair of states."""
+    letters = string.ascii_letters[: next(few for few in range(1, 53) if few**3 >= len(pairs))]
+    few = len(letters)
+    codes = [ord(letter) for letter in letters]
+    before = [f"0\t{1 + i}\t{a}\t{a}\n" for i, a in enumerate(codes)]
+    before += [f"{1 + i}\t{1 + few + few * i + j}\t{b}\t{b}\n" for i in range(few) for j, b in enumerate(codes)]
+    machines = {}
+    for name, side in ("machine", 0), ("other", 1):
+        ends = [pair[side] for pair in pairs]
+        last = [f"{1 + few + place // few}\t{end}\t{codes[place % few]}\t{codes[place % few]}\n" for place, end in enumerate(ends)]
+        machines[name] = before + last + [f"{end}\n" for end in sorted(set(ends))]
+    words = ("".join(word) + "\n" for _, word in zip(pairs, product(letters, repeat=3)))
+    return machines | {"lines": list(words)}
+
+
 def plain_subsets(draw, count):
     """As many states with a second state and a residual."""
     return [(state, draw.randrange(2 * count, 2 * count + 400), draw.randrange(1, keys.NUMBERS)) for state in range(1, count + 1)]
@@ -137,6 +157,13 @@ KINDS = [
         plain_pairs,
         compose_text,
         f"compose {MOST} {{machine}} {{other}} {{out}}",
+    ),
+    Kind(
+        "pairs of states of a batch",
+        lambda count: keys.name_pairs(count, WORD_ENDS),
+        lambda draw, count: [(draw.choice(WORD_ENDS), draw.choice(WORD_ENDS)) for _ in range(count)],
+        batch_text,
+        "batch {machine.numbered} {other.numbered} {lines.text} {out}",
     ),
     Kind("subsets", keys.subsets, plain_subsets, subsets_text, f"determinize {MOST} {{machine}} {{out}}"),
     Kind(

@@ -100,14 +100,14 @@ def written_wide(state, number):
     return folded(number % WORD ^ (state + 16) % WORD, number >> 64 ^ MULTIPLIER)
 
 
-def tried(count, state_of, least=1):
-    """So many numbers from the least on that begin in the first groups of a map of so many keys, by the last state of the hasher."""
+def tried(count, state_of, candidates):
+    """So many of these keys that begin in the first groups of a map of so many, by the last state of the hasher for each."""
     groups = 1
     while 9 * groups < count:
         groups *= 2
     last, first = groups - 1, max(1, groups // PARTS)
-    states = ((number, state_of(number)) for number in numbers_from(least))
-    return list(islice((number for number, state in states if (state ^ state >> 32) & last < first), count))
+    states = ((key, state_of(key)) for key in candidates)
+    return list(islice((key for key, state in states if (state ^ state >> 32) & last < first), count))
 
 
 def names(count):
@@ -117,7 +117,7 @@ def names(count):
 
 def labels(count, least=1):
     """So many labels from the least on that begin in the first groups of a map of labels."""
-    return tried(count, lambda label: written(BEGIN, label, 4), least)
+    return tried(count, lambda label: written(BEGIN, label, 4), numbers_from(least))
 
 
 def entries(count):
@@ -135,10 +135,16 @@ def entries(count):
 def arc_labels(count, ilabel, target):
     """So many output labels of arcs with one input label and one next state that begin in the first groups of a map of arcs."""
     before = written(BEGIN, ilabel, 4)
-    return tried(count, lambda label: written(written(before, label, 4), target, 4))
+    return tried(count, lambda label: written(written(before, label, 4), target, 4), numbers_from(1))
+
+
+def name_pairs(count, states):
+    """So many pairs of these states of two machines whose names begin in the first groups of a map of names."""
+    named = ((first, second) for second in states for first in states)
+    return tried(count, lambda pair: written_class(written(written(BEGIN, pair[0], 4), pair[1], 4), 0), named)
 
 
 def weights(count):
     """So many weights that begin in the first groups of a map of weights, as states are told apart by them."""
     before = written_class(BEGIN, 1)
-    return tried(count, lambda weight: written_wide(written_wide(before, weight), 0))
+    return tried(count, lambda weight: written_wide(written_wide(before, weight), 0), numbers_from(1))

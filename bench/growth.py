@@ -39,7 +39,7 @@ def counted(fst, rows, sizes, scratch, limit):
     return found
 
 
-def growth(fst, rows, sizes, scratch, limit=LIMIT):
+def growth(fst, rows, sizes, scratch, limit):
     """Shows the millions of instructions of each row by size and how they grow. Gives whether some grow by too great a power."""
     steps = list(zip(sizes, sizes[1:]))
     powers = [f"power, {size_name(less)} to {size_name(more)}" for less, more in steps]

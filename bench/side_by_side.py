@@ -25,7 +25,7 @@ import tables
 from batch import LINES, batch
 from cliffs import CLIFFS, LARGE
 from crafted import KEYS, crafted
-from growth import growth
+from growth import LIMIT, growth
 from inputs import Inputs
 from measuring import adopt, compared, in_turn, lacks, measured
 from rows import ALGEBRA, FORMS, OPERATIONS
@@ -81,7 +81,7 @@ def by_size(rows, words, scratch, behind=lambda inputs: False):
 
 def reading_alone(inputs, rounds):
     """Megabytes and megabytes a second of reading a binary file whose machine prints as nothing."""
-    with open(inputs.words("{dense}", "ours")[1], "rb") as file:
+    with open(inputs.words("print {dense}", "ours")[2], "rb") as file:
         content = bytearray(file.read())
     # The machine's start, behind the magic number, the two type names, the version, the flags and the properties; with none
     # nothing is printed.
@@ -171,6 +171,7 @@ def read_words():
     words.add_argument("--rows", default="", type=re.compile, help="a pattern: only rows whose names have it")
     words.add_argument("--keys", type=int, default=KEYS, help="how many crafted keys")
     words.add_argument("--lines", type=int, default=LINES, help="how many lines a batch has")
+    words.add_argument("--limit", type=int, default=LIMIT, help="the most seconds for counting the instructions of a row")
     words.add_argument("--folder", default="/dev/shm", help="where the files stand meanwhile")
     for flag in "--large", "--table", "--growth", "--gate":
         words.add_argument(flag, action="store_true")
@@ -187,7 +188,7 @@ def measure(words, scratch):
     if words.table:
         return one_table(commands, words, scratch)
     if words.growth:
-        return growth(words.fst, commands, words.sizes, scratch)
+        return growth(words.fst, commands, words.sizes, scratch, words.limit)
     over = False
     for part, shown in ("forms", forms), ("operations", operations), ("algebra", operations), ("cliffs", cliffs):
         if wanted[part]:
