@@ -100,15 +100,12 @@ def compared(ours, theirs, rounds, long=LONG):
     return Sides(*in_turn([ours, theirs], rounds, long))
 
 
-def refusal(argv):
-    """What a program says where it does not take these words, else nothing."""
-    run = subprocess.run(argv, stdin=subprocess.DEVNULL, stdout=subprocess.DEVNULL, stderr=subprocess.PIPE)
-    return run.stderr.decode("utf-8", "replace").strip() if run.returncode != 0 else ""
-
-
 def lacks(argv):
-    """Whether the program does not have the command of these words."""
-    return "bad command line" in refusal(argv)
+    """Whether the program does not have the command of these words. It is asked with files that are not there, which takes no
+    time; what else it says of them is of no matter."""
+    words = ["/absent" if word.startswith("/") else word for word in argv[1:]]
+    run = subprocess.run([argv[0], *words], stdin=subprocess.DEVNULL, stdout=subprocess.DEVNULL, stderr=subprocess.PIPE)
+    return run.returncode == 1 and b"bad command line" in run.stderr
 
 
 def counts_in_hardware():
