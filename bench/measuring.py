@@ -102,8 +102,8 @@ def compared(ours, theirs, rounds, long=LONG):
 
 def lacks(argv):
     """Whether the program does not have the command of these words. It is asked with files that are not there, which takes no
-    time; what else it says of them is of no matter."""
-    words = ["/absent" if word.startswith("/") else word for word in argv[1:]]
+    time; what else it says of them is of no matter. Their names differ, since two outputs may not have one."""
+    words = [f"/absent/{place}" if word.startswith("/") else word for place, word in enumerate(argv[1:])]
     run = subprocess.run([argv[0], *words], stdin=subprocess.DEVNULL, stdout=subprocess.DEVNULL, stderr=subprocess.PIPE)
     return run.returncode == 1 and b"bad command line" in run.stderr
 
