@@ -12,24 +12,24 @@ FANS = [
     Row("compose, a word of 20 letters and a lexicon", "compose {word} {lexicon} {out}", memory=COMPOSE_MEMORY),
     Row("compose, a word of 20 letters and a lexicon, turned", "compose {lexicon} {word} {out}", memory=COMPOSE_MEMORY),
     Row("compose, two hubs of which 100 arcs match", "compose {hub} {other_hub} {out}", memory=COMPOSE_MEMORY),
-    Row("compose, two hubs whose arcs all match", f"compose {MOST} {{equal}} {{other_equal}} {{out}}", 0.6, 2.5, "compose {equal} {other_equal} {out}"),
+    Row("compose, two hubs whose arcs all match", f"compose {MOST} {{equal}} {{other_equal}} {{out}}", 1.0, 2.6, "compose {equal} {other_equal} {out}"),
 ]
 # All arcs between two states.
 BETWEEN = [
-    Row("invert, two states", "invert {between} {out}"),
-    Row("closure, two states", "closure {between} {out}"),
-    Row("connect, two states", "connect {between} {out}"),
+    Row("invert, two states", "invert {between} {out}", 0.7, 2.8),
+    Row("closure, two states", "closure {between} {out}", 0.7, 2.8),
+    Row("connect, two states", "connect {between} {out}", 0.7, 2.8),
 ]
 # One path.
 CHAINS = [
     Row("connect, a chain", "connect {chain} {out}"),
     Row("info, a chain", "info {chain}"),
-    Row("reverse, a chain", "reverse {chain} {out}"),
-    Row("closure, a chain", "closure {chain} {out}"),
+    Row("reverse, a chain", "reverse {chain} {out}", 0.6),
+    Row("closure, a chain", "closure {chain} {out}", 0.6),
 ]
 # Pairs of costs beside OpenFst's single ones, which are half as long: its tools do not have the arc type.
 DOUBLES = [
-    Row("invert, pairs of costs (OpenFst: tropical)", "invert {doubles.lexicographic} {out}", 0.6, 2.0, "invert {dense} {out}"),
+    Row("invert, pairs of costs (OpenFst: tropical)", "invert {doubles.lexicographic} {out}", 0.7, 2.0, "invert {dense} {out}"),
 ]
 # Names of 60 bytes in a table of each side, as many as arcs.
 NAMED = [
@@ -42,7 +42,7 @@ PATHS = [
     Row("rmepsilon, a chain of 1,000 epsilon arcs", "rmepsilon {epsilon_chain} {out}", UNBOUNDED, UNBOUNDED),
     Row("rmepsilon, a chain of 10,000 epsilon arcs", "rmepsilon {long_epsilon_chain} {out}", UNBOUNDED, UNBOUNDED),
     Row("shortestpath, a thousand of equal weight", "shortestpath --nshortest=1000 {forks} {out}"),
-    Row("shortestpath, 100,000 from one state", "shortestpath --nshortest=100000 {fan} {out}"),
+    Row("shortestpath, 100,000 from one state", "shortestpath --nshortest=100000 {fan} {out}", 0.7),
     # A total after the other, with a pass over the arcs for each.
     Row(
         "shortestpath, a thousand of min-max (OpenFst: tropical)",
