@@ -29,7 +29,7 @@ def counted(fst, rows, sizes, scratch, limit):
             inputs = Inputs(fst, folder, size)
             for row in rows:
                 before, took = spent.get(row.name, (size, 0))
-                argv = row.argv(inputs)[0]
+                argv = inputs.words(row.words, "ours")
                 if took * size / before > limit or lacks(argv):
                     found[row.name].append(None)
                     continue
