@@ -4,33 +4,14 @@ Every weight is a whole number below 1,000, so that a 32-bit float holds it exac
 numbered in the order of first appearance, so that every program reads the same machine; with a gap the
 same machine has its state numbers permuted and spread out, as multiples of the gap.
 
-    machines.py PATH ARCS [GAP]
-    machines.py --symbols TABLE COUNT [PATH ARCS]
-    machines.py --chain PATH STATES
-    machines.py --pairs PATH COUNT
-    machines.py --rules ROOT RULE LABEL ARCS
-    machines.py --pair FIRST SECOND STATES
-    machines.py --word WORD LEXICON LETTERS ARCS
-    machines.py --hubs FIRST SECOND MATCHES ARCS
-    machines.py --epsilons PATH ARCS
-    machines.py --lattice PATH LAYERS WIDTH
-    machines.py --words PATH ARCS
-    machines.py --classes PATH ARCS
-    machines.py --cycle PATH STATES
+    machines.py MODE FILE.. NUMBER..
 
-With --symbols the labels are written by their names in a table of so many symbols, which is written too.
-With --chain each state has one arc, to the next one, and the last is final. With --pairs so many labels
-below 5,000 are given new ones. With --rules a root and a rule of 100 arcs are written, of which the root calls
-the rule by the label so often that with all calls replaced there are about so many arcs. With --pair two machines of so many states are written to be
-composed: 20 arcs a state over 60 labels, one in ten of which writes, or reads, epsilon. With --word a word of so many letters
-is written, and a lexicon of one state with so many arcs, in order, which reads them; with --hubs two machines whose starts have so
-many arcs in order, of which so many match. With --epsilons half of the arcs are epsilon, within blocks of 16 states; with --lattice
-each state of a layer has five arcs to states of the next; with --words each word of a lexicon is a chain of arcs from one start; with
---classes a deterministic acceptor with cycles is written, about eight of whose states behave as one once weights are pushed; with
---cycle one path through so many states that comes back to its first, the only final one.
+The modes are those of `MODES`, each with the number of its files: a function here or in `corner_machines.py` says what it writes.
 """
 import random
 import sys
+
+import corner_machines as corners
 
 
 def arcs_by_state(arcs, seed):
@@ -82,6 +63,12 @@ def write_text(path, arcs, gap=None, seed=1, label_text=str):
             if state % 6 == 0:
                 lines.append(f"{source}\t{state % 1000}\n")
             out.write("".join(lines))
+
+
+def write_named(table, path, count, arcs):
+    """Writes a table of so many symbols, and a machine whose labels are written by their names in it."""
+    write_symbols(table, count)
+    write_text(path, arcs, label_text=symbol)
 
 
 def write_chain(path, states, seed=1):
@@ -256,6 +243,27 @@ def write_classes(path, arcs, seed=1, letters=10, alike=8):
                 out.write(f"{state}\t{finals[own] + hidden[state]}\n")
 
 
+def write_confusion(path, arcs, seed=1, depth=12, width=3):
+    """Writes layers of three states with two labels behind three rarer ones, group by group from one start, until there are so
+    many arcs: a word reaches up to three states of a layer, each with a weight of its own."""
+    draw = random.Random(seed)
+    written, first = 0, 1
+    with open(path, "w") as out:
+        while written < arcs:
+            key = [draw.randrange(1, 27) for _ in range(3)]
+            sources = [0]
+            for layer in range(depth):
+                targets = range(first, first + width)
+                for source in sources:
+                    for target in targets:
+                        label = key[layer] if layer < len(key) else draw.randrange(1, 3)
+                        out.write(f"{source}\t{target}\t{label}\t{label}\t{draw.randrange(4)}\n")
+                written += len(sources) * width
+                first += width
+                sources = targets
+            out.writelines(f"{state}\t{draw.randrange(4)}\n" for state in sources)
+
+
 def write_cycle(path, states):
     """Writes a cycle through so many states, no two of which do the same, though only one is final."""
     with open(path, "w") as out:
@@ -263,8 +271,41 @@ def write_cycle(path, states):
         out.write("0\n")
 
 
+def write_cascade(first, second, lines, count, seed=1):
+    """Writes the two machines and so many lines that `fst make` draws, as docs/FORMATS.md says."""
+    state = seed
+
+    def draw(end):
+        nonlocal state
+        state = (state * 6364136223846793005 + 1442695040888963407) % 2**64
+        return state // 2**33 % end
+
+    letters = range(ord("a"), ord("z") + 1)
+    with open(first, "w") as out:
+        for source in range(500):
+            for letter in letters:
+                written, weight, target = letters[draw(26)], draw(10), draw(500)
+                out.write(f"{source}\t{target}\t{letter}\t{written}\t{weight}\n")
+                weight, target = 5 + draw(10), draw(500)
+                out.write(f"{source}\t{target}\t{letter}\t0\t{weight}\n")
+            out.write(f"{source}\t{draw(5)}\n")
+    with open(second, "w") as out:
+        for source in range(200):
+            for letter in letters:
+                weight, target = draw(10), draw(200)
+                out.write(f"{source}\t{target}\t{letter}\t{letter}\t{weight}\n")
+            out.write(f"{source}\t0\n")
+    with open(lines, "w") as out:
+        for _ in range(count):
+            length = 1 + draw(12)
+            out.write("".join(chr(letters[draw(26)]) for _ in range(length)) + "\n")
+
+
 # What each mode writes, and how many files: their names come first, and numbers after them.
 MODES = {
+    "--dense": (write_text, 1),
+    "--symbols": (write_symbols, 1),
+    "--named": (write_named, 2),
     "--chain": (write_chain, 1),
     "--pairs": (write_pairs, 1),
     "--rules": (write_rules, 2),
@@ -276,16 +317,20 @@ MODES = {
     "--words": (write_words, 1),
     "--classes": (write_classes, 1),
     "--cycle": (write_cycle, 1),
+    "--confusion": (write_confusion, 1),
+    "--cascade": (write_cascade, 3),
+    "--useless": (corners.write_useless, 1),
+    "--huge": (corners.write_huge, 1),
+    "--between": (corners.write_between, 1),
+    "--equal": (corners.write_equal, 2),
+    "--epsilon-chain": (corners.write_epsilon_chain, 1),
+    "--forks": (corners.write_forks, 1),
+    "--fan": (corners.write_fan, 1),
+    "--long-names": (corners.write_long_names, 3),
+    "--doubles": (corners.write_doubles, 1),
 }
 
 
 if __name__ == "__main__":
-    if sys.argv[1] in MODES:
-        write, files = MODES[sys.argv[1]]
-        write(*sys.argv[2 : 2 + files], *map(int, sys.argv[2 + files :]))
-    elif sys.argv[1] == "--symbols":
-        write_symbols(sys.argv[2], int(sys.argv[3]))
-        if len(sys.argv) > 4:
-            write_text(sys.argv[4], int(sys.argv[5]), label_text=symbol)
-    else:
-        write_text(sys.argv[1], *map(int, sys.argv[2:]))
+    write, files = MODES[sys.argv[1]]
+    write(*sys.argv[2 : 2 + files], *map(int, sys.argv[2 + files :]))

@@ -1,382 +1,216 @@
 #!/usr/bin/env python3
 """fst beside OpenFst's tools on the same inputs, in one run.
 
-    side_by_side.py [--fst PATH] [--sizes 10000,100000,1000000] [--rounds 5] [--only forms|operations|algebra] [--gate]
+    side_by_side.py [--fst PATH] [--sizes 10000,100000,1000000] [--rounds 5] [--only PART] [--rows PATTERN] [--keys 20000]
+                    [--large] [--table | --growth] [--gate]
 
-The runs of the two programs alternate, so that a slow minute of the machine falls on both. For each run
-the processor time (user and system) and the peak resident size are taken; the table shows medians. With
---gate the status is 1 where a ratio passes the bound of its row, where an operation takes more than GROWTH
-times as long for ten times the arcs, or where the program does not have a command.
+The runs of the two programs alternate, so that a slow minute of the machine falls on both. For each run the processor time (user
+and system) and the peak resident size are taken; the tables show medians. The parts are forms, operations, algebra, cliffs,
+crafted and batch; without --only all are shown. --table shows the first three in one table with a line for each command, --growth their
+instructions, which no load changes. With --large the machine of the cliffs is added that takes gigabytes.
+
+With --gate the status is 1 where a ratio passes the bound of its row at 10^6 arcs, where an operation takes more than GROWTH times
+as long for ten times the arcs, where instructions grow by more than the power 1.1, where crafted keys take more than twice as long
+as plain ones, or where the program does not have a command.
 """
 import argparse
 import os
+import re
 import shutil
-import statistics
-import subprocess
 import sys
 import tempfile
+from statistics import mean, median
 
-MACHINES = os.path.join(os.path.dirname(os.path.abspath(__file__)), "machines.py")
+import tables
+from batch import LINES, batch
+from cliffs import CLIFFS, LARGE
+from crafted import KEYS, crafted
+from growth import LIMIT, growth
+from inputs import Inputs
+from measuring import adopt, compared, in_turn, lacks, measured
+from rows import ALGEBRA, FORMS, OPERATIONS
+
 # Where the start stands in a tropical binary file.
 START = 42
-# The most states that a machine has.
-MOST_STATES = 4_194_304
-# How many labels are changed.
-PAIRS = 1000
-# The labels of the root and of the rule that it calls.
-ROOT, CALL = 1_000_000, 1_000_001
-# The bounds of an operation on the ratios of time and of memory, and the bound of a composition on memory.
-TIME, MEMORY, COMPOSE_MEMORY = 0.5, 1.7, 2.0
-# How many arcs the composition of two machines of one state each would have: two machines of n states make n * n times
-# as many.
-PAIR_ARCS = 14
-# How many arcs a state of these machines has; what they are, their names, and how many letters the word has and how many
-# arcs of the hubs match.
-FAN = 100_000
-FANS = [
-    ("a word of 20 letters and a lexicon", "--word", ("word", "lexicon"), (20, FAN)),
-    ("two hubs of which 100 arcs match", "--hubs", ("hub", "other_hub"), (100, FAN)),
-]
+# The size from which the bounds hold.
+BOUND_SIZE = 1_000_000
 # How many times as long an operation may take for ten times the arcs.
 GROWTH = 20
-# The operations: the command and its words, in which {0} is a machine and {1} a file of pairs. Both programs
-# take the same words, and a name for what they write but for `info`.
-OPERATIONS = [
-    ("union", "{0} {0}"),
-    ("concat", "{0} {0}"),
-    ("closure", "{0}"),
-    ("invert", "{0}"),
-    ("project", "{0}"),
-    ("reverse", "{0}"),
-    ("relabel", "--relabel_ipairs={1} --relabel_opairs={1} {0}"),
-    ("arcsort", "--sort_type=ilabel {0}"),
-    ("connect", "{0}"),
-    ("info", "{0}"),
-    ("shortestdistance", "{0}"),
-]
-# `encode` both ways, in whose words {0} is a machine beside which stand its codex and what is encoded.
-CODING = [
-    ("encode", "--encode_labels {0} {0}.codex"),
-    ("encode --decode", "--decode {0}.encoded {0}.codex"),
-]
-# The algebra: the row, the machine, the command and its words, and the bound on the ratio of time. The words are a lexicon of chains,
-# `trie` is its deterministic machine, `classes` is deterministic with cycles, and `cycle` is one long cycle.
-ALGEBRA = [
-    ("rmepsilon", "epsilons", "rmepsilon", "{0}", TIME),
-    ("rmepsilon, first in first out", "epsilons", "rmepsilon", "--queue_type=fifo {0}", TIME),
-    ("shortestdistance, best first", "epsilons", "shortestdistance", "--queue_type=shortest {0}", 1.0),
-    ("shortestdistance to the final states", "epsilons", "shortestdistance", "--reverse {0}", TIME),
-    ("shortestpath", "lattice", "shortestpath", "{0}", 1.0),
-    ("shortestpath, a thousand", "lattice", "shortestpath", "--nshortest=1000 {0}", TIME),
-    ("determinize, words", "words", "determinize", "{0}", TIME),
-    ("push, a trie", "trie", "push", "--push_weights {0}", TIME),
-    ("push, with cycles", "classes", "push", "--push_weights {0}", TIME),
-    ("minimize, a trie", "trie", "minimize", "{0}", TIME),
-    ("minimize, with cycles", "classes", "minimize", "{0}", TIME),
-    ("minimize, one cycle", "cycle", "minimize", "{0}", TIME),
-]
-# How many layers a lattice has, and how many arcs a state of it.
-LAYERS, LATTICE_FAN = 100, 5
-# Those that go along the paths of a machine: they also take the longest chain.
-DEEP = ["connect", "info"]
+# Bounds of what stands by itself: megabytes a second, milliseconds, and times as long.
+MEGABYTES, CALL, SHUFFLED = 300, 5, 1.5
+PARTS = ["forms", "operations", "algebra", "cliffs", "crafted", "batch"]
 
 
-def measured(argv, stdout):
-    """Processor seconds and peak resident KiB of one run."""
-    with open(stdout, "wb") as out:
-        child = subprocess.Popen(argv, stdin=subprocess.DEVNULL, stdout=out)
-        _, status, usage = os.wait4(child.pid, 0)
-        child.returncode = os.waitstatus_to_exitcode(status)
-    if child.returncode != 0:
-        sys.exit(f"{argv} ended with status {child.returncode}")
-    return usage.ru_utime + usage.ru_stime, usage.ru_maxrss
-
-
-def compared(ours, theirs, rounds, scratch):
-    """Medians of both programs over alternating runs."""
-    times = {"ours": [], "theirs": []}
-    peaks = {"ours": [], "theirs": []}
-    for turn in range(rounds):
-        order = [("ours", ours), ("theirs", theirs)]
-        for side, argv in order if turn % 2 == 0 else reversed(order):
-            seconds, peak = measured(argv, os.path.join(scratch, side + ".stdout"))
-            times[side].append(seconds)
-            peaks[side].append(peak)
-    return {side: (statistics.median(times[side]), statistics.median(peaks[side])) for side in times}
-
-
-def lacks(argv):
-    """Whether the program does not have the command of these words."""
-    run = subprocess.run(argv, stdin=subprocess.DEVNULL, stdout=subprocess.DEVNULL, stderr=subprocess.PIPE)
-    return run.returncode == 1 and b"bad command line" in run.stderr
-
-
-def machine_files(fst, text, scratch, name="machine"):
-    """The machine of a text as a file of each program."""
-    ours, theirs = os.path.join(scratch, name + ".ours"), os.path.join(scratch, name + ".theirs")
-    subprocess.run([fst, "compile", text, ours], check=True)
-    subprocess.run(["fstcompile", text, theirs], check=True)
-    return ours, theirs
-
-
-def operation(fst, command, words, files, pairs, scratch):
-    """Our words and theirs of an operation on a machine."""
-    ours, theirs = (words.format(file, pairs).split() for file in files)
-    out = os.path.join(scratch, "out")
-    if command != "info":
-        ours, theirs = [*ours, out + ".ours"], [*theirs, out + ".theirs"]
-    return [fst, command, *ours], ["fst" + command, *theirs]
-
-
-def coding_cases(fst, files, scratch):
-    """The rows of `encode`, both ways, on a machine."""
-    for encode, file in zip(([fst, "encode"], ["fstencode"]), files):
-        subprocess.run([*encode, "--encode_labels", file, file + ".codex", file + ".encoded"], check=True)
-    return [(name, *operation(fst, "encode", words, files, None, scratch), TIME, MEMORY) for name, words in CODING]
-
-
-def two_machines(fst, mode, names, words, size, scratch):
-    """Two machines that are written together, as files of our program and as files of theirs."""
-    texts = [os.path.join(scratch, f"{name}.{size}.txt") for name in names]
-    subprocess.run([sys.executable, MACHINES, mode, *texts, *map(str, words)], check=True)
-    return zip(*(machine_files(fst, text, scratch, name) for text, name in zip(texts, names)))
-
-
-def rules_cases(fst, size, scratch):
-    """The row of `replace`: a chain whose calls of one rule, replaced, make that many arcs."""
-    files = two_machines(fst, "--rules", ("root", "rule"), (CALL, size), size, scratch)
-    ours, theirs = ([root, str(ROOT), rule, str(CALL)] for root, rule in files)
-    out = os.path.join(scratch, "out")
-    # As ours does, OpenFst's tool is to write no labels on the arcs into and out of a call.
-    plain = ["--call_arc_labeling=neither", "--return_arc_labeling=neither"]
-    return [("replace", [fst, "replace", *ours, out + ".ours"], ["fstreplace", *plain, *theirs, out + ".theirs"], TIME, MEMORY)]
-
-
-def pair_cases(fst, size, scratch):
-    """The row of `compose`: two machines whose composition has about that many arcs."""
-    states = round((size / PAIR_ARCS) ** 0.5)
-    ours, theirs = two_machines(fst, "--pair", ("first", "second"), (states,), size, scratch)
-    out = os.path.join(scratch, "out")
-    most = f"--max_states={MOST_STATES}"
-    return [("compose", [fst, "compose", most, *ours, out + ".ours"], ["fstcompose", *theirs, out + ".theirs"], TIME, COMPOSE_MEMORY)]
-
-
-def fan_cases(fst, scratch):
-    """The rows of `compose` where a state has very many arcs: a word and a lexicon, either first, and two hubs."""
-    cases = []
-    for name, mode, names, words in FANS:
-        ours, theirs = two_machines(fst, mode, names, words, FAN, scratch)
-        for turn, order in ("", lambda files: files), (", turned", reversed):
-            out = os.path.join(scratch, "out")
-            ours, theirs = list(order(list(ours))), list(order(list(theirs)))
-            commands = [fst, "compose", *ours, out + ".ours"], ["fstcompose", *theirs, out + ".theirs"]
-            cases.append((f"compose, {name}{turn}", *commands, TIME, COMPOSE_MEMORY))
-            if mode == "--hubs":
-                break
-    return cases
-
-
-def operation_cases(fst, size, scratch):
-    """The rows of the operations on a random machine of that many arcs."""
-    text, pairs = (os.path.join(scratch, f"{name}.{size}.txt") for name in ("dense", "pairs"))
-    subprocess.run([sys.executable, MACHINES, text, str(size)], check=True)
-    subprocess.run([sys.executable, MACHINES, "--pairs", pairs, str(PAIRS)], check=True)
-    files = machine_files(fst, text, scratch)
-    rows = [(command, *operation(fst, command, words, files, pairs, scratch), TIME, MEMORY) for command, words in OPERATIONS]
-    return rows + coding_cases(fst, files, scratch) + rules_cases(fst, size, scratch) + pair_cases(fst, size, scratch)
-
-
-def chain_cases(fst, scratch):
-    """The rows of the operations along paths on a chain of the most states that a machine has."""
-    text = os.path.join(scratch, "chain.txt")
-    subprocess.run([sys.executable, MACHINES, "--chain", text, str(MOST_STATES)], check=True)
-    files = machine_files(fst, text, scratch)
-    os.remove(text)
-    words = dict(OPERATIONS)
-    return [(f"{command}, a chain", *operation(fst, command, words[command], files, None, scratch), TIME, MEMORY) for command in DEEP]
-
-
-def cases(fst, size, scratch):
-    """The rows of `compile` and `print`: name, our words, theirs, and the bounds on the ratios of time and of memory."""
-    text, gaps, wide_gaps = (os.path.join(scratch, f"{name}.{size}.txt") for name in ("dense", "gaps", "wide_gaps"))
-    ours, theirs = os.path.join(scratch, f"{size}.ours"), os.path.join(scratch, f"{size}.theirs")
-    # Written by a process of its own: a peak includes what the forking process held.
-    subprocess.run([sys.executable, MACHINES, text, str(size)], check=True)
-    subprocess.run([sys.executable, MACHINES, gaps, str(size), "7"], check=True)
-    subprocess.run([sys.executable, MACHINES, wide_gaps, str(size), "1000"], check=True)
-    named, table, long_table, bare = (os.path.join(scratch, f"{name}.{size}.txt") for name in ("named", "table", "long_table", "bare"))
-    subprocess.run([sys.executable, MACHINES, "--symbols", table, "5001", named, str(size)], check=True)
-    subprocess.run([sys.executable, MACHINES, "--symbols", long_table, str(size)], check=True)
-    with open(bare, "w") as out:
-        out.write("0\n")
-    tables = ["--isymbols=" + table, "--osymbols=" + table]
-    subprocess.run([fst, "compile", text, ours], check=True)
-    subprocess.run(["fstcompile", text, theirs], check=True)
-    out = os.path.join(scratch, "out")
-    return [
-        ("compile", [fst, "compile", text, out + ".ours"], ["fstcompile", text, out + ".theirs"], 0.2, 1.5),
-        # The bound of the dense row, half as much again.
-        ("compile, shuffled, gaps of 7", [fst, "compile", gaps, out + ".ours"], ["fstcompile", gaps, out + ".theirs"], 0.3, 1.5),
-        ("compile, shuffled, gaps of 1000", [fst, "compile", wide_gaps, out + ".ours"], ["fstcompile", wide_gaps, out + ".theirs"], 0.3, 1.5),
-        ("print", [fst, "print", ours, out + ".ours"], ["fstprint", theirs, out + ".theirs"], 0.2, 1.5),
-        ("compile, names of labels", [fst, "compile", *tables, named, out + ".ours"], ["fstcompile", *tables, named, out + ".theirs"], 1 / 3, 1.5),
-        ("print, names of labels", [fst, "print", *tables, ours, out + ".ours"], ["fstprint", *tables, theirs, out + ".theirs"], 1 / 3, 1.75),
-        # A table as long as the machine has arcs, and a text of one state.
-        ("a symbol table by itself", [fst, "compile", "--isymbols=" + long_table, bare, out + ".ours"], ["fstcompile", "--isymbols=" + long_table, bare, out + ".theirs"], 0.5, 1.5),
-    ]
-
-
-def read_alone(fst, size, rounds, scratch):
-    """Megabytes and megabytes a second of reading a binary file whose machine prints as nothing."""
-    with open(os.path.join(scratch, f"{size}.ours"), "rb") as file:
-        content = bytearray(file.read())
-    # The machine's start, behind the magic number, the two type names, the version, the flags and the
-    # properties; with none nothing is printed.
-    content[START : START + 8] = b"\xff" * 8
-    silent = os.path.join(scratch, "silent")
-    with open(silent, "wb") as file:
-        file.write(content)
-    times = [measured([fst, "print", silent, "-"], os.path.join(scratch, "silent.stdout"))[0] for _ in range(rounds)]
-    if os.path.getsize(os.path.join(scratch, "silent.stdout")) != 0:
-        sys.exit("a machine without a start is printed")
-    return len(content) / 1e6, len(content) / 1e6 / statistics.median(times)
-
-
-def gaps_alone(fst, size, rounds, scratch):
-    """How much more texts with gaps cost than the dense one: medians of runs that alternate, so that they share slow minutes."""
-    names = ["dense", "gaps", "wide_gaps"]
-    times = {name: [] for name in names}
-    for _ in range(rounds):
-        for name in names:
-            words = [fst, "compile", os.path.join(scratch, f"{name}.{size}.txt"), os.path.join(scratch, "out.ours")]
-            times[name].append(measured(words, os.path.join(scratch, "ours.stdout"))[0])
-    dense = statistics.median(times["dense"])
-    return [statistics.median(times[name]) / dense for name in names[1:]]
-
-
-def call_alone(fst, scratch):
-    """Milliseconds of a whole call that has next to nothing to do but to read its words."""
-    words = [fst, "compile", "--arc_type=minmax", "--acceptor", "--keep_state_numbering", "-", os.path.join(scratch, "nothing")]
-    times = [measured(words, os.path.join(scratch, "nothing.stdout"))[0] for _ in range(100)]
-    return 1000 * statistics.mean(times)
-
-
-def shown_rows(size, rows, rounds, scratch):
-    """Shows each row, and gives the seconds of our program and whether the bounds are kept by name; None for what it lacks."""
+def compare(rows, inputs, rounds, tell):
+    """The runs of each row by name, None for a command that the program lacks; each is told at once."""
     found = {}
-    for name, ours, theirs, most_time, most_memory in rows:
-        if lacks(ours):
-            print(f"| {size} | {name} | the program does not have this command | | | |", flush=True)
-            found[name] = None
-            continue
-        sides = compared(ours, theirs, rounds, scratch)
-        (s, k), (t, m) = sides["ours"], sides["theirs"]
-        print(f"| {size} | {name} | {s:.3f}, {k / 1024:.0f} | {t:.3f}, {m / 1024:.0f} | {s / t:.2f} | {k / m:.2f} |", flush=True)
-        found[name] = s, s <= most_time * t and k <= most_memory * m
+    for row in rows:
+        ours, theirs = row.argv(inputs)
+        found[row.name] = None if lacks(ours) else compared(ours, theirs, rounds)
+        tell(inputs.size, row.name, found[row.name])
     return found
 
 
-def is_over(found, sizes):
-    """Whether a row of the largest size passes its bounds or is missing. Smaller machines have no bounds."""
-    return sizes[-1] >= 1_000_000 and not all(row and row[1] for row in found[sizes[-1]].values())
+def show(size, name, sides):
+    """Shows a row as a line of its own."""
+    print(tables.side_by_side_line(size, name, sides) if sides else tables.missing_line(size, name), flush=True)
 
 
-def forms(fst, sizes, rounds, scratch):
-    """Shows `compile` and `print` beside OpenFst's tools. Gives whether a bound is passed."""
-    found = {size: shown_rows(size, cases(fst, size, scratch), rounds, scratch) for size in sizes}
-    megabytes, rate = read_alone(fst, sizes[-1], rounds, scratch)
+def note(size, name, _sides):
+    """Says how far the work is, where the table comes at its end."""
+    print(f"{size} {name}", file=sys.stderr, flush=True)
+
+
+def passes(rows, found):
+    """Whether a row passes its bounds or is missing."""
+    return any(not found[row.name] or found[row.name].time() > row.time or found[row.name].memory() > row.memory for row in rows)
+
+
+def by_size(rows, words, scratch, behind=lambda inputs: False):
+    """Shows the rows at each size, and what is to be shown behind the last. Gives the runs, and whether a bound is passed."""
+    found, over = {}, False
+    print(tables.head("Arcs", "Command", "fst: s, MiB", "OpenFst: s, MiB", "time", "in pairs of runs", "memory"))
+    for size in words.sizes:
+        with tempfile.TemporaryDirectory(dir=scratch) as folder:
+            inputs = Inputs(words.fst, folder, size)
+            found[size] = compare(rows, inputs, words.rounds, show)
+            if size == words.sizes[-1]:
+                over = behind(inputs)
+    return found, over or (words.sizes[-1] >= BOUND_SIZE and passes(rows, found[words.sizes[-1]]))
+
+
+def reading_alone(inputs, rounds):
+    """Megabytes and megabytes a second of reading a binary file whose machine prints as nothing."""
+    with open(inputs.words("print {dense}", "ours")[2], "rb") as file:
+        content = bytearray(file.read())
+    # The machine's start, behind the magic number, the two type names, the version, the flags and the properties; with none
+    # nothing is printed.
+    content[START : START + 8] = b"\xff" * 8
+    silent, printed = inputs.path("silent"), inputs.path("silent.printed")
+    with open(silent, "wb") as file:
+        file.write(content)
+    seconds = median(measured([inputs.fst, "print", silent, printed]).seconds for _ in range(rounds))
+    if os.path.getsize(printed) != 0:
+        sys.exit("a machine without a start is printed")
+    return len(content) / 1e6, len(content) / 1e6 / seconds
+
+
+def shuffled_alone(inputs, rounds):
+    """How much more texts with gaps cost than the dense one: medians of runs that alternate, so that they share slow minutes."""
+    commands = [inputs.words(f"compile {{{name}.text}} {{out}}", "ours") for name in ("dense", "gaps", "wide_gaps")]
+    dense, *others = (median(run.seconds for run in runs) for runs in in_turn(commands, rounds))
+    return [other / dense for other in others]
+
+
+def call_alone(inputs):
+    """Milliseconds of a whole call that has next to nothing to do but to read its words."""
+    argv = inputs.words("compile --arc_type=minmax --acceptor --keep_state_numbering - {out}", "ours")
+    return 1000 * mean(measured(argv).seconds for _ in range(100))
+
+
+def forms_alone(inputs, rounds):
+    """Shows what is measured of our program alone. Gives whether a bound is passed."""
+    megabytes, rate = reading_alone(inputs, rounds)
     print(f"\nReading a binary file of {megabytes:.1f} MB: {rate:.0f} MB/s")
-    gaps, wide_gaps = gaps_alone(fst, sizes[-1], 5 * rounds, scratch)
+    gaps, wide_gaps = shuffled_alone(inputs, 5 * rounds)
     print(f"\nShuffled numbers against the dense text: gaps of 7 {gaps:.2f} times, gaps of 1000 {wide_gaps:.2f} times")
-    call = call_alone(fst, scratch)
+    call = call_alone(inputs)
     print(f"\nA call with three options and an empty text: {call:.1f} ms")
-    return is_over(found, sizes) or rate < 300 or call > 5 or max(gaps, wide_gaps) > 1.5
+    return inputs.size >= BOUND_SIZE and (rate < MEGABYTES or call > CALL or max(gaps, wide_gaps) > SHUFFLED)
 
 
-def determinized(text, scratch, name):
-    """The text of the deterministic machine of a text, made by OpenFst."""
-    made = os.path.join(scratch, name + ".txt")
-    with open(made, "wb") as out:
-        first = subprocess.Popen(["fstcompile", text], stdout=subprocess.PIPE)
-        second = subprocess.Popen(["fstdeterminize"], stdin=first.stdout, stdout=subprocess.PIPE)
-        subprocess.run(["fstprint"], stdin=second.stdout, stdout=out, check=True)
-    if first.wait() or second.wait():
-        sys.exit(f"OpenFst does not determinize {text}")
-    return made
-
-
-def algebra_cases(fst, size, scratch):
-    """The rows of the algebra on machines of about that many arcs."""
-    texts = {name: os.path.join(scratch, f"{name}.{size}.txt") for name in ("epsilons", "words", "classes", "cycle", "lattice")}
-    words = {name: (size,) for name in texts} | {"lattice": (LAYERS, max(2, size // (LAYERS * LATTICE_FAN)))}
-    for name, text in texts.items():
-        subprocess.run([sys.executable, MACHINES, "--" + name, text, *map(str, words[name])], check=True)
-    texts["trie"] = determinized(texts["words"], scratch, f"trie.{size}")
-    files = {name: machine_files(fst, text, scratch, name) for name, text in texts.items()}
-    most = {"determinize": f"--max_states={MOST_STATES}"}
-    rows = []
-    for row, machine, command, words, time in ALGEBRA:
-        ours, theirs = operation(fst, command, words, files[machine], None, scratch)
-        rows.append((row, [*ours[:2], *filter(None, [most.get(command)]), *ours[2:]], theirs, time, MEMORY))
-    return rows
-
-
-def grows(found, sizes):
+def grows(found):
     """Shows seconds for 10^6 arcs by size. Gives whether an operation takes too long for ten times the arcs."""
-    print("\n| Seconds for 10^6 arcs | " + " | ".join(f"of {size}" for size in sizes) + " |")
-    print("|---" * (len(sizes) + 1) + "|")
+    print("\n" + tables.seconds_by_size(found))
+    sizes = sorted(found)
     over = False
-    for name, row in found[sizes[-1]].items():
-        if row:
-            times = [found[size][name][0] for size in sizes]
-            print(f"| {name} | " + " | ".join(f"{1e6 * time / size:.2f}" for time, size in zip(times, sizes)) + " |")
-            # A run of few milliseconds is mostly the start of the program.
-            over = over or any(more > GROWTH * max(less, 0.005) for less, more in zip(times, times[1:]))
+    for name in [name for name, sides in found[sizes[-1]].items() if sides]:
+        times = [found[size][name].seconds()[0] for size in sizes]
+        # A run of few milliseconds is mostly the start of the program.
+        over = over or any(more > GROWTH * max(less, 0.005) for less, more in zip(times, times[1:]))
     return over
 
 
-def operations(fst, sizes, rounds, scratch):
-    """Shows the operations beside OpenFst's tools. Gives whether a bound is passed."""
-    found = {size: shown_rows(size, operation_cases(fst, size, scratch), rounds, scratch) for size in sizes}
-    over = is_over(found, sizes)
-    if sizes[-1] >= 1_000_000:
-        found_chain = shown_rows(MOST_STATES, chain_cases(fst, scratch), rounds, scratch)
-        found_fan = shown_rows(FAN, fan_cases(fst, scratch), rounds, scratch)
-        over = over or not all(row and row[1] for found in (found_chain, found_fan) for row in found.values())
-    over = grows(found, sizes) or over
-    missing = [name for name, row in found[sizes[-1]].items() if not row]
-    if missing:
-        print("\nNot measured, since the program does not have them: " + ", ".join(missing))
+def forms(rows, words, scratch):
+    """Shows `compile` and `print` beside OpenFst's tools. Gives whether a bound is passed."""
+    return by_size(rows, words, scratch, lambda inputs: forms_alone(inputs, words.rounds))[1]
+
+
+def operations(rows, words, scratch):
+    """Shows operations, or the algebra, beside OpenFst's tools. Gives whether a bound is passed."""
+    found, over = by_size(rows, words, scratch)
+    return grows(found) or over
+
+
+def cliffs(rows, words, scratch):
+    """Shows the corners beside OpenFst's tools, which have one size. Gives whether a bound is passed."""
+    words = argparse.Namespace(**vars(words) | {"sizes": words.sizes[-1:]})
+    over = by_size(rows, words, scratch)[1]
+    if words.large:
+        over = by_size(LARGE, words, scratch)[1] or over
     return over
 
 
-def algebra(fst, sizes, rounds, scratch):
-    """Shows the algebra beside OpenFst's tools. Gives whether a bound is passed."""
-    found = {size: shown_rows(size, algebra_cases(fst, size, scratch), rounds, scratch) for size in sizes}
-    over = is_over(found, sizes)
-    return grows(found, sizes) or over
+def one_table(rows, words, scratch):
+    """Shows the rows in a table with a line for each. Gives whether a bound is passed."""
+    found = {}
+    for size in words.sizes:
+        with tempfile.TemporaryDirectory(dir=scratch) as folder:
+            found[size] = compare(rows, Inputs(words.fst, folder, size), words.rounds, note)
+    print(tables.all_commands(found))
+    return words.sizes[-1] >= BOUND_SIZE and passes(rows, found[words.sizes[-1]])
+
+
+def read_words():
+    """The words of the command line."""
+    words = argparse.ArgumentParser(description=__doc__, formatter_class=argparse.RawDescriptionHelpFormatter)
+    words.add_argument("--fst", default="out/fst", type=os.path.abspath)
+    words.add_argument("--sizes", default="10000,100000,1000000", type=lambda text: sorted(map(int, text.split(","))))
+    words.add_argument("--rounds", type=int, default=5)
+    words.add_argument("--only", choices=PARTS)
+    words.add_argument("--rows", default="", type=re.compile, help="a pattern: only rows whose names have it")
+    words.add_argument("--keys", type=int, default=KEYS, help="how many crafted keys")
+    words.add_argument("--lines", type=int, default=LINES, help="how many lines a batch has")
+    words.add_argument("--limit", type=int, default=LIMIT, help="the most seconds for counting the instructions of a row")
+    words.add_argument("--folder", default="/dev/shm", help="where the files stand meanwhile")
+    for flag in "--large", "--table", "--growth", "--gate":
+        words.add_argument(flag, action="store_true")
+    return words.parse_args()
+
+
+def measure(words, scratch):
+    """Shows what the words ask for. Gives whether a bound is passed."""
+    wanted = {"forms": FORMS, "operations": OPERATIONS, "algebra": ALGEBRA, "cliffs": CLIFFS}
+    wanted = {part: [row for row in rows if words.rows.search(row.name)] for part, rows in wanted.items()}
+    if words.only:
+        wanted = {part: rows if part == words.only else [] for part, rows in wanted.items()}
+    commands = [row for part in ("forms", "operations", "algebra") for row in wanted[part]]
+    if words.table:
+        return one_table(commands, words, scratch)
+    if words.growth:
+        return growth(words.fst, commands, words.sizes, scratch, words.limit)
+    over = False
+    for part, shown in ("forms", forms), ("operations", operations), ("algebra", operations), ("cliffs", cliffs):
+        if wanted[part]:
+            over = shown(wanted[part], words, scratch) or over
+            print()
+    if words.only in (None, "crafted"):
+        over = crafted(words.fst, words.rounds, scratch, words.keys, lambda name: words.rows.search(name)) or over
+        print()
+    if words.only in (None, "batch"):
+        over = batch(words.fst, words.rounds, scratch, words.lines) or over
+    return over
 
 
 def main():
-    words = argparse.ArgumentParser()
-    words.add_argument("--fst", default="out/fst")
-    words.add_argument("--sizes", default="10000,100000,1000000")
-    words.add_argument("--rounds", type=int, default=5)
-    words.add_argument("--only", choices=["forms", "operations", "algebra"])
-    words.add_argument("--gate", action="store_true")
-    words = words.parse_args()
+    words = read_words()
     if not shutil.which("fstcompile"):
         sys.exit("OpenFst's tools are not here: apt-get install libfst-tools")
-    sizes = sorted(map(int, words.sizes.split(",")))
-    over = False
-    for name, part in ("forms", forms), ("operations", operations), ("algebra", algebra):
-        if words.only not in (None, name):
-            continue
-        print("| Arcs | Command | fst: s, MiB | OpenFst: s, MiB | time | memory |")
-        print("|---|---|---|---|---|---|")
-        with tempfile.TemporaryDirectory(dir="/dev/shm") as scratch:
-            over = part(words.fst, sizes, words.rounds, scratch) or over
-        print()
+    if words.growth and not shutil.which("valgrind"):
+        sys.exit("what counts instructions is not here: apt-get install valgrind")
+    adopt()
+    with tempfile.TemporaryDirectory(dir=words.folder) as scratch:
+        over = measure(words, scratch)
     sys.exit(1 if over and words.gate else 0)
 
 

@@ -1,0 +1,84 @@
+"""The rows: a command on an input, the words of both programs, and how much of OpenFst's time and memory it may take."""
+from typing import NamedTuple
+
+from inputs import CALL, MOST_STATES, ROOT
+
+# The bounds of a row on the ratios of time and of memory, where it says nothing else.
+TIME, MEMORY = 0.5, 1.7
+# How many states a command may make.
+MOST = f"--max_states={MOST_STATES}"
+
+
+class Row(NamedTuple):
+    """A command: the words of our program, in which names in braces are inputs (`inputs.py`), and of OpenFst's where they differ."""
+
+    name: str
+    words: str
+    time: float = TIME
+    memory: float = MEMORY
+    theirs: str = ""
+
+    def argv(self, inputs):
+        """The words of both programs with the files of these inputs."""
+        return inputs.words(self.words, "ours"), inputs.words(self.theirs or self.words, "theirs")
+
+
+NAMES = "--isymbols={table.text} --osymbols={table.text}"
+# `compile` and `print`. The bound of shuffled numbers is that of the dense text, half as much again.
+FORMS = [
+    Row("compile", "compile {dense.text} {out}", 0.2, 1.05),
+    Row("compile, a trie as an acceptor", "compile --acceptor {trie.letters} {out}", 0.25, 1.5),
+    Row("compile, shuffled, gaps of 7", "compile {gaps.text} {out}", 0.3, 1.5),
+    Row("compile, shuffled, gaps of 1000", "compile {wide_gaps.text} {out}", 0.3, 1.5),
+    Row("print", "print {dense} {out}", 0.2, 1.5),
+    Row("compile, names of labels", f"compile {NAMES} {{named.text}} {{out}}", 1 / 3, 1.5),
+    Row("print, names of labels", f"print {NAMES} {{dense}} {{out}}", 1 / 3, 1.75),
+    # A table as long as the machine has arcs, and a text of one state.
+    Row("a symbol table by itself", "compile --isymbols={long_table.text} {bare.text} {out}", 0.5, 1.5),
+]
+# As ours does, OpenFst's tool is to write no labels on the arcs into and out of a call.
+CALLS = "--call_arc_labeling=neither --return_arc_labeling=neither"
+RULES = f"{{root}} {ROOT} {{rule}} {CALL}"
+# The operations, on a random machine where no other is said.
+OPERATIONS = [
+    Row("union", "union {dense} {dense} {out}"),
+    Row("concat", "concat {dense} {dense} {out}"),
+    Row("closure", "closure {dense} {out}"),
+    Row("invert", "invert {dense} {out}"),
+    Row("project", "project {dense} {out}"),
+    Row("project, the output side", "project --project_output {dense} {out}", theirs="project --project_type=output {dense} {out}"),
+    Row("reverse", "reverse {dense} {out}"),
+    Row("relabel", "relabel --relabel_ipairs={pairs.text} --relabel_opairs={pairs.text} {dense} {out}"),
+    Row("arcsort", "arcsort --sort_type=ilabel {dense} {out}"),
+    Row("arcsort, by output labels", "arcsort --sort_type=olabel {dense} {out}"),
+    Row("connect", "connect {dense} {out}", TIME, 1.2),
+    Row("connect, a fifth of it useless", "connect {useless} {out}", TIME, 1.2),
+    Row("info", "info {dense}", TIME, 1.0),
+    Row("shortestdistance", "shortestdistance {dense} {out}"),
+    Row("shortestdistance, best first", "shortestdistance --queue_type=shortest {dense} {out}", 1.0),
+    Row("shortestdistance, backward", "shortestdistance --reverse {dense} {out}"),
+    Row("encode", "encode --encode_labels {dense} {out}.codex {out}"),
+    Row("encode, labels and weights", "encode --encode_labels --encode_weights {dense} {out}.codex {out}"),
+    Row("encode --decode", "encode --decode {dense.encoded} {dense.codex} {out}", TIME, 0.6),
+    Row("replace", f"replace {RULES} {{out}}", 0.17, 0.8, f"replace {CALLS} {RULES} {{out}}"),
+    Row("compose", f"compose {MOST} {{first}} {{second}} {{out}}", TIME, 1.2, "compose {first} {second} {out}"),
+]
+# The algebra. The words are a lexicon of chains, `trie` is its deterministic machine, `classes` is deterministic with cycles,
+# `cycle` is one long cycle, `confusion` has subsets of several states, and `network` is its deterministic machine.
+ALGEBRA = [
+    Row("rmepsilon", "rmepsilon {epsilons} {out}"),
+    Row("rmepsilon, first in first out", "rmepsilon --queue_type=fifo {epsilons} {out}"),
+    Row("shortestdistance, best first, half epsilon", "shortestdistance --queue_type=shortest {epsilons} {out}", 1.0),
+    Row("shortestdistance, backward, half epsilon", "shortestdistance --reverse {epsilons} {out}"),
+    Row("shortestpath", "shortestpath {lattice} {out}", 1.0),
+    Row("shortestpath, ten", "shortestpath --nshortest=10 {lattice} {out}"),
+    Row("shortestpath, a thousand", "shortestpath --nshortest=1000 {lattice} {out}"),
+    Row("determinize, words", f"determinize {MOST} {{words}} {{out}}", theirs="determinize {words} {out}"),
+    Row("determinize, a confusion network", f"determinize {MOST} {{confusion}} {{out}}", theirs="determinize {confusion} {out}"),
+    Row("push, a trie", "push --push_weights {trie} {out}"),
+    Row("push, with cycles", "push --push_weights {classes} {out}"),
+    Row("minimize, a trie", "minimize {trie} {out}"),
+    Row("minimize, a confusion network", "minimize {network} {out}"),
+    Row("minimize, with cycles", "minimize {classes} {out}"),
+    Row("minimize, one cycle", "minimize {cycle} {out}"),
+]
