@@ -104,7 +104,8 @@ def weights_text(weights):
 
 def batch_text(pairs):
     """Words of three letters, and two machines that read them, in which each word leads to a pair of states."""
-    letters = string.ascii_letters[: next(few for few in range(1, 53) if few**3 >= len(pairs))]
+    # By their codes, so that the arcs of each state are in order.
+    letters = sorted(string.ascii_letters)[: next(few for few in range(1, 53) if few**3 >= len(pairs))]
     few = len(letters)
     codes = [ord(letter) for letter in letters]
     before = [f"0\t{1 + i}\t{a}\t{a}\n" for i, a in enumerate(codes)]
