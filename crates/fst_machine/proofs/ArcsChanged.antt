@@ -29,7 +29,7 @@ follow_low behind (t ∷ slots) (suc p) s follow there some =
     omega (arith, after, end_low behind t.first t.count follow.0)
 
 -- the part of a state ends where that of a later one begins, or before
-follow_apart : {V : Type 0} (behind : ℕ) (slots : List (Slot V)) (p q : ℕ) (s t : Slot V) → Follow behind slots → p < q → slice_get slots p ≡ Some s → slice_get slots q ≡ Some t → 0 < s.count → 0 < t.count → s.first + s.count ≤ t.first
+pub follow_apart : {V : Type 0} (behind : ℕ) (slots : List (Slot V)) (p q : ℕ) (s t : Slot V) → Follow behind slots → p < q → slice_get slots p ≡ Some s → slice_get slots q ≡ Some t → 0 < s.count → 0 < t.count → s.first + s.count ≤ t.first
 follow_apart behind [] p q s t follow before here there some more = absurd (cc)
 follow_apart behind (u ∷ slots) p zero s t follow before here there some more = absurd (omega (arith, before))
 follow_apart {V} behind (u ∷ slots) zero (suc q) s t follow before here there some more =
@@ -39,20 +39,20 @@ follow_apart {V} behind (u ∷ slots) zero (suc q) s t follow before here there 
 follow_apart behind (u ∷ slots) (suc p) (suc q) s t follow before here there some more = follow_apart (end_of behind u.first u.count) slots p q s t follow.1 (omega (arith, before)) here there some more
 
 -- a part before one that is written, behind it, and that part itself
-part_below : {X : Type 0} (xs ys : List X) (at n first count : ℕ) → first + count ≤ at → at ≤ length xs → take count (drop first (put_mid at n xs ys)) ≡ take count (drop first xs)
+pub part_below : {X : Type 0} (xs ys : List X) (at n first count : ℕ) → first + count ≤ at → at ≤ length xs → take count (drop first (put_mid at n xs ys)) ≡ take count (drop first xs)
 part_below xs ys at n first count low inside =
     sym (drop-take first count (put_mid at n xs ys)) ∙ (ap (drop first) (take-put_mid_below at n xs ys (first + count) low inside) ∙ drop-take first count xs)
 
-part_behind : {X : Type 0} (xs ys : List X) (at n first count : ℕ) → at + n ≤ first → at ≤ length xs → length ys ≡ n → take count (drop first (put_mid at n xs ys)) ≡ take count (drop first xs)
+pub part_behind : {X : Type 0} (xs ys : List X) (at n first count : ℕ) → at + n ≤ first → at ≤ length xs → length ys ≡ n → take count (drop first (put_mid at n xs ys)) ≡ take count (drop first xs)
 part_behind xs ys at n first count high inside size = ap (take count) (drop-put_mid at n xs ys first high inside size)
 
-part_itself : {X : Type 0} (xs ys : List X) (at n : ℕ) → at ≤ length xs → length ys ≡ n → take n (drop at (put_mid at n xs ys)) ≡ ys
+pub part_itself : {X : Type 0} (xs ys : List X) (at n : ℕ) → at ≤ length xs → length ys ≡ n → take n (drop at (put_mid at n xs ys)) ≡ ys
 part_itself {X} xs ys at n inside size =
     let count : (at + n) - at ≡ n = omega arith in
     ap (λ k. take k (drop at (put_mid at n xs ys))) (sym count) ∙ between-put_mid at n xs ys (at + n) inside (size ∙ sym count)
 
 -- a list with a part written is as long
-length-put_mid : {X : Type 0} (xs ys : List X) (at n : ℕ) → at + n ≤ length xs → length ys ≡ n → length (put_mid at n xs ys) ≡ length xs
+pub length-put_mid : {X : Type 0} (xs ys : List X) (at n : ℕ) → at + n ≤ length xs → length ys ≡ n → length (put_mid at n xs ys) ≡ length xs
 length-put_mid xs ys at n room size =
     let whole = length-append (take at xs) (ys ++ drop n (drop at xs)) in
     let own = length-append ys (drop n (drop at xs)) in

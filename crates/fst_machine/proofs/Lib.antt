@@ -27,6 +27,7 @@ pub mod Keeping
 pub mod Retaining
 pub mod Forgetting
 pub mod ArcsChanged
+pub mod ArcsReplaced
 pub mod Valued
 pub mod Narrowing
 pub mod OneMachine

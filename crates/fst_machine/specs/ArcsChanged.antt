@@ -10,6 +10,10 @@ pub record IsArcsChanged {V : Type 0} (changes : List (Arc V ℕ) → List (Arc 
   pub final : (p : ℕ) (s t : State V) → slice_get m.states p ≡ Some s → slice_get c.states p ≡ Some t → t.final ≡ s.final
   pub arcs : (p : ℕ) (s t : State V) → slice_get m.states p ≡ Some s → slice_get c.states p ≡ Some t → changes s.arcs t.arcs
 
+-- the state with these arcs in place of its own
+abbrev pub with_new_arcs : {V : Type 0} → List (Arc V ℕ) → State V → State V
+with_new_arcs arcs s = record { final = s.final; arcs = arcs }
+
 -- the part of a store that a state has
 abbrev pub part_of : {V : Type 0} → Slot V → List (Arc V ℕ) → List (Arc V ℕ)
 part_of s store = take s.count (drop s.first store)

@@ -11,11 +11,13 @@ use crate::kept::Kept;
 mod change;
 mod leaving;
 mod retain;
+mod rewriting;
 mod state_list;
 
 pub use change::ArcsChange;
 use fst_semiring::Weight;
 pub use leaving::Leaving;
+pub use rewriting::Rewriting;
 pub use state_list::StateList;
 use std::alloc::{AllocError, Global};
 use std::marker::Model;
