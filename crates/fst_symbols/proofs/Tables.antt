@@ -1,5 +1,5 @@
 -- A table with one symbol more.
-use Rattle.std.proofs.Common.{◌≡◌, ℕ, ◌≤◌, ◌<◌, ◌==◌, ◌||◌, suc, zero, Bool, true, false, cond, List, [], ◌∷◌, ◌++◌, length, map, is_some, Option, None, Some, Ok, Err, refl, sym, ap, ◌∙◌, subst, arith, if◌then◌else◌}
+use Rattle.std.proofs.Common.{◌≡◌, ℕ, ◌≤◌, ◌<◌, ◌==◌, ◌||◌, suc, zero, Bool, true, false, cond, List, [], ◌∷◌, ◌++◌, length, map, is_some, Option, None, Some, refl, sym, ap, ◌∙◌, subst, arith}
 use Rattle.std.specs.Prelude.{nat_eq, slice_get}
 use Rattle.std.specs.Option.{option_map}
 use Rattle.std.specs.List.{IsDistinct, list_any}
@@ -13,27 +13,8 @@ use Rattle.std.proofs.lemmas.Bool.Decides.{nat_tests}
 use Rattle.std.proofs.lemmas.Option.{same_Some}
 use Rattle.fst_fields.specs.Decimal.{greatest_label}
 use Rattle.fst_table.specs.Slots.{with_place}
-use Rattle.fst_symbols.specs.declared.fault.SymbolsFault.TheVariants.{DuplicateSymbol, DuplicateNumber}
 use Rattle.fst_symbols.specs.Symbols.{IsName, IsTable, Symbol, name_of, number_of}
-use Rattle.fst_symbols.specs.Reading.{with_symbol}
 use Rattle.fst_symbols.specs.Kept.{name_in}
-
-module _ (line : ℕ) (symbols : List Symbol) (name : List ℕ) (number : ℕ) where
-  -- the name is there
-  pub with_symbol-name : is_some (number_of symbols name) ≡ true → with_symbol line symbols name number ≡ Err (DuplicateSymbol line)
-  with_symbol-name there = ap (λ b. if b then Err (DuplicateSymbol line) else (if is_some (name_of symbols number) then Err (DuplicateNumber line) else Ok (symbols ++ record { name = name; number = number } ∷ []))) there
-
-  -- the name is new
-  with_symbol-new : number_of symbols name ≡ None → with_symbol line symbols name number ≡ (if is_some (name_of symbols number) then Err (DuplicateNumber line) else Ok (symbols ++ record { name = name; number = number } ∷ []))
-  with_symbol-new none = ap (λ r. if is_some r then Err (DuplicateSymbol line) else (if is_some (name_of symbols number) then Err (DuplicateNumber line) else Ok (symbols ++ record { name = name; number = number } ∷ []))) none
-
-  -- and the number is there
-  pub with_symbol-number : number_of symbols name ≡ None → is_some (name_of symbols number) ≡ true → with_symbol line symbols name number ≡ Err (DuplicateNumber line)
-  with_symbol-number none taken = with_symbol-new none ∙ ap (λ b. if b then Err (DuplicateNumber line) else Ok (symbols ++ record { name = name; number = number } ∷ [])) taken
-
-  -- or new too
-  pub with_symbol-both : number_of symbols name ≡ None → name_of symbols number ≡ None → with_symbol line symbols name number ≡ Ok (symbols ++ record { name = name; number = number } ∷ [])
-  with_symbol-both none free = with_symbol-new none ∙ ap (λ r. if is_some r then Err (DuplicateNumber line) else Ok (symbols ++ record { name = name; number = number } ∷ [])) free
 
 -- a name that has no number is no symbol's
 names_apart : (symbols : List Symbol) (name : List ℕ) → number_of symbols name ≡ None → list_any (bytes_eq name) (map (λ s. s.name) symbols) ≡ false
@@ -99,15 +80,6 @@ pub slice_get-there : {X : Type 0} (xs : List X) (i : ℕ) → i < length xs →
 slice_get-there [] i within = absurd (omega arith)
 slice_get-there (x ∷ xs) zero within = refl
 slice_get-there (x ∷ xs) (suc i) within = slice_get-there xs i (omega arith)
-
-is_some-map : {X Y : Type 0} (f : X → Y) (o : Option X) → is_some (option_map f o) ≡ is_some o
-is_some-map f None = refl
-is_some-map f (Some x) = refl
-
--- a number that has a place has a name
-pub name_in-there : (symbols : List Symbol) (o : Option ℕ) → ((place : ℕ) → o ≡ Some place → place < length symbols) → is_some o ≡ true → is_some (name_in symbols o) ≡ true
-name_in-there symbols None within some = some
-name_in-there symbols (Some place) within some = is_some-map (λ (s : Symbol). s.name) (slice_get symbols place) ∙ slice_get-there symbols place (within place refl)
 
 pub none_of : {X : Type 0} (o : Option X) → is_some o ≡ false → o ≡ None
 none_of None e = refl
