@@ -1,65 +1,20 @@
 -- A table with one symbol more.
-use Rattle.std.proofs.Common.{◌≡◌, ℕ, ◌-◌, ◌≤◌, ◌<◌, ◌==◌, ◌||◌, suc, zero, Bool, true, false, cond, List, [], ◌∷◌, ◌++◌, length, map, is_some, Option, None, Some, Ok, Err, refl, sym, ap, ◌∙◌, subst, arith, if◌then◌else◌}
+use Rattle.std.proofs.Common.{◌≡◌, ℕ, ◌≤◌, ◌<◌, ◌==◌, ◌||◌, suc, zero, Bool, true, false, cond, List, [], ◌∷◌, ◌++◌, length, map, is_some, Option, None, Some, refl, sym, ap, ◌∙◌, subst, arith}
 use Rattle.std.specs.Prelude.{nat_eq, slice_get}
 use Rattle.std.specs.Option.{option_map}
 use Rattle.std.specs.List.{IsDistinct, list_any}
-use Rattle.std.specs.Map.{lookup}
 use Rattle.std.specs.Str.{bytes_eq}
 use Rattle.std.specs.Cmp.{nat_eq_equiv}
 use Rattle.std.proofs.lemmas.Cmp.{nat_list_eq_equiv}
-use Rattle.std.proofs.lemmas.List.{length-map, length_push, map-append}
-use Rattle.std.proofs.lemmas.Option.{slice_get-map}
+use Rattle.std.proofs.lemmas.List.{length_push, map-append}
 use Rattle.std.proofs.lemmas.List.Elements.{All-nil, All-push}
 use Rattle.std.proofs.lemmas.Map.Keys.{IsDistinct-push}
 use Rattle.std.proofs.lemmas.Bool.Decides.{nat_tests}
-use Rattle.indexmap.specs.IndexMap.{IndexMap, insert_entry}
-use Rattle.indexmap.proofs.CallerLemmas.{insert_entry-new}
+use Rattle.std.proofs.lemmas.Option.{same_Some}
 use Rattle.fst_fields.specs.Decimal.{greatest_label}
-use Rattle.fst_symbols.specs.declared.fault.SymbolsFault.TheVariants.{DuplicateSymbol, DuplicateNumber}
+use Rattle.fst_table.specs.Slots.{with_place}
 use Rattle.fst_symbols.specs.Symbols.{IsName, IsTable, Symbol, name_of, number_of}
-use Rattle.fst_symbols.specs.Reading.{with_symbol}
-use Rattle.fst_symbols.specs.Kept.{ranked_name, symbols_of}
-
--- a look-up by name gives the number of the name
-pub number_of-lookup : (es : List (List ℕ × ℕ)) (name : List ℕ) → lookup (bytes_eq name) es ≡ number_of (symbols_of es) name
-number_of-lookup [] name = refl
-number_of-lookup (e ∷ es) name = ap (λ r. cond (bytes_eq name e.0) (Some e.1) r) (number_of-lookup es name)
-
--- a name that was looked for has the number that was found
-pub looked_for : (es : List (List ℕ × ℕ)) (key name : List ℕ) (old found : Option ℕ) → key ≡ name → old ≡ lookup (bytes_eq key) es → old ≡ found → number_of (symbols_of es) name ≡ found
-looked_for es key name old found same looked is = sym (number_of-lookup es name) ∙ ap (λ (k : List ℕ). lookup (bytes_eq k) es) (sym same) ∙ sym looked ∙ is
-
--- a name that was not found goes last, with its number
-pub entries_more : {S : Type 0} (m : IndexMap (List ℕ) ℕ S) (key name : List ℕ) (number : ℕ) (old : Option ℕ) (after : List (List ℕ × ℕ)) → key ≡ name → old ≡ lookup (bytes_eq key) m.entries → old ≡ None → after ≡ insert_entry bytes_eq m.entries key number → after ≡ m.entries ++ (name, number) ∷ []
-entries_more m key name number old after same looked none put = put ∙ insert_entry-new bytes_eq m key number (sym looked ∙ none) ∙ ap (λ (k : List ℕ). m.entries ++ (k, number) ∷ []) same
-
--- a number that had no rank has no name
-pub number_free : (ss : List Symbol) (number rank before : ℕ) → ranked_name ss rank ≡ name_of ss number → before ≡ rank → before ≡ 0 → name_of ss number ≡ None
-number_free ss number rank before named is zero_is = sym named ∙ ap (ranked_name ss) (sym is ∙ zero_is)
-
--- one name more is one symbol more
-pub symbols_of-push : (es after : List (List ℕ × ℕ)) (name : List ℕ) (number : ℕ) → after ≡ es ++ (name, number) ∷ [] → symbols_of after ≡ symbols_of es ++ record { name = name; number = number } ∷ []
-symbols_of-push es after name number e = ap symbols_of e ∙ map-append (λ (p : List ℕ × ℕ). record { name = p.0; number = p.1 }) es ((name, number) ∷ [])
-
-pub length-symbols_of : (es : List (List ℕ × ℕ)) → length (symbols_of es) ≡ length es
-length-symbols_of es = length-map {B = Symbol} es (λ (p : List ℕ × ℕ). record { name = p.0; number = p.1 })
-
-module _ (line : ℕ) (symbols : List Symbol) (name : List ℕ) (number : ℕ) where
-  -- the name is there
-  pub with_symbol-name : (n : ℕ) → number_of symbols name ≡ Some n → with_symbol line symbols name number ≡ Err (DuplicateSymbol line)
-  with_symbol-name n there = ap (λ r. if is_some r then Err (DuplicateSymbol line) else (if is_some (name_of symbols number) then Err (DuplicateNumber line) else Ok (symbols ++ record { name = name; number = number } ∷ []))) there
-
-  -- the name is new
-  with_symbol-new : number_of symbols name ≡ None → with_symbol line symbols name number ≡ (if is_some (name_of symbols number) then Err (DuplicateNumber line) else Ok (symbols ++ record { name = name; number = number } ∷ []))
-  with_symbol-new none = ap (λ r. if is_some r then Err (DuplicateSymbol line) else (if is_some (name_of symbols number) then Err (DuplicateNumber line) else Ok (symbols ++ record { name = name; number = number } ∷ []))) none
-
-  -- and the number is there
-  pub with_symbol-number : number_of symbols name ≡ None → is_some (name_of symbols number) ≡ true → with_symbol line symbols name number ≡ Err (DuplicateNumber line)
-  with_symbol-number none taken = with_symbol-new none ∙ ap (λ b. if b then Err (DuplicateNumber line) else Ok (symbols ++ record { name = name; number = number } ∷ [])) taken
-
-  -- or new too
-  pub with_symbol-both : number_of symbols name ≡ None → name_of symbols number ≡ None → with_symbol line symbols name number ≡ Ok (symbols ++ record { name = name; number = number } ∷ [])
-  with_symbol-both none free = with_symbol-new none ∙ ap (λ r. if is_some r then Err (DuplicateNumber line) else Ok (symbols ++ record { name = name; number = number } ∷ [])) free
+use Rattle.fst_symbols.specs.Kept.{name_in}
 
 -- a name that has no number is no symbol's
 names_apart : (symbols : List Symbol) (name : List ℕ) → number_of symbols name ≡ None → list_any (bytes_eq name) (map (λ s. s.name) symbols) ≡ false
@@ -92,12 +47,12 @@ IsTable-push symbols s h name small none free = record {
 }
 
 -- a list with one item more, at a place before it and at its place
-slice_get-left : {X : Type 0} (xs : List X) (y : X) (i : ℕ) → i < length xs → slice_get (xs ++ y ∷ []) i ≡ slice_get xs i
+pub slice_get-left : {X : Type 0} (xs : List X) (y : X) (i : ℕ) → i < length xs → slice_get (xs ++ y ∷ []) i ≡ slice_get xs i
 slice_get-left [] y i within = absurd (omega arith)
 slice_get-left (x ∷ xs) y zero within = refl
 slice_get-left (x ∷ xs) y (suc i) within = slice_get-left xs y i (omega arith)
 
-slice_get-last : {X : Type 0} (xs : List X) (y : X) → slice_get (xs ++ y ∷ []) (length xs) ≡ Some y
+pub slice_get-last : {X : Type 0} (xs : List X) (y : X) → slice_get (xs ++ y ∷ []) (length xs) ≡ Some y
 slice_get-last [] y = refl
 slice_get-last (x ∷ xs) y = slice_get-last xs y
 
@@ -109,7 +64,7 @@ name_of-other (t ∷ symbols) s n apart = ap (λ r. cond (n == t.number) (Some t
 same_number : (n : ℕ) → (n == n) ≡ true
 same_number n = grind (arith, nat_tests)
 
-equal_is : (n m : ℕ) → (n == m) ≡ true → n ≡ m
+pub equal_is : (n m : ℕ) → (n == m) ≡ true → n ≡ m
 equal_is n m e = grind (arith, nat_tests)
 
 -- a new number has the name of the new symbol
@@ -120,42 +75,37 @@ name_of-new (t ∷ symbols) s none = go (s.number == t.number) none (name_of-new
   go true e more = absurd (cc)
   go false e more = more e
 
-ranked_name-before : (symbols : List Symbol) (s : Symbol) (rank : ℕ) → rank ≤ length symbols → ranked_name (symbols ++ s ∷ []) rank ≡ ranked_name symbols rank
-ranked_name-before symbols s zero within = refl
-ranked_name-before symbols s (suc place) within = ap (λ (r : Option Symbol). option_map (λ (t : Symbol). t.name) r) (slice_get-left symbols s place (omega arith))
+-- a place within a list has an item
+pub slice_get-there : {X : Type 0} (xs : List X) (i : ℕ) → i < length xs → is_some (slice_get xs i) ≡ true
+slice_get-there [] i within = absurd (omega arith)
+slice_get-there (x ∷ xs) zero within = refl
+slice_get-there (x ∷ xs) (suc i) within = slice_get-there xs i (omega arith)
 
--- the name that stands at a place, by its rank
-pub ranked_name-at : (es : List (List ℕ × ℕ)) (rank : ℕ) (name : List ℕ) (number : ℕ) → 0 < rank → slice_get es (rank - 1) ≡ Some (name, number) → ranked_name (symbols_of es) rank ≡ Some name
-ranked_name-at es zero name number some at = absurd (omega arith)
-ranked_name-at es (suc place) name number some at =
-    let same : suc place - 1 ≡ place = omega arith in
-    let here : slice_get es place ≡ Some (name, number) = ap (λ (k : ℕ). slice_get es k) (sym same) ∙ at in
-    ap (λ (r : Option Symbol). option_map (λ (t : Symbol). t.name) r) (slice_get-map (λ (p : List ℕ × ℕ). record { name = p.0; number = p.1 }) es place ∙ ap (λ (r : Option (List ℕ × ℕ)). option_map (λ (p : List ℕ × ℕ). record { name = p.0; number = p.1 }) r) here)
+pub none_of : {X : Type 0} (o : Option X) → is_some o ≡ false → o ≡ None
+none_of None e = refl
+none_of (Some x) e = absurd (cc)
 
--- a rank within the symbols that is not 0 is that of a name
-pub ranked_name-there : (symbols : List Symbol) (rank : ℕ) → rank ≤ length symbols → (rank ≡ 0 → ⊥) → is_some (ranked_name symbols rank) ≡ true
-ranked_name-there symbols zero within some = absurd (some refl)
-ranked_name-there [] (suc place) within some = absurd (omega arith)
-ranked_name-there (s ∷ symbols) (suc zero) within some = refl
-ranked_name-there (s ∷ symbols) (suc (suc place)) within some = ranked_name-there symbols (suc place) (omega arith) (λ e. absurd (omega arith))
+module _ (symbols : List Symbol) (s : Symbol) (places after : ℕ → Option ℕ)
+    (within : (n place : ℕ) → places n ≡ Some place → place < length symbols)
+    (later : (n : ℕ) → after n ≡ with_place places s.number (length symbols) n) where
+  -- once the new number has the next place, no place is past the symbols
+  pub within-push : (n place : ℕ) → after n ≡ Some place → place < length (symbols ++ s ∷ [])
+  within-push n place at = go (n == s.number) (sym (later n) ∙ at) where
+    go : (same : Bool) → cond same (Some (length symbols)) (places n) ≡ Some place → place < length (symbols ++ s ∷ [])
+    go true e = let last : length symbols ≡ place = same_Some _ _ e in omega (arith, length_push symbols s)
+    go false e = let low = within n place e in omega (arith, length_push symbols s)
 
-module _ (symbols : List Symbol) (s : Symbol) (rank : ℕ) (last : rank ≡ suc (length symbols)) (ranks after : ℕ → ℕ)
-    (within : (n : ℕ) → ranks n ≤ length symbols)
-    (later : (n : ℕ) → after n ≡ (if n == s.number then rank else ranks n)) where
-  -- once the new number has the next rank, no rank is past the symbols
-  pub within-push : (n : ℕ) → after n ≤ length (symbols ++ s ∷ [])
-  within-push n = go (n == s.number) (later n) (within n) where
-    go : (same : Bool) → after n ≡ cond same rank (ranks n) → ranks n ≤ length symbols → after n ≤ length (symbols ++ s ∷ [])
-    go true e w = omega (arith, length_push symbols s)
-    go false e w = omega (arith, length_push symbols s)
+  before : (o : Option ℕ) → ((place : ℕ) → o ≡ Some place → place < length symbols) → name_in (symbols ++ s ∷ []) o ≡ name_in symbols o
+  before None low = refl
+  before (Some place) low = ap (option_map (λ (t : Symbol). t.name)) (slice_get-left symbols s place (low place refl))
 
-  -- and each rank leads to the name
-  pub named-push : name_of symbols s.number ≡ None → ((n : ℕ) → ranked_name symbols (ranks n) ≡ name_of symbols n) → (n : ℕ) → ranked_name (symbols ++ s ∷ []) (after n) ≡ name_of (symbols ++ s ∷ []) n
+  -- and each place is that of the name
+  pub named-push : name_of symbols s.number ≡ None → ((n : ℕ) → name_in symbols (places n) ≡ name_of symbols n) → (n : ℕ) → name_in (symbols ++ s ∷ []) (after n) ≡ name_of (symbols ++ s ∷ []) n
   named-push free named n = go (n == s.number) refl (later n) where
-    go : (same : Bool) → (n == s.number) ≡ same → after n ≡ cond same rank (ranks n) → ranked_name (symbols ++ s ∷ []) (after n) ≡ name_of (symbols ++ s ∷ []) n
+    go : (same : Bool) → (n == s.number) ≡ same → after n ≡ cond same (Some (length symbols)) (places n) → name_in (symbols ++ s ∷ []) (after n) ≡ name_of (symbols ++ s ∷ []) n
     go true same e =
-        ap (λ (r : ℕ). ranked_name (symbols ++ s ∷ []) r) (e ∙ last)
-        ∙ ap (λ (r : Option Symbol). option_map (λ (t : Symbol). t.name) r) (slice_get-last symbols s)
+        ap (name_in (symbols ++ s ∷ [])) e
+        ∙ ap (option_map (λ (t : Symbol). t.name)) (slice_get-last symbols s)
         ∙ sym (name_of-new symbols s free) ∙ ap (λ (k : ℕ). name_of (symbols ++ s ∷ []) k) (sym (equal_is n s.number same))
     go false apart e =
-        ap (λ (r : ℕ). ranked_name (symbols ++ s ∷ []) r) e ∙ ranked_name-before symbols s (ranks n) (within n) ∙ named n ∙ sym (name_of-other symbols s n apart)
+        ap (name_in (symbols ++ s ∷ [])) e ∙ before (places n) (within n) ∙ named n ∙ sym (name_of-other symbols s n apart)

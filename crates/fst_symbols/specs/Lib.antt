@@ -1,3 +1,5 @@
+pub mod Codes
+pub mod Named
 pub mod Kept
 pub mod Reading
 pub mod Symbols

@@ -5,8 +5,8 @@
 #![tactic(auto)]
 
 mod fault;
-mod name;
-mod places;
+mod named_rows;
+mod row;
 mod rows;
 mod table;
 

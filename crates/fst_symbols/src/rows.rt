@@ -1,20 +1,19 @@
 //! The rows of a table in order, found by name and by number.
 
-ghost use Rattle.std.specs.Prelude.{◌≡◌, ◌*◌, ◌≤◌, min, [], false, All, IfOk, IfSome, OnOk};
+ghost use Rattle.std.specs.Prelude.{◌≡◌, ◌*◌, ◌≤◌, min, [], false, All, IfOk, IfSome, OnOk, vec_capacity};
 ghost use Rattle.std.specs.Option.{option_map};
-ghost use Rattle.indexmap.specs.IndexMap.{spare};
 ghost use Rattle.fst_fields.specs.Decimal.{greatest_label};
 ghost use Rattle.fst_fields.specs.Lines.{fields_of, is_line_end};
-ghost use Rattle.fst_symbols.specs.Symbols.{IsName, name_of, number_of};
 ghost use Rattle.fst_fields.specs.Texts.{IsRead};
+ghost use Rattle.fst_table.specs.Placed.{room_in};
+ghost use Rattle.fst_symbols.specs.Symbols.{IsName, name_of, number_of};
 ghost use Rattle.fst_symbols.specs.Reading.{after_line, symbol_of, with_symbol};
-ghost use Rattle.fst_symbols.specs.Kept.{IsKept, ranked_name, symbols_in};
+ghost use Rattle.fst_symbols.specs.Kept.{IsKept, symbols_in};
 
 use crate::fault::SymbolsFault;
-use crate::name::{Name, Sought};
-use crate::places::Places;
+use crate::named_rows::NamedRows;
 use fst_fields::{read_label, read_row};
-use indexmap::IndexMap;
+use fst_table::Places;
 use std::alloc::{AllocError, Global};
 
 /// Where the numbers end that are found by their value, in a table of so many rows: those of a table whose
@@ -25,10 +24,10 @@ fn near_end(rows: usize) -> u32
     u32::try_from(rows).unwrap_or(u32::MAX).saturating_mul(2)
 }
 
-/// The number of each name, in the order of the lines, and the place of each number in that order.
+/// The rows in the order of the lines, found by their names, and the place of each number in that order.
 #[derive(Drop)]
 pub struct Rows {
-    numbers: IndexMap<Name, u32>,
+    named: NamedRows,
     places: Places,
 }
 
@@ -37,31 +36,21 @@ impl Rows {
     pub fn with_room(alloc: Global, rows: usize) -> Result<Rows, AllocError>
         ensures none { IfOk result (λ r. symbols_in r ≡ []) }
         ensures kept { IfOk result IsKept }
-        ensures room { IfOk result (λ r. rows ≤ spare r.numbers) }
-        ensures near { IfOk result (λ r. r.places.near_end ≡ min (2 * rows) 4294967295) }
+        ensures room { IfOk result (λ r. (rows ≤ vec_capacity r.named.rows) × (rows ≤ room_in r.named.firsts)) }
+        ensures near { IfOk result (λ r. r.places.bound ≡ min (2 * rows) 4294967295) }
     {
         Ok(Rows {
-            numbers: IndexMap::with_capacity(alloc, rows)?,
-            places: Places::new(alloc, near_end(rows)),
+            named: NamedRows::with_room(alloc, rows)?,
+            places: Places::new(alloc, near_end(rows) as usize),
         })
     }
 
     /// The number of a name.
     pub fn find(&self, name: &[u8]) -> Option<u32>
+        requires { IsKept self.now }
         ensures { result ≡ number_of (symbols_in self.now) name.now }
     {
-        self.numbers.get(Sought::new(name)).copied()
-    }
-
-    /// The name of the row of a rank.
-    fn ranked_name(&self, rank: u32) -> Option<&[u8]>
-        ensures { option_map (λ name. name.now) result ≡ ranked_name (symbols_in self.now) rank }
-    {
-        if rank == 0 {
-            return None;
-        }
-        let (name, _) = self.numbers.get_index(rank as usize - 1)?;
-        Some(name.as_slice())
+        self.named.find(name)
     }
 
     /// The name of a number.
@@ -69,7 +58,8 @@ impl Rows {
         requires { IsKept self.now }
         ensures { option_map (λ name. name.now) result ≡ name_of (symbols_in self.now) number }
     {
-        self.ranked_name(self.places.get(number))
+        let place = self.places.find(u64::from(number))?;
+        self.named.name(place)
     }
 
     /// Adds a symbol; the fault, where its name or its number is there. After a fault the rows are no table.
@@ -86,17 +76,14 @@ impl Rows {
         ensures added { IfOk result (λ r. IsRead (λ x. symbols_in self.new) r (with_symbol line (symbols_in self.old) name.now number)) }
         ensures kept { IfOk result (λ r. OnOk r (IsKept self.new)) }
     {
-        match self.numbers.insert(Name::new(alloc, name)?, number) {
-            Ok(None) => {}
-            Ok(Some(_)) => return Ok(Err(SymbolsFault::DuplicateSymbol { line })),
-            Err(_) => return Err(AllocError),
-        }
-        let Ok(rank) = u32::try_from(self.numbers.len()) else {
-            return Err(AllocError);
+        let Some(place) = self.named.add(alloc, name, number)? else {
+            return Ok(Err(SymbolsFault::DuplicateSymbol { line }));
         };
-        if self.places.put(number, rank)? != 0 {
+        let number = u64::from(number);
+        if self.places.find(number).is_some() {
             return Ok(Err(SymbolsFault::DuplicateNumber { line }));
         }
+        self.places.add(number, place)?;
         Ok(Ok(()))
     }
 

@@ -102,7 +102,7 @@ fn probe(slots: &[Slot], number: u64) -> usize
 
 #[tactic(auto, unfolding(crate::specs::Placed::placed_in))]
 impl FlatTable {
-    ghost use Rattle.fst_table.specs.Placed.{placed_in};
+    ghost use Rattle.fst_table.specs.Placed.{placed_in, room_in};
     ghost use Rattle.fst_table.specs.Slots.{with_place};
 
     /// No number is known. Takes no memory.
@@ -133,6 +133,7 @@ impl FlatTable {
     fn with_slots(alloc: Global, len: usize) -> Result<FlatTable, AllocError>
         ensures none { IfOk result (λ t. (n : ℕ) → placed_in t n ≡ None) }
         ensures len { IfOk result (λ t. length t.slots.items ≡ len) }
+        ensures unused { IfOk result (λ t. t.used ≡ 0) }
     {
         let mut slots = Vec::new(alloc);
         slots.resize(len, EMPTY)?;
@@ -141,6 +142,17 @@ impl FlatTable {
             overflow: BTreeMap::new(alloc),
             used: 0,
         })
+    }
+
+    /// No number is known. The table does not grow before so many are added.
+    pub fn with_room(alloc: Global, numbers: usize) -> Result<FlatTable, AllocError>
+        ensures none { IfOk result (λ t. (n : ℕ) → placed_in t n ≡ None) }
+        ensures room { IfOk result (λ t. numbers ≤ room_in t) }
+    {
+        if numbers > usize::MAX / 8 {
+            return Err(AllocError);
+        }
+        Self::with_slots(alloc, (numbers / 4 + 1) * 5)
     }
 
     /// Writes a number with its place in the slot where its probe ends, or in the map where it meets no empty slot.
