@@ -3,16 +3,18 @@ use Rattle.std.proofs.Common.{◌≡◌, ℕ, ◌+◌, ◌≤◌, ◌&&◌, ◌|
 use Rattle.std.specs.Prelude.{not}
 use Rattle.std.specs.List.{list_any, position_or_len}
 use Rattle.std.proofs.lemmas.Bool.{and_from, and_parts, cases_Bool}
-use Rattle.indexmap.specs.IndexSet.{insert_key}
+use Rattle.fst_keys.specs.Keys.{with_key}
 use Rattle.std.proofs.lemmas.List.{length-map, map-append, take_all}
 use Rattle.std.proofs.lemmas.List.Folds.{list_any-append}
 use Rattle.std.proofs.lemmas.Option.{same_Some, slice_get_within}
 use Rattle.fst_semiring.specs.Cost.{Cost, plus}
+use Rattle.fst_machine.specs.BreadthFirst.{Apart, Has}
 use Rattle.fst_machine.specs.Machine.{Arc, valued_arc}
 use Rattle.fst_machine.proofs.Arcs.{at_mapped}
+use Rattle.fst_machine.proofs.Elements.{Apart-push, Has-any, at_Has}
 use Rattle.fst_machine.proofs.Narrowing.{taken}
 use Rattle.fst_epsilon.specs.Construction.{is_alike, put_arc}
-use Rattle.fst_epsilon.specs.Merging.{AreMarked, ArePaired, Betters, HasNoKey, IsFirstWithKey, key_of, same_key, spot_of}
+use Rattle.fst_epsilon.specs.Merging.{AreMarked, ArePaired, Betters, HasNoKey, IsFirstWithKey, key_decides, key_of, same_key, spot_of}
 use Rattle.fst_epsilon.specs.declared.merged.ArcKey.{ArcKey}
 
 -- two tests that say yes to the same say the same
@@ -90,13 +92,20 @@ module _ {V : Type 0} (value : V → Cost) (b : Arc V ℕ) where
           ap (λ (t : Bool). cond t (record (valued_arc value a) { weight = plus (value a.weight) (value b.weight) } ∷ map (valued_arc value) arcs) (valued_arc value a ∷ Put arcs)) (sym same)
           ∙ (ap (λ (zs : List (Arc Cost ℕ)). valued_arc value a ∷ zs) (rest e later) ∙ ap (λ (k : ℕ). map (valued_arc value) (set (a ∷ arcs) k c)) (sym on))
 
-  -- the keys stay those of the arcs
-  pub paired_new : (keys new : List ArcKey) (arcs : List (Arc V ℕ)) → ArePaired keys arcs → list_any (same_key (key_of b)) keys ≡ false → new ≡ insert_key same_key keys (key_of b) → ArePaired new (arcs ++ b ∷ [])
+  -- the keys stay those of the arcs, each once
+  pub paired_new : (keys new : List ArcKey) (arcs : List (Arc V ℕ)) → ArePaired keys arcs → list_any (same_key (key_of b)) keys ≡ false → new ≡ with_key same_key keys (key_of b) → ArePaired new (arcs ++ b ∷ [])
   paired_new keys new arcs paired e put =
-      put ∙ (ap (λ (t : Bool). if t then keys else keys ++ key_of b ∷ []) e ∙ (ap (λ (ks : List ArcKey). ks ++ key_of b ∷ []) paired ∙ sym (map-append key_of arcs (b ∷ []))))
+      let more : new ≡ keys ++ key_of b ∷ [] = put ∙ ap (λ (t : Bool). if t then keys else keys ++ key_of b ∷ []) e in (
+        more ∙ (ap (λ (ks : List ArcKey). ks ++ key_of b ∷ []) paired.0 ∙ sym (map-append key_of arcs (b ∷ []))),
+        subst Apart (sym more) (Apart-push keys (key_of b) paired.1 (λ h. true≢false (sym (Has-any same_key key_decides keys (key_of b) h) ∙ e))),
+      )
 
-  pub paired_old : (keys new : List ArcKey) (arcs : List (Arc V ℕ)) (place : ℕ) (d c : Arc V ℕ) → ArePaired keys arcs → list_any (same_key (key_of b)) keys ≡ true → new ≡ insert_key same_key keys (key_of b) → key_of c ≡ key_of (get_or arcs place d) → ArePaired new (set arcs place c)
-  paired_old keys new arcs place d c paired e put is = put ∙ (ap (λ (t : Bool). if t then keys else keys ++ key_of b ∷ []) e ∙ (paired ∙ sym (kept arcs place is)))
+  -- one that was there changes none
+  pub kept_keys : (keys new : List ArcKey) → list_any (same_key (key_of b)) keys ≡ true → new ≡ with_key same_key keys (key_of b) → new ≡ keys
+  kept_keys keys new e put = put ∙ ap (λ (t : Bool). if t then keys else keys ++ key_of b ∷ []) e
+
+  pub paired_old : (keys new : List ArcKey) (arcs : List (Arc V ℕ)) (place : ℕ) (d c : Arc V ℕ) → ArePaired keys arcs → new ≡ keys → key_of c ≡ key_of (get_or arcs place d) → ArePaired new (set arcs place c)
+  paired_old keys new arcs place d c paired same is = (same ∙ (paired.0 ∙ sym (kept arcs place is)), subst Apart (sym same) paired.1)
     where
       kept : (zs : List (Arc V ℕ)) (k : ℕ) → key_of c ≡ key_of (get_or zs k d) → map key_of (set zs k c) ≡ map key_of zs
       kept [] k is = refl
@@ -143,6 +152,16 @@ module _ (key : ArcKey) where
   found_here arcs i a there hit none =
       let first = first_found (map key_of arcs) i (key_of a) (at_mapped key_of arcs i a there) hit none in
       record { low = slice_get_within arcs i a there; met = first.0; first = first.1 }
+
+  -- where keys stand once each, the key in a place is the first like it
+  pub once_found : (keys : List ArcKey) (i : ℕ) → Apart keys → slice_get keys i ≡ Some key → i ≡ position_or_len (same_key key) keys
+  once_found [] i apart there = absurd (let wrong : ◌≡◌ {A = Option ArcKey} None (Some key) = there in cc)
+  once_found (z ∷ keys) zero apart there = sym (ap (λ (t : Bool). cond (not t) (1 + position_or_len (same_key key) keys) 0) ((key_decides key z).1 (sym (same_Some z key there))))
+  once_found (z ∷ keys) (suc i) apart there = by (same_key key z) refl (once_found keys i apart.1 there)
+    where
+      by : (t : Bool) → same_key key z ≡ t → i ≡ position_or_len (same_key key) keys → suc i ≡ cond (not t) (1 + position_or_len (same_key key) keys) 0
+      by true e rest = absurd (apart.0 (subst (Has keys) ((key_decides key z).0 e) (at_Has keys i key there)))
+      by false e rest = omega (arith, rest)
 
   -- none of all
   pub all_none : {V : Type 0} (arcs : List (Arc V ℕ)) (i : ℕ) → length arcs ≤ i → list_any (same_key key) (take i (map key_of arcs)) ≡ false → HasNoKey key arcs

@@ -1,7 +1,11 @@
 -- Arcs beside what makes them alike.
-use Rattle.std.specs.Prelude.{◌≡◌, ◌<◌, ◌+◌, ◌*◌, ◌%◌, ◌&&◌, ℕ, Bool, false, true, All, List, get_or, length, map, nat_eq, set}
+use Rattle.std.proofs.Common.{true≢false, refl, sym, subst}
+use Rattle.std.specs.Prelude.{◌≡◌, ◌<◌, ◌+◌, ◌*◌, ◌%◌, ◌^◌, ◌&&◌, ℕ, Bool, false, true, All, List, get_or, length, map, nat_eq, set}
+use Rattle.std.specs.Bool.{Decides}
 use Rattle.std.specs.List.{list_any, position_or_len}
+use Rattle.std.proofs.lemmas.Bool.{eq-eqb, eqb-true}
 use Rattle.fst_semiring.specs.Cost.{Cost, plus}
+use Rattle.fst_machine.specs.BreadthFirst.{Apart}
 use Rattle.fst_machine.specs.Machine.{Arc}
 use Rattle.fst_epsilon.specs.declared.merged.ArcKey.{ArcKey}
 
@@ -9,9 +13,9 @@ use Rattle.fst_epsilon.specs.declared.merged.ArcKey.{ArcKey}
 abbrev pub key_of : {V : Type 0} → Arc V ℕ → ArcKey
 key_of a = record { ilabel = a.ilabel; olabel = a.olabel; next = a.next }
 
--- the keys are those of the arcs, in order
+-- the keys are those of the arcs, in order, each once
 abbrev pub ArePaired : {V : Type 0} → List ArcKey → List (Arc V ℕ) → Type 0
-ArePaired keys arcs = keys ≡ map key_of arcs
+ArePaired keys arcs = (keys ≡ map key_of arcs) × Apart keys
 
 -- one of 64 spots for a key
 abbrev pub spot_of : ArcKey → ℕ
@@ -29,6 +33,27 @@ pub record AreHeld {V : Type 0} (few : Bool) (spots : List Bool) (keys : List Ar
 -- what `==` answers of keys
 abbrev pub same_key : ArcKey → ArcKey → Bool
 same_key a b = nat_eq a.ilabel b.ilabel && (nat_eq a.olabel b.olabel && nat_eq a.next b.next)
+
+both : (a b : Bool) → (a && b) ≡ true → (a ≡ true) × (b ≡ true)
+both true b e = (refl, e)
+both false b e = absurd (true≢false (sym e))
+
+-- keys that compare as equal are one (the laws of an impl cite specs alone, so this stands here)
+pub key_decides : (a b : ArcKey) → Decides (same_key a b) (a ≡ b)
+key_decides a b = (tells, λ e. subst (λ (k : ArcKey). same_key a k ≡ true) e own)
+  where
+    tells : same_key a b ≡ true → a ≡ b
+    tells e =
+        let one = both _ _ e in
+        let two = both _ _ one.1 in
+        λ i. record { ilabel = eqb-true a.ilabel b.ilabel one.0 i; olabel = eqb-true a.olabel b.olabel two.0 i; next = eqb-true a.next b.next two.1 i }
+
+    own : same_key a a ≡ true
+    own = rw (eq-eqb a.ilabel a.ilabel refl, eq-eqb a.olabel a.olabel refl, eq-eqb a.next a.next refl) refl
+
+-- a number of a key, which others may have
+unfoldable pub key_number : ArcKey → ℕ
+key_number k = (k.ilabel + k.olabel * 4294967296 + k.next * 11400714819323198485 % 2 ^ 64) % 2 ^ 64
 
 -- no arc has this key
 abbrev pub HasNoKey : {V : Type 0} → ArcKey → List (Arc V ℕ) → Type 0

@@ -23,8 +23,8 @@ fn put_arcs<W: Weight>(
     distance: W::Wide,
 ) -> Result<(), AllocError>
     requires wide { IsWide (W.wide_value distance) }
-    requires held { AreHeld out.old.few out.old.spots out.old.keys.keys out.old.arcs.items }
-    ensures held { OnOk result (AreHeld out.new.few out.new.spots out.new.keys.keys out.new.arcs.items) }
+    requires held { AreHeld out.old.few out.old.spots out.old.keys out.old.arcs.items }
+    ensures held { OnOk result (AreHeld out.new.few out.new.spots out.new.keys out.new.arcs.items) }
     ensures arcs { OnOk result (map (valued_arc W.wide_value) out.new.arcs.items ≡ merged (map (valued_arc W.wide_value) out.old.arcs.items) (spoken W.KIND (W.wide_value distance) (map (valued_arc W.value) arcs.now))) }
 {
     for arc in arcs {

@@ -3,22 +3,60 @@
 ghost use Rattle.std.specs.Prelude.{◌≡◌, ◌<◌, [], MatchOption, OnOk, length, map};
 ghost use Rattle.fst_machine.specs.Machine.{valued_arc};
 ghost use Rattle.fst_epsilon.specs.Construction.{put_arc};
-ghost use Rattle.fst_epsilon.specs.Merging.{AreHeld, AreMarked, ArePaired, Betters, HasNoKey, IsFirstWithKey, key_of, same_key, spot_of};
+ghost use Rattle.fst_epsilon.specs.Merging.{AreHeld, AreMarked, ArePaired, Betters, HasNoKey, IsFirstWithKey, key_decides, key_number, key_of, same_key, spot_of};
 
+use fst_keys::{Code, Coded, KeySet};
 use fst_machine::{FstArc, WideArc};
 use fst_semiring::Weight;
-use indexmap::IndexSet;
 use std::alloc::{AllocError, Global};
 
 /// Up to so many arcs are looked through one by one; with more they have a table.
 const FEW: usize = 32;
 
+/// An odd number whose bits look random.
+const FACTOR: u64 = 0x9E3779B97F4A7C15;
+
 /// What makes arcs alike: their labels and their next states.
-#[derive(Clone, Copy, PartialEq, Eq, Hash)]
+#[derive(Clone, Copy, PartialEq, Eq, PartialOrd, Ord)]
 pub(crate) struct ArcKey {
     ilabel: u32,
     olabel: u32,
     next: u32,
+}
+
+/// A number of a key, which others may have: both labels side by side, and a product of the next state.
+#[tactic(auto, unfolding(crate::specs::Merging::key_number))]
+fn key_number(key: ArcKey) -> u64
+    ensures { result ≡ key_number key }
+{
+    let labels = u64::from(key.ilabel) + u64::from(key.olabel) * 4_294_967_296;
+    labels.wrapping_add(u64::from(key.next).wrapping_mul(FACTOR))
+}
+
+/// Where another key has its number, a key is found by all its parts.
+impl Coded for ArcKey {
+    type Whole = ArcKey;
+
+    ghost code = { key_number };
+
+    ghost whole = { λ k. k };
+
+    ghost same = { key_decides };
+
+    ghost apart = { λ a b e. e };
+
+    ghost compared = { key_decides };
+
+    fn code(&self) -> Code {
+        Code {
+            number: key_number(*self),
+            is_alone: false,
+        }
+    }
+
+    fn whole(&self, _alloc: Global) -> Result<ArcKey, AllocError> {
+        Ok(*self)
+    }
 }
 
 /// Gives the arc in a place a weight, where it is better than its own.
@@ -99,18 +137,17 @@ fn put_by_place<W: Weight>(
     Ok(())
 }
 
-/// Puts an arc after the others, or its weight into the one that is like it, where it is better. It is looked up by the
-/// hash of its key.
+/// Puts an arc after the others, or its weight into the one that is like it, where it is better. It is looked up by its key.
 fn put_by_key<W: Weight>(
-    keys: &mut IndexSet<ArcKey>,
+    keys: &mut KeySet<ArcKey>,
     arcs: &mut Vec<WideArc<W>>,
     arc: WideArc<W>,
 ) -> Result<(), AllocError>
-    requires paired { ArePaired keys.old.keys arcs.old.items }
-    ensures paired { OnOk result (ArePaired keys.new.keys arcs.new.items) }
+    requires paired { ArePaired keys.old arcs.old.items }
+    ensures paired { OnOk result (ArePaired keys.new arcs.new.items) }
     ensures arcs { OnOk result (map (valued_arc W.wide_value) arcs.new.items ≡ put_arc (map (valued_arc W.wide_value) arcs.old.items) (valued_arc W.wide_value arc)) }
 {
-    let (place, new) = keys.insert_full(arc_key(&arc))?;
+    let (place, new) = keys.put(arc_key(&arc))?;
     if new {
         arcs.push(arc)?;
     } else {
@@ -127,7 +164,7 @@ pub(crate) struct Merged<W: Weight> {
     /// Which of 64 spots an arc has, where they are few.
     pub(crate) spots: [bool; 64],
     /// What makes them alike, arc for arc, where they are not few.
-    pub(crate) keys: IndexSet<ArcKey>,
+    pub(crate) keys: KeySet<ArcKey>,
     /// The arcs.
     pub(crate) arcs: Vec<WideArc<W>>,
 }
@@ -138,7 +175,7 @@ impl<W: Weight> Merged<W> {
         Merged {
             few: true,
             spots: [false; 64],
-            keys: IndexSet::new(alloc),
+            keys: KeySet::new(alloc),
             arcs: Vec::new(alloc),
         }
     }
@@ -148,21 +185,21 @@ impl<W: Weight> Merged<W> {
     /// A table is made anew and not cleared, since clearing takes the time of its greatest length.
     pub(crate) fn clear(&mut self, count: usize)
         ensures arcs { self.new.arcs.items ≡ [] }
-        ensures held { AreHeld self.new.few self.new.spots self.new.keys.keys self.new.arcs.items }
+        ensures held { AreHeld self.new.few self.new.spots self.new.keys self.new.arcs.items }
     {
         let alloc = *self.arcs.allocator();
         self.arcs.clear();
         self.few = count <= FEW;
         self.spots = [false; 64];
         if !self.few {
-            self.keys = IndexSet::new(alloc);
+            self.keys = KeySet::new(alloc);
         }
     }
 
     /// Puts an arc after the others, or its weight into the one that is like it, where it is better.
     pub(crate) fn put(&mut self, arc: WideArc<W>) -> Result<(), AllocError>
-        requires held { AreHeld self.old.few self.old.spots self.old.keys.keys self.old.arcs.items }
-        ensures held { OnOk result (AreHeld self.new.few self.new.spots self.new.keys.keys self.new.arcs.items) }
+        requires held { AreHeld self.old.few self.old.spots self.old.keys self.old.arcs.items }
+        ensures held { OnOk result (AreHeld self.new.few self.new.spots self.new.keys self.new.arcs.items) }
         ensures arcs { OnOk result (map (valued_arc W.wide_value) self.new.arcs.items ≡ put_arc (map (valued_arc W.wide_value) self.old.arcs.items) (valued_arc W.wide_value arc)) }
     {
         if self.few {

@@ -122,9 +122,9 @@ fn removed<W: Weight, Q: StateQueue>(
     ensures below { AreBelow (length fst.now.states) (Q.members queue.new) }
 {
     let marks = accessible::<W, Fst<W>>(alloc, fst)?;
-    // Mostly there are more arcs than before. Pages that are not written take no memory, and a list that outgrows its room is
-    // copied where that is small.
-    let room = 2 * fst.arc_count() as usize;
+    // Mostly there are more arcs than before. Room that is not written takes no pages; a list that outgrows a small one is
+    // copied, and what it leaves is not given back.
+    let room = (2 * fst.arc_count() as usize).min(MOST_ARCS as usize);
     let mut output = Output::new(alloc, fst.states() as usize, room)?;
     match put_all(alloc, fst, marks.as_slice(), queue, &mut output)? {
         Ok(()) => Ok(finished(fst, output)),

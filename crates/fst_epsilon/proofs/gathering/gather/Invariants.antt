@@ -11,7 +11,7 @@ invariant-loop-item g l =
     let wide = g.W.Weight.wide_value in
     let graph = graph_of (valued g.W.Weight.value l.fst) in
     record {
-      held : AreHeld l.out.few l.out.spots l.out.keys.keys l.out.arcs.items;
+      held : AreHeld l.out.few l.out.spots l.out.keys l.out.arcs.items;
       arcs : map (valued_arc wide) l.out.arcs.items ≡ merged [] (collected g.W.Weight.KIND graph (take l.item-index (pairs_of wide l.closure)));
       ends : wide l.last ≡ best_final g.W.Weight.KIND graph (take l.item-index (pairs_of wide l.closure));
     }

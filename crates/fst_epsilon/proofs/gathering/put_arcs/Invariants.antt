@@ -8,6 +8,6 @@ abbrev pub invariant-loop-arc : goal.invariant-loop-arc
 invariant-loop-arc g l =
     let wide = g.W.Weight.wide_value in
     record {
-      held : AreHeld l.out.few l.out.spots l.out.keys.keys l.out.arcs.items;
+      held : AreHeld l.out.few l.out.spots l.out.keys l.out.arcs.items;
       arcs : map (valued_arc wide) l.out.arcs.items ≡ merged (map (valued_arc wide) l.fn.out.arcs.items) (spoken g.W.Weight.KIND (wide l.distance) (take l.arc-index (map (valued_arc g.W.Weight.value) l.arcs)));
     }
