@@ -1,10 +1,10 @@
 -- From the least values that arrive by hops to the distances of graphs.
-use Rattle.std.proofs.Common.{◌≡◌, ◌⊎◌, inl, inr, ℕ, List, [], ◌∷◌, map, sym, refl, ap, ◌∙◌, subst}
+use Rattle.std.proofs.Common.{◌≡◌, ◌⊎◌, ◌*◌, inl, inr, ℕ, List, [], ◌∷◌, Some, map, slice_get, sym, refl, ap, ◌∙◌, subst}
 use Rattle.std.proofs.lemmas.Bool.{cases_eq}
 use Rattle.std.specs.declared.cmp.Ordering.TheVariants.{Less}
 use Rattle.fst_semiring.specs.Cost.{Cost, cost_cmp, infinite}
 use Rattle.fst_semiring.specs.declared.arc_type.ArcType.{ArcType}
-use Rattle.fst_semiring.specs.Semiring.{one_of, times, IsCost}
+use Rattle.fst_semiring.specs.Semiring.{one_of, times, IsCost, Within}
 use Rattle.fst_semiring.proofs.Laws.{one_not_zero, times_one}
 use Rattle.fst_machine.specs.Machine.{Arc}
 use Rattle.fst_machine.specs.Graph.{Graph}
@@ -14,13 +14,14 @@ use Rattle.fst_machine.specs.Steps.{written}
 use Rattle.fst_machine.specs.Cycles.{IsCoaccessible, IsImprovingCycle}
 use Rattle.fst_machine.specs.Distance.{AllArcs, AnyArc, Finishes, IsDistance, IsFinalDistance, IsLeast, Reaches}
 use Rattle.fst_machine.specs.declared.path.Step.{Step}
+use Rattle.fst_machine.proofs.Arcs.{at_mapped}
 use Rattle.fst_machine.proofs.Least.{least_same}
 use Rattle.fst_distance.specs.declared.direction.Direction.{Direction}
 use Rattle.fst_distance.specs.declared.direction.Direction.TheVariants.{FromStart, ToFinals}
 use Rattle.fst_distance.specs.ArcHops.{Along, Back}
 use Rattle.fst_distance.specs.Beginning.{IsOnly}
 use Rattle.fst_distance.specs.Cycles.{IsFound, hop_step, in_order}
-use Rattle.fst_distance.specs.Distances.{IsListed}
+use Rattle.fst_distance.specs.Distances.{IsListed, IsMeasured}
 use Rattle.fst_distance.specs.Hops.{Hop, Arrives, Better, IsBack, IsNet, hops_product, value_by}
 use Rattle.fst_distance.proofs.Ending.{least_fair}
 use Rattle.fst_distance.proofs.Rounds.{arrives_finite}
@@ -160,3 +161,12 @@ module _ (kind : ArcType) (g : Graph ℕ) (Goes : Hop → Type 0) where
         let b = backward_back kind g Goes Domain goes cycle p p meant improves.leads in
         let a = coaccessible_arrives p meant co in
         fair kind Goes source n net p d least cost a.0 a.1 b.0 b.1 (subst (λ z. cost_cmp z (one_of kind) ≡ Less) (sym b.2) improves.better)
+
+-- what is measured of a list of wide weights holds of each
+pub each_number : {X : Type 0} (wide : X → Cost) (kind : ArcType) (g : Graph ℕ) (Distance : ℕ → Cost → Type 0) (Counting : ℕ → Type 0) (n bound : ℕ) (list : List X) → IsMeasured kind g Distance Counting n bound (map wide list)
+    → (q : ℕ) (d : X) → slice_get list q ≡ Some d → Within (n * bound) (wide d)
+each_number wide kind g Distance Counting n bound list made q d there = made.numbers q (wide d) (at_mapped wide list q d there)
+
+pub each_kind : {X : Type 0} (wide : X → Cost) (kind : ArcType) (g : Graph ℕ) (Distance : ℕ → Cost → Type 0) (Counting : ℕ → Type 0) (n bound : ℕ) (list : List X) → IsMeasured kind g Distance Counting n bound (map wide list)
+    → (q : ℕ) (d : X) → slice_get list q ≡ Some d → IsCost kind (wide d)
+each_kind wide kind g Distance Counting n bound list made q d there = made.kinds q (wide d) (at_mapped wide list q d there)
