@@ -1,5 +1,5 @@
 -- The links of a machine are the hops along its arcs, and back along them.
-use Rattle.std.proofs.Common.{◌≡◌, ◌⊎◌, inl, inr, ℕ, ◌+◌, ◌<◌, ◌≤◌, zero, suc, Bool, true, List, [], ◌∷◌, None, Some, length, get_or, slice_get, sym, ap, ◌∙◌, subst, arith}
+use Rattle.std.proofs.Common.{◌≡◌, ◌⊎◌, inl, inr, ℕ, ◌+◌, ◌<◌, ◌≤◌, zero, suc, Bool, true, List, [], ◌∷◌, None, Some, length, get_or, slice_get, sym, ap, ap₂, ◌∙◌, subst, arith}
 use Rattle.std.specs.List.{All}
 use Rattle.std.proofs.lemmas.Bool.{cases_lt}
 use Rattle.std.proofs.lemmas.List.{get_or_past, length-map}
@@ -112,6 +112,11 @@ module _ {V : Type 0} (value : V → Cost) (m : Machine V) where
           leads = is_open;
         }
 
+    -- two arcs in one place of one state have one weight
+    at_one_place : (p q j k : ℕ) (a b : Arc Cost ℕ) → slice_get ((graph_of (valued value m)).arcs p) j ≡ Some a → slice_get ((graph_of (valued value m)).arcs q) k ≡ Some b → p ≡ q → j ≡ k → a.weight ≡ b.weight
+    at_one_place p q j k a b one two state place =
+        ap (λ (z : Arc Cost ℕ). z.weight) (same_Some a b (sym one ∙ (ap₂ (λ (x y : ℕ). slice_get ((graph_of (valued value m)).arcs x) y) state place ∙ two)))
+
     pub along_net : IsMachine value m → (test : Arc V ℕ → Bool) → IsNet (IsHop value marks (links_from test m.states)) (length m.states)
     along_net good test = record {
       begins = λ h hop. let a = (only h hop).0 in (arc_good good h.from h.place a.arc a.there).0;
@@ -120,8 +125,7 @@ module _ {V : Type 0} (value : V → Cost) (m : Machine V) where
       fixed = λ h k one two from place to.
           let a = (only h one).0 in
           let b = (only k two).0 in
-          let same : a.arc ≡ b.arc = same_Some a.arc b.arc (sym a.there ∙ (ap (λ (q : ℕ). slice_get ((graph_of (valued value m)).arcs q) h.place) from ∙ (ap (λ (j : ℕ). slice_get ((graph_of (valued value m)).arcs k.from) j) place ∙ b.there))) in
-          sym a.weight ∙ (ap (λ (z : Arc Cost ℕ). z.weight) same ∙ b.weight);
+          sym a.weight ∙ (at_one_place h.from k.from h.place k.place a.arc b.arc a.there b.there from place ∙ b.weight);
     }
       where
         only : (h : Hop) → IsHop value marks (links_from test m.states) h → Along (graph_of (valued value m)) (λ a. Unit {0}) h × IsOpen marks h.to
@@ -135,6 +139,5 @@ module _ {V : Type 0} (value : V → Cost) (m : Machine V) where
       fixed = λ h k one two from place to.
           let a = (back_only h one).0 in
           let b = (back_only k two).0 in
-          let same : a.arc ≡ b.arc = same_Some a.arc b.arc (sym a.there ∙ (ap (λ (q : ℕ). slice_get ((graph_of (valued value m)).arcs q) h.place) to ∙ (ap (λ (j : ℕ). slice_get ((graph_of (valued value m)).arcs k.to) j) place ∙ b.there))) in
-          sym a.weight ∙ (ap (λ (z : Arc Cost ℕ). z.weight) same ∙ b.weight);
+          sym a.weight ∙ (at_one_place h.to k.to h.place k.place a.arc b.arc a.there b.there to place ∙ b.weight);
     }

@@ -1,23 +1,27 @@
 -- From the least values that arrive by hops to the distances of graphs.
-use Rattle.std.proofs.Common.{◌≡◌, ◌⊎◌, inl, inr, ℕ, List, [], ◌∷◌, map, sym, refl, ap, ◌∙◌, subst}
+use Rattle.std.proofs.Common.{◌≡◌, ◌⊎◌, ◌*◌, inl, inr, ℕ, List, [], ◌∷◌, Some, map, slice_get, sym, refl, ap, ◌∙◌, subst}
 use Rattle.std.proofs.lemmas.Bool.{cases_eq}
 use Rattle.std.specs.declared.cmp.Ordering.TheVariants.{Less}
 use Rattle.fst_semiring.specs.Cost.{Cost, cost_cmp, infinite}
 use Rattle.fst_semiring.specs.declared.arc_type.ArcType.{ArcType}
-use Rattle.fst_semiring.specs.Semiring.{one_of, times, IsCost}
+use Rattle.fst_semiring.specs.Semiring.{one_of, times, IsCost, Within}
 use Rattle.fst_semiring.proofs.Laws.{one_not_zero, times_one}
 use Rattle.fst_machine.specs.Machine.{Arc}
 use Rattle.fst_machine.specs.Graph.{Graph}
-use Rattle.fst_machine.specs.Paths.{Transition, IsPath}
+use Rattle.fst_machine.specs.Letters.{product}
+use Rattle.fst_machine.specs.Paths.{Transition, IsPath, letters, places}
+use Rattle.fst_machine.specs.Steps.{written}
 use Rattle.fst_machine.specs.Cycles.{IsCoaccessible, IsImprovingCycle}
 use Rattle.fst_machine.specs.Distance.{AllArcs, AnyArc, Finishes, IsDistance, IsFinalDistance, IsLeast, Reaches}
 use Rattle.fst_machine.specs.declared.path.Step.{Step}
+use Rattle.fst_machine.proofs.Arcs.{at_mapped}
 use Rattle.fst_machine.proofs.Least.{least_same}
+use Rattle.fst_distance.specs.declared.direction.Direction.{Direction}
 use Rattle.fst_distance.specs.declared.direction.Direction.TheVariants.{FromStart, ToFinals}
 use Rattle.fst_distance.specs.ArcHops.{Along, Back}
 use Rattle.fst_distance.specs.Beginning.{IsOnly}
-use Rattle.fst_distance.specs.Cycles.{IsFound}
-use Rattle.fst_distance.specs.Distances.{IsListed}
+use Rattle.fst_distance.specs.Cycles.{IsFound, hop_step, in_order}
+use Rattle.fst_distance.specs.Distances.{IsListed, IsMeasured}
 use Rattle.fst_distance.specs.Hops.{Hop, Arrives, Better, IsBack, IsNet, hops_product, value_by}
 use Rattle.fst_distance.proofs.Ending.{least_fair}
 use Rattle.fst_distance.proofs.Rounds.{arrives_finite}
@@ -86,31 +90,30 @@ module _ (kind : ArcType) (g : Graph ℕ) (Goes : Hop → Type 0) where
   nothing_arrives source none q d (inl h) = h.1
   nothing_arrives source none q d (inr h) = absurd (h.0.begins (none h.0.first))
 
+  -- a cycle that is found is listed, as a path with the product and the steps of its hops
+  listed : (source : ℕ → Cost) (Counting : ℕ → Type 0) → ((q : ℕ) (w : Cost) → Arrives kind Goes source q w → Counting q) → (direction : Direction) (steps : List Step) (f : IsFound kind Goes source direction steps)
+      → (path : List (Transition ℕ)) → IsPath g f.state path f.state → product kind (letters path) ≡ hops_product kind (f.first ∷ f.rest) → written (in_order direction (map (hop_step direction) (f.first ∷ f.rest))) ≡ places path → IsListed kind g Counting steps
+  listed source Counting counts direction steps f path leads product_same same = record {
+    state = f.state;
+    cycle = path;
+    counts = counts f.state f.distance f.arrives;
+    improves = record { leads = leads; better = subst (λ z. cost_cmp z (one_of kind) ≡ Less) (sym product_same) f.better };
+    same = ap written f.same ∙ same;
+  }
+
   -- the cycle that is found, from the start
   pub found_from_start : (Class : Arc Cost ℕ → Type 0) → ((h : Hop) → Goes h → Along g Class h) → (source : ℕ → Cost) (Counting : ℕ → Type 0) → ((q : ℕ) (w : Cost) → Arrives kind Goes source q w → Counting q)
       → (steps : List Step) → IsFound kind Goes source FromStart steps → IsListed kind g Counting steps
   found_from_start Class along source Counting counts steps f =
       let p = forward_path kind g Goes Class along (f.first ∷ f.rest) f.state f.state f.leads in
-      record {
-        state = f.state;
-        cycle = p.path;
-        counts = counts f.state f.distance f.arrives;
-        improves = record { leads = p.leads; better = subst (λ z. cost_cmp z (one_of kind) ≡ Less) (sym p.product_same) f.better };
-        same = ap (λ (ss : List Step). map (λ s. (s.state, s.place)) ss) f.same ∙ p.steps;
-      }
+      listed source Counting counts FromStart steps f p.path p.leads p.product_same p.steps
 
   -- and the one that is found to the final states
   pub found_to_finals : ((h : Hop) → Goes h → Back g h) → (source : ℕ → Cost) (Counting : ℕ → Type 0) → ((q : ℕ) (w : Cost) → Arrives kind Goes source q w → Counting q)
       → (steps : List Step) → IsFound kind Goes source ToFinals steps → IsListed kind g Counting steps
   found_to_finals along source Counting counts steps f =
       let p = backward_path kind g Goes along (f.first ∷ f.rest) f.state f.state f.leads in
-      record {
-        state = f.state;
-        cycle = p.path;
-        counts = counts f.state f.distance f.arrives;
-        improves = record { leads = p.leads; better = subst (λ z. cost_cmp z (one_of kind) ≡ Less) (sym p.product_same) f.better };
-        same = ap (λ (ss : List Step). map (λ s. (s.state, s.place)) ss) f.same ∙ p.steps;
-      }
+      listed source Counting counts ToFinals steps f p.path p.leads p.product_same p.steps
 
   module _ (Domain : ℕ → Type 0) (along : (h : Hop) → Goes h → Back g h) (goes : (h : Hop) → Domain h.to → Back g h → Goes h × Domain h.from) (source : ℕ → Cost)
       (ends : (q : ℕ) → (source q ≡ infinite → ⊥) → source q ≡ g.final q) (starts : (q : ℕ) → Domain q → source q ≡ g.final q) where
@@ -158,3 +161,12 @@ module _ (kind : ArcType) (g : Graph ℕ) (Goes : Hop → Type 0) where
         let b = backward_back kind g Goes Domain goes cycle p p meant improves.leads in
         let a = coaccessible_arrives p meant co in
         fair kind Goes source n net p d least cost a.0 a.1 b.0 b.1 (subst (λ z. cost_cmp z (one_of kind) ≡ Less) (sym b.2) improves.better)
+
+-- what is measured of a list of wide weights holds of each
+pub each_number : {X : Type 0} (wide : X → Cost) (kind : ArcType) (g : Graph ℕ) (Distance : ℕ → Cost → Type 0) (Counting : ℕ → Type 0) (n bound : ℕ) (list : List X) → IsMeasured kind g Distance Counting n bound (map wide list)
+    → (q : ℕ) (d : X) → slice_get list q ≡ Some d → Within (n * bound) (wide d)
+each_number wide kind g Distance Counting n bound list made q d there = made.numbers q (wide d) (at_mapped wide list q d there)
+
+pub each_kind : {X : Type 0} (wide : X → Cost) (kind : ArcType) (g : Graph ℕ) (Distance : ℕ → Cost → Type 0) (Counting : ℕ → Type 0) (n bound : ℕ) (list : List X) → IsMeasured kind g Distance Counting n bound (map wide list)
+    → (q : ℕ) (d : X) → slice_get list q ≡ Some d → IsCost kind (wide d)
+each_kind wide kind g Distance Counting n bound list made q d there = made.kinds q (wide d) (at_mapped wide list q d there)

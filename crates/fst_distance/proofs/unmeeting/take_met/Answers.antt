@@ -7,23 +7,27 @@ use Rattle.fst_distance.specs.Closure.{Reached, Unmeeting, valued_reached}
 use Rattle.fst_distance.specs.Searching.{Node, blank_node, valued_node}
 use Rattle.fst_distance.proofs.Nodes.{node_read}
 use Rattle.fst_distance.proofs.Unmet.{unmeeting_on}
+use Rattle.fst_distance.proofs.unmeeting.take_met.Given.{Over}
+use Rattle.fst_distance.proofs.unmeeting.take_met.Goals.{In-Some}
 use Rattle.fst_distance.proofs.unmeeting.take_met.Goals as goal
 
-pub index-requires : goal.index-requires
-index-requires g c =
+-- the state that is taken off is one of the nodes
+low : (g : Over) (c : In-Some g) → c.in-Some.state < length c.loop-state.table.nodes.items
+low g c =
     let value = g.W.Weight.wide_value in
     let u = c.loop-state.invariant.taking in
     let has : Has c.loop-state.table.met.items c.in-Some.state = subst (λ (xs : List ℕ). Has xs c.in-Some.state) (sym c.in-Some.ensures.items) (Has-append_right c.pop.new.self.items (c.in-Some.state ∷ []) c.in-Some.state (inl refl)) in
-    let low : c.in-Some.state < length c.loop-state.table.nodes.items = (let was = c.requires.low c.in-Some.state (u.old c.in-Some.state has) in let size = u.size in let one = length-map c.loop-state.table.nodes.items (valued_node value) in let two = length-map c.args.table.now.nodes.items (valued_node value) in omega arith) in
-    search rules
+    let was = c.requires.low c.in-Some.state (u.old c.in-Some.state has) in
+    let size = u.size in
+    let one = length-map c.loop-state.table.nodes.items (valued_node value) in
+    let two = length-map c.args.table.now.nodes.items (valued_node value) in
+    omega arith
+
+pub index-requires : goal.index-requires
+index-requires g c = let below = low g (goal.at.index-requires g c).In-Some in search rules
 
 pub index_mut-requires : goal.index_mut-requires
-index_mut-requires g c =
-    let value = g.W.Weight.wide_value in
-    let u = c.loop-state.invariant.taking in
-    let has : Has c.loop-state.table.met.items c.in-Some.state = subst (λ (xs : List ℕ). Has xs c.in-Some.state) (sym c.in-Some.ensures.items) (Has-append_right c.pop.new.self.items (c.in-Some.state ∷ []) c.in-Some.state (inl refl)) in
-    let low : c.in-Some.state < length c.loop-state.table.nodes.items = (let was = c.requires.low c.in-Some.state (u.old c.in-Some.state has) in let size = u.size in let one = length-map c.loop-state.table.nodes.items (valued_node value) in let two = length-map c.args.table.now.nodes.items (valued_node value) in omega arith) in
-    search rules
+index_mut-requires g c = let below = low g (goal.at.index_mut-requires g c).In-Some in search rules
 
 pub loop-state-preserved : goal.loop-state-preserved
 loop-state-preserved g c =
@@ -34,8 +38,7 @@ loop-state-preserved g c =
     let all = c.args.table.now.met.items in
     let state = c.in-Some.state in
     let u = c.loop-state.invariant.taking in
-    let has : Has c.loop-state.table.met.items state = subst (λ (xs : List ℕ). Has xs state) (sym c.in-Some.ensures.items) (Has-append_right c.pop.new.self.items (state ∷ []) state (inl refl)) in
-    let low : state < length items = (let was = c.requires.low state (u.old state has) in let size = u.size in let one = length-map items (valued_node value) in let two = length-map c.args.table.now.nodes.items (valued_node value) in omega arith) in
+    let low = low g (goal.at.loop-state-preserved g c).In-Some in
     let below : state < length nodes = (let one = length-map items (valued_node value) in omega arith) in
     let node : Node g.row.W-Wide.Denot = record { distance = c.behind-table.inside.distance; link = c.behind-table.inside.link; turn = c.behind-table.inside.turn } in
     let is : node ≡ get_or items state node = subst (λ (z : Node g.row.W-Wide.Denot). z ≡ get_or items state z) (sym c.behind-table.view_is) c.index.ensures in
