@@ -15,9 +15,9 @@ from rows import MOST
 KEYS, PAIR_STATES = 20_000, 4096
 # The states to which words of three letters lead; those that they pass are before them.
 WORD_ENDS = range(4096, 8192)
-# How many times as long as plain ones the keys of a flat table may take, which has a tree for those that do not find a slot.
-# Twice is wanted. The kit's maps, and the lists of subsets with one number, have nothing of the kind yet.
-MOST_TIMES, UNBOUNDED = 4.0, float("inf")
+# How many times as long as plain ones they may take: a search in a sorted map each, for those that find no slot or whose number
+# another has. Twice is wanted.
+MOST_TIMES = 4.0
 # Behind so many seconds of both runs there are no more rounds.
 LONG = 20
 # The label and the end of the arcs that come together when epsilon arcs are taken away.
@@ -25,15 +25,13 @@ ILABEL, TARGET = 1, 2
 
 
 class Kind(NamedTuple):
-    """Keys of one table: what they are called, how they are crafted and drawn, the texts that have them, the command, and how many
-    times as long it may take."""
+    """Keys of one table: what they are called, how they are crafted and drawn, the texts that have them, and the command."""
 
     name: str
     crafted: Callable
     plain: Callable
     texts: Callable
     words: str
-    most: float = UNBOUNDED
 
 
 def drawn(least, end):
@@ -131,7 +129,7 @@ def plain_pairs(draw, count):
 
 
 KINDS = [
-    Kind("written state numbers", keys.state_numbers, drawn(0, keys.NUMBERS), chain_text, "compile {machine.text} {out}", MOST_TIMES),
+    Kind("written state numbers", keys.state_numbers, drawn(0, keys.NUMBERS), chain_text, "compile {machine.text} {out}"),
     Kind(
         "names of symbols",
         keys.names,
@@ -161,7 +159,6 @@ KINDS = [
         plain_pairs,
         compose_text,
         f"compose {MOST} {{machine}} {{other}} {{out}}",
-        MOST_TIMES,
     ),
     Kind(
         "pairs of states of a batch",
@@ -178,7 +175,7 @@ KINDS = [
         merged_text,
         "rmepsilon {machine} {out}",
     ),
-    Kind("labels when states are told apart", keys.node_labels, drawn(1, keys.LABELS), rows_text, "minimize {machine} {out}", MOST_TIMES),
+    Kind("labels when states are told apart", keys.labels, drawn(1, keys.LABELS), rows_text, "minimize {machine} {out}"),
     Kind("weights when states are told apart", keys.weights, drawn(1, keys.NUMBERS), weights_text, "minimize {machine} {out}"),
 ]
 
@@ -218,5 +215,5 @@ def crafted(fst, rounds, scratch, count=KEYS, is_wanted=lambda name: True):
             continue
         (long, short), (least, most) = sides.seconds(), sides.spread()
         print(f"| {kind.name} | {short:.3f} | {long:.3f} | {sides.time():.2f} | {least:.2f} to {most:.2f} |", flush=True)
-        over = over or sides.time() > kind.most
+        over = over or sides.time() > MOST_TIMES
     return over

@@ -1,11 +1,9 @@
 """Keys that a stranger would choose: those of one table of the program, all of which begin their search at one place, or near it.
 
-The tables hash with fixed factors, so that whoever picks the keys can make them meet. There are two kinds:
-
-- the flat table (`crates/fst_table`), whose slot is a function of a number and the table's length. Both of its factors are odd,
-  so that it is turned round here;
-- the kit's maps, whose hasher multiplies 64 bits by 64 and joins the halves of the product by xor. Where one factor is 0 the
-  hash is 0, whatever the other is; where none can be made so, keys are tried until their group is one of the first.
+Every table finds a key by a number of 64 bits, whose slot is a function of the number and the table's length
+(`crates/fst_table`). Its factors are fixed and odd, so that whoever picks the keys can turn it round, or try keys until they
+begin in the first slots. Names, entries and weights have a hash as their number, which multiplies 64 bits by 64 and joins the
+halves of the product by xor: where one factor is 0 it is 0, whatever the other is.
 """
 
 from itertools import count as numbers_from
@@ -16,7 +14,7 @@ HALF = 1 << 32
 # The factors of the flat table, and of the numbers of subsets (`crates/fst_determinize`).
 FIRST_FACTOR, SECOND_FACTOR = 0x9E3779B97F4A7C15, 0xD6E8FEB86659FD93
 FIRST_INVERSE, SECOND_INVERSE = pow(FIRST_FACTOR, -1, WORD), pow(SECOND_FACTOR, -1, WORD)
-# The hasher of the kit's maps: how it begins, and its factor.
+# The hasher: how it begins, and its factor.
 BEGIN, MULTIPLIER = 0x243F6A8885A308D3, 0x9E3779B97F4A7C15
 # The greatest number of a text has 18 digits, and the greatest label 31 bits.
 NUMBERS, LABELS = 10**18, 1 << 31
@@ -51,17 +49,35 @@ def state_numbers(count):
     return numbers[:count]
 
 
+def first_slots(count, number_of, candidates):
+    """So many of these keys whose numbers begin in the first slots of a table."""
+    first = HALF // PARTS
+    return list(islice((key for key in candidates if first_half(number_of(key)) < first), count))
+
+
+def name_number(pair):
+    """The number of a pair of states of two machines, as a name of their composition."""
+    return 1 + pair[0] + pair[1] * LABELS
+
+
 def state_pairs(count, states):
-    """So many pairs of a state of a first and of a second machine whose names begin in the first slots of a flat table."""
-    first = HALF // PARTS
-    named = ((state, second) for second in numbers_from(1) for state in range(states))
-    return list(islice((pair for pair in named if first_half(1 + pair[0] + pair[1] * LABELS) < first), count))
+    """So many pairs of a state of a first and of a second machine whose names begin in the first slots."""
+    return first_slots(count, name_number, ((state, second) for second in numbers_from(1) for state in range(states)))
 
 
-def node_labels(count):
-    """So many labels that begin in the first slots of a flat table, as the first numbers of rows do when states are told apart."""
-    first = HALF // PARTS
-    return list(islice((label for label in numbers_from(1) if first_half(label) < first), count))
+def name_pairs(count, states):
+    """The same, of these states of both machines."""
+    return first_slots(count, name_number, ((first, second) for second in states for first in states))
+
+
+def labels(count, least=1):
+    """So many labels from the least on that begin in the first slots, where they are the numbers."""
+    return first_slots(count, lambda label: label, numbers_from(least))
+
+
+def arc_labels(count, ilabel, target):
+    """So many output labels of arcs with one input label and one next state that begin in the first slots."""
+    return first_slots(count, lambda label: (ilabel + label * HALF + target * FIRST_FACTOR) % WORD, numbers_from(1))
 
 
 def subsets(count):
@@ -100,24 +116,9 @@ def written_wide(state, number):
     return folded(number % WORD ^ (state + 16) % WORD, number >> 64 ^ MULTIPLIER)
 
 
-def tried(count, state_of, candidates):
-    """So many of these keys that begin in the first groups of a map of so many, by the last state of the hasher for each."""
-    groups = 1
-    while 9 * groups < count:
-        groups *= 2
-    last, first = groups - 1, max(1, groups // PARTS)
-    states = ((key, state_of(key)) for key in candidates)
-    return list(islice((key for key, state in states if (state ^ state >> 32) & last < first), count))
-
-
 def names(count):
     """So many names of 16 bytes with hash 0: their last 8 bytes are the factor, which the hasher takes away from them."""
     return [b"%08d" % number + MULTIPLIER.to_bytes(8, "little") for number in range(count)]
-
-
-def labels(count, least=1):
-    """So many labels from the least on that begin in the first groups of a map of labels."""
-    return tried(count, lambda label: written(BEGIN, label, 4), numbers_from(least))
 
 
 def entries(count):
@@ -132,19 +133,7 @@ def entries(count):
     return found
 
 
-def arc_labels(count, ilabel, target):
-    """So many output labels of arcs with one input label and one next state that begin in the first groups of a map of arcs."""
-    before = written(BEGIN, ilabel, 4)
-    return tried(count, lambda label: written(written(before, label, 4), target, 4), numbers_from(1))
-
-
-def name_pairs(count, states):
-    """So many pairs of these states of two machines whose names begin in the first groups of a map of names."""
-    named = ((first, second) for second in states for first in states)
-    return tried(count, lambda pair: written_class(written(written(BEGIN, pair[0], 4), pair[1], 4), 0), named)
-
-
 def weights(count):
-    """So many weights that begin in the first groups of a map of weights, as states are told apart by them."""
+    """So many weights whose hash begins in the first slots, as states are told apart by them."""
     before = written_class(BEGIN, 1)
-    return tried(count, lambda weight: written_wide(written_wide(before, weight), 0), numbers_from(1))
+    return first_slots(count, lambda weight: written_wide(written_wide(before, weight), 0), numbers_from(1))
