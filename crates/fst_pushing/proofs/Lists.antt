@@ -4,6 +4,7 @@ use Rattle.std.proofs.lemmas.List.{map-append, take_more}
 use Rattle.std.proofs.lemmas.Option.{slice_get-get_or, same_Some}
 use Rattle.fst_machine.specs.Machine.{changed}
 use Rattle.fst_machine.proofs.Arcs.{append_at, at_append_right}
+use Rattle.fst_machine.proofs.Changes.{read_as}
 use Rattle.fst_semiring.specs.Cost.{Cost}
 use Rattle.fst_pushing.specs.Values.{value_in, value_or_zero}
 
@@ -12,6 +13,11 @@ pub map_step : {X Y Z : Type 0} (v : X → Z) (f : Y → Z) (xs new : List X) (x
 map_step v f xs new x ys i y low read put same before =
     ap (map v) put ∙ (map-append v xs (x ∷ []) ∙ (ap₂ (λ a b. a ++ b ∷ []) before (same ∙ ap f read)
     ∙ (sym (map-append f (take i ys) (get_or ys i y ∷ [])) ∙ ap (map f) (sym (take_more ys i y low)))))
+
+-- the same where the element is read
+pub map_read : {X Y Z : Type 0} (v : X → Z) (f : Y → Z) (xs new : List X) (x : X) (ys : List Y) (i : ℕ) (y item : Y) → i < length ys → y ≡ item → item ≡ get_or ys i item → new ≡ xs ++ x ∷ [] → v x ≡ f y
+    → map v xs ≡ map f (take i ys) → map v new ≡ map f (take (i + 1) ys)
+map_read v f xs new x ys i y item low same is put alike before = map_step v f xs new x ys i y low (read_as ys i y item same is) put alike before
 
 -- the value of what is read
 pub value_read : {V : Type 0} (value : V → Cost) (ds : List V) (i : ℕ) (d : V) → i < length ds → d ≡ get_or ds i d → value_in value ds i ≡ value d
@@ -79,3 +85,7 @@ changed_behind f (x ∷ xs) y ys = ap (λ zs. x ∷ zs) (changed_behind f xs y y
 pub map_fuse : {X Y Z : Type 0} (f : X → Y) (g : Y → Z) (xs : List X) → map (λ x. g (f x)) xs ≡ map g (map f xs)
 map_fuse f g [] = refl
 map_fuse f g (x ∷ xs) = ap (λ ys. g (f x) ∷ ys) (map_fuse f g xs)
+
+-- a list made from another, each through a view
+pub map_through : {X Y : Type 0} (v : X → Y) (f : Y → Y) (out made read list : List X) (target : List Y) → out ≡ made → map v made ≡ map (λ x. f (v x)) read → read ≡ list → map v list ≡ target → map v out ≡ map f target
+map_through v f out made read list target is by from seen = ap (map v) is ∙ (by ∙ (ap (map (λ x. f (v x))) from ∙ (map_fuse v f list ∙ ap (map f) seen)))

@@ -15,6 +15,7 @@ use Rattle.fst_machine.specs.Paths.{Transition, IsPath, letters}
 use Rattle.fst_machine.specs.Distance.{Finishes, IsFinalDistance}
 use Rattle.fst_pushing.specs.Pushing.{pushed_arc, Pushes}
 use Rattle.fst_pushing.specs.PushLaws.{IsPotential, IsRank}
+use Rattle.fst_pushing.proofs.Potential.{finishes_before}
 use Rattle.fst_pushing.proofs.PushedPaths.{pushed_path, arc_there, arc_back, path_there, finish_undone, final_there}
 
 -- a value that is no worse than another is better or the same
@@ -44,18 +45,6 @@ both_no_better kind a b one two =
     let kept : plus (times kind a (one_of kind)) (times kind a b) ≡ times kind a (one_of kind) = times_keeps kind a (one_of kind) b two in
     let same = times_one kind a in
     plus_trans (one_of kind) a (times kind a b) one (ap (λ z. plus z (times kind a b)) (sym same) ∙ (kept ∙ same))
-
--- an arc before a path that finishes
-pub finishes_before : {N : Type 0} (kind : ArcType) (g : Graph N) (p : N) (k : ℕ) (a : Arc Cost N) (w : Cost) → slice_get (g.arcs p) k ≡ Some a → Finishes kind g a.next w → Finishes kind g p (times kind a.weight w)
-finishes_before {N} kind g p k a w has f =
-    let t : Transition N = record { state = p; place = k; arc = a } in
-    record {
-      last = f.last;
-      path = t ∷ f.path;
-      leads = ((refl, has), f.leads);
-      final = f.final;
-      weight = ap (times kind a.weight) f.weight ∙ sym (times_assoc kind a.weight (product kind (letters f.path)) (g.final f.last));
-    }
 
 module _ {N : Type 0} (kind : ArcType) (d : N → Cost) (g h : Graph N) (D : N → Type 0) (pushes : Pushes kind d g h D) (pot : IsPotential kind d g D)
     (attained : (p : N) → D p → Finishes kind g p (d p) × ((v : Cost) → Finishes kind g p v → plus (d p) v ≡ d p)) where

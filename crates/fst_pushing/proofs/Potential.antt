@@ -27,6 +27,18 @@ zero_or_not Cost.best = inr (λ e. absurd (cc))
 zero_or_not (Cost.finite a b) = inr (λ e. absurd (cc))
 zero_or_not infinite = inl refl
 
+-- an arc before a path that finishes
+pub finishes_before : {N : Type 0} (kind : ArcType) (g : Graph N) (p : N) (k : ℕ) (a : Arc Cost N) (w : Cost) → slice_get (g.arcs p) k ≡ Some a → Finishes kind g a.next w → Finishes kind g p (times kind a.weight w)
+finishes_before {N} kind g p k a w has f =
+    let t : Transition N = record { state = p; place = k; arc = a } in
+    record {
+      last = f.last;
+      path = t ∷ f.path;
+      leads = ((refl, has), f.leads);
+      final = f.final;
+      weight = ap (times kind a.weight) f.weight ∙ sym (times_assoc kind a.weight (product kind (letters f.path)) (g.final f.last));
+    }
+
 -- A graph where no arc weighs Zero, and names that are meant, from each of which a path
 -- goes on to a final name.
 module _ {N : Type 0} (kind : ArcType) (g : Graph N) (D : N → Type 0) (d : N → Cost)
@@ -55,22 +67,10 @@ module _ {N : Type 0} (kind : ArcType) (g : Graph N) (D : N → Type 0) (d : N �
       by (inl none) = ap (plus (d p)) none ∙ plus_infinite (d p)
       by (inr final) = (attained p here).1 (g.final p) (record { last = p; path = []; leads = refl; final = final; weight = sym (one_times kind (g.final p)) })
 
-  -- an arc before a path that finishes
-  pub arc_finishes : (p : N) (k : ℕ) (a : Arc Cost N) (w : Cost) → slice_get (g.arcs p) k ≡ Some a → Finishes kind g a.next w → Finishes kind g p (times kind a.weight w)
-  arc_finishes p k a w has f =
-      let t : Transition N = record { state = p; place = k; arc = a } in
-      record {
-        last = f.last;
-        path = t ∷ f.path;
-        leads = ((refl, has), f.leads);
-        final = f.final;
-        weight = ap (times kind a.weight) f.weight ∙ sym (times_assoc kind a.weight (product kind (letters f.path)) (g.final f.last));
-      }
-
   pub distances_potential : IsPotential kind d g D
   distances_potential = record {
     of_kind = of_kind;
     not_zero = λ p here. finishes_some p (d p) (attained p here).0;
     final = final_no_better;
-    arc = λ p k a here has. (attained p here).1 (times kind a.weight (d a.next)) (arc_finishes p k a (d a.next) has (attained a.next (within p k a here has)).0);
+    arc = λ p k a here has. (attained p here).1 (times kind a.weight (d a.next)) (finishes_before kind g p k a (d a.next) has (attained a.next (within p k a here has)).0);
   }

@@ -165,3 +165,17 @@ module _ {V X : Type 0} (kind : ArcType) (value : V → Cost) (wide : X → Cost
           few_states = let f = is.few_states in let s = view_size in omega arith;
           few_arcs = let f = is.few_arcs in let s = view_total in omega arith;
         }
+
+-- What is read of a pushing: a machine, its distances, and the pushed machine as it is seen.
+pub record Reads {V X : Type 0} (kind : ArcType) (value : V → Cost) (wide : X → Cost) (ds : List X) (seen : Machine Cost) (m : Machine V) : Type 0 where
+  pub size : length ds ≡ length m.states
+  pub has : HasDistances kind (valued value m) (value_in wide ds)
+  pub view_is : pushed_machine kind (value_in wide ds) (valued value m) ≡ seen
+
+pub reads : {V X : Type 0} (kind : ArcType) (value : V → Cost) (wide : X → Cost) (ds : List X) (seen : Machine Cost) (m now : Machine V) → now ≡ m → (length ds ≡ length m.states) × HasDistances kind (valued value m) (value_in wide ds)
+    → pushed_machine kind (value_in wide ds) (valued value m) ≡ seen → Reads kind value wide ds seen now
+reads kind value wide ds seen m now same holds view_is = subst (Reads kind value wide ds seen) (sym same) (record { size = holds.0; has = holds.1; view_is = view_is })
+
+-- a state that is seen is one of the machine
+pub low_read : {V X : Type 0} (kind : ArcType) (value : V → Cost) (wide : X → Cost) (ds : List X) (seen : Machine Cost) (m : Machine V) → Reads kind value wide ds seen m → (p : ℕ) → p < length seen.states → p < length m.states
+low_read kind value wide ds seen m r p low = view_low kind value wide m ds r.size r.has p (subst (λ (n : Machine Cost). p < length n.states) (sym r.view_is) low)

@@ -4,12 +4,14 @@ use Rattle.std.proofs.lemmas.Bool.{cases_eq}
 use Rattle.std.proofs.lemmas.List.{get_or-set_same, get_or-set_other, length-set, length-append, get_or_append_left}
 use Rattle.std.proofs.Math.Seq.{get_or-append_seam}
 use Rattle.fst_semiring.specs.declared.key.Key.{Key}
+use Rattle.fst_semiring.specs.Keys.{key_cmp}
 use Rattle.fst_machine.specs.BreadthFirst.{Has}
 use Rattle.fst_queue.specs.Members.{Adds}
-use Rattle.fst_queue.specs.Heap.{key_at, key_in, no_key, Falling, Heaped, IsBelow, Linked, NoWorse, Rising, SamePresent}
+use Rattle.fst_queue.specs.Heap.{key_at, key_in, no_key, Heaped, Linked, NoWorse, SamePresent}
+use Rattle.fst_queue.specs.HeapOrder.{Falling, IsBelow, Rising}
 use Rattle.fst_queue.proofs.Members.{pushed_adds}
 use Rattle.fst_queue.proofs.HeapMembers.{place_Has, same_members}
-use Rattle.fst_queue.proofs.HeapOrder.{along, NoWorse-trans}
+use Rattle.fst_queue.proofs.HeapKeys.{along, NoWorse-trans}
 
 -- the tables of a heap have grown
 pub heaped_grown : (heap places more : List ℕ) (keys new : List Key) → Heaped heap places keys → length places ≤ length more → ((q : ℕ) → get_or more q 0 ≡ get_or places q 0) → length keys ≤ length new → ((q : ℕ) → key_at new q ≡ key_at keys q) → Heaped heap more new
@@ -67,7 +69,7 @@ module _ (heap places : List ℕ) (keys : List Key) (state : ℕ) (key : Key) (h
             let was = heaped.linked.back q i (sym (get_or-set_other places state q (n + 1) 0 other) ∙ h) in
             (omega (arith, len, was.0), at_old i (omega (arith, was.0)) ∙ was.1)
 
-    pub entered_rising : Rising (length new) (key_in (set keys state key) new) n
+    pub entered_rising : Rising key_cmp (length new) (key_in (set keys state key) new) n
     entered_rising = record { ordered = λ p c below low other. by p c below (omega (arith, len)); across = λ p c up below low. absurd (omega (arith, len)) }
       where
         kept : (i : ℕ) → i < n → key_in (set keys state key) new i ≡ key_in keys heap i
@@ -101,7 +103,7 @@ module _ (heap places : List ℕ) (keys : List Key) (state : ℕ) (key : Key) (h
     pub rekeyed_linked : Linked heap places (length (set keys state key))
     rekeyed_linked = subst (λ (size : ℕ). Linked heap places size) (sym (length-set keys state key)) heaped.linked
 
-    pub rekeyed_rising : NoWorse key (key_at keys state) → Rising (length heap) (key_in (set keys state key) heap) at
+    pub rekeyed_rising : NoWorse key (key_at keys state) → Rising key_cmp (length heap) (key_in (set keys state key) heap) at
     rekeyed_rising better = record { ordered = λ p c below low other. by p c below low other (cases_eq p at); across = λ p c up below low. along _ _ _ _ (kept p (omega arith) (λ h. omega arith)) (kept c low (λ h. omega arith)) (NoWorse-trans (key_in keys heap p) (key_in keys heap at) (key_in keys heap c) (heaped.ordered p at up (omega arith)) (heaped.ordered at c below low)) }
       where
         by : (p c : ℕ) → IsBelow p c → c < length heap → c ≢ at → (p ≡ at) ⊎ (p ≡ at → ⊥) → NoWorse (key_in (set keys state key) heap p) (key_in (set keys state key) heap c)
@@ -109,7 +111,7 @@ module _ (heap places : List ℕ) (keys : List Key) (state : ℕ) (key : Key) (h
             along _ _ _ _ (ap (key_in (set keys state key) heap) e ∙ key_at_place) (kept c low other) (NoWorse-trans key (key_at keys state) (key_in keys heap c) better (along _ _ _ _ (sym old_key) refl (heaped.ordered at c (omega arith, omega arith) low)))
         by p c below low other (inr np) = along _ _ _ _ (kept p (omega arith) np) (kept c low other) (heaped.ordered p c below low)
 
-    pub rekeyed_falling : NoWorse (key_at keys state) key → Falling (length heap) (key_in (set keys state key) heap) at
+    pub rekeyed_falling : NoWorse (key_at keys state) key → Falling key_cmp (length heap) (key_in (set keys state key) heap) at
     rekeyed_falling worse = record { ordered = λ p c below low other. by p c below low other (cases_eq c at); across = λ p c up below low. along _ _ _ _ (kept p (omega arith) (λ h. omega arith)) (kept c low (λ h. omega arith)) (NoWorse-trans (key_in keys heap p) (key_in keys heap at) (key_in keys heap c) (heaped.ordered p at up (omega arith)) (heaped.ordered at c below low)) }
       where
         by : (p c : ℕ) → IsBelow p c → c < length heap → p ≢ at → (c ≡ at) ⊎ (c ≡ at → ⊥) → NoWorse (key_in (set keys state key) heap p) (key_in (set keys state key) heap c)

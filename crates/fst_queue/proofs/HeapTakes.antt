@@ -3,18 +3,21 @@ use Rattle.std.proofs.Common.{◌≡◌, ◌≢◌, ◌⊎◌, ◌↔◌, inl, i
 use Rattle.std.proofs.lemmas.Bool.{cases_eq}
 use Rattle.std.proofs.lemmas.List.{get_or-set_same, get_or-set_other, length-set, length-take-le, get_or-take}
 use Rattle.fst_semiring.specs.declared.key.Key.{Key}
+use Rattle.fst_semiring.specs.Keys.{key_cmp}
 use Rattle.fst_machine.specs.BreadthFirst.{Has}
 use Rattle.fst_queue.specs.Members.{Takes}
-use Rattle.fst_queue.specs.Heap.{key_at, key_in, Falling, Heaped, IsBelow, IsBest, Linked, NoWorse, SamePresent}
+use Rattle.fst_queue.specs.Heap.{key_at, key_in, Heaped, IsBest, Linked, NoWorse, SamePresent}
+use Rattle.fst_queue.specs.HeapOrder.{Falling, IsBelow}
 use Rattle.fst_queue.proofs.HeapMembers.{Has_place, place_Has, same_members}
-use Rattle.fst_queue.proofs.HeapOrder.{along, top_best}
+use Rattle.fst_queue.proofs.HeapKeys.{along, key_total}
+use Rattle.fst_queue.proofs.HeapOrder.{top_best}
 
 module _ (heap places : List ℕ) (keys : List Key) (heaped : Heaped heap places keys) (state : ℕ) (is_state : get_or heap 0 0 ≡ state) (some : 0 < length heap) where
   -- no key betters that of the first state
   pub first_best : IsBest keys heap state
   first_best q h =
       let at = Has_place heap q h in
-      along _ _ _ _ (ap (key_at keys) (sym is_state)) (ap (key_at keys) (sym at.2)) (top_best (length heap) (key_in keys heap) heaped.ordered (length heap) at.0 at.1 at.1)
+      along _ _ _ _ (ap (key_at keys) (sym is_state)) (ap (key_at keys) (sym at.2)) (top_best key_cmp key_total (length heap) (key_in keys heap) heaped.ordered (length heap) at.0 at.1 at.1)
 
   module _ (last : ℕ) (is_last : last + 1 ≡ length heap) (swapped moved left : List ℕ) (linked : Linked swapped moved (length keys)) (same : SamePresent places moved) (size : length swapped ≡ length heap) (at_last : get_or swapped last 0 ≡ state) (others : (i : ℕ) → (i ≡ 0 → ⊥) → (i ≡ last → ⊥) → get_or swapped i 0 ≡ get_or heap i 0) (popped : left ≡ take last swapped) where
     long : length left ≡ last
@@ -52,7 +55,7 @@ module _ (heap places : List ℕ) (keys : List Key) (heaped : Heaped heap places
             let low : i < last = omega (arith, was.0, size, is_last) in
             (omega (arith, long), at_left i low ∙ was.1)
 
-    pub left_falling : Falling (length left) (key_in keys left) 0
+    pub left_falling : Falling key_cmp (length left) (key_in keys left) 0
     left_falling = record { ordered = λ p c below low other. by p c below (omega (arith, long, low)) other; across = λ p c up below low. absurd (omega arith) }
       where
         kept : (i : ℕ) → i < last → i ≢ 0 → key_in keys left i ≡ key_in keys heap i

@@ -1,10 +1,11 @@
 -- A heap of states by key, with the place of each state in it.
-use Rattle.std.specs.Prelude.{◌≡◌, ◌≢◌, ◌⊎◌, ◌↔◌, ℕ, ◌+◌, ◌*◌, ◌<◌, ◌≤◌, pos, false}
+use Rattle.std.specs.Prelude.{◌≡◌, ◌≢◌, ◌⊎◌, ◌↔◌, ℕ, ◌+◌, ◌<◌, ◌≤◌, pos, false}
 use Rattle.std.specs.Prelude.{List, [], Option, Some, None, map, length, get_or}
 use Rattle.std.specs.Ordering.{is_gt}
 use Rattle.fst_semiring.specs.declared.key.Key.{Key}
 use Rattle.fst_semiring.specs.Keys.{key_cmp}
 use Rattle.fst_machine.specs.BreadthFirst.{Has}
+use Rattle.fst_queue.specs.HeapOrder.{Ordered}
 
 -- the first key is no worse
 abbrev pub NoWorse : Key → Key → Type 0
@@ -41,24 +42,6 @@ key_at keys state = get_or keys state no_key
 abbrev pub key_in : List Key → List ℕ → ℕ → Key
 key_in keys heap i = key_at keys (get_or heap i 0)
 
--- c is one of the two places below p
-abbrev pub IsBelow : ℕ → ℕ → Type 0
-IsBelow p c = (2 * p < c) × (c ≤ 2 * p + 2)
-
--- no state in the first n places is better than the one above it
-abbrev pub Ordered : ℕ → (ℕ → Key) → Type 0
-Ordered n k = (p c : ℕ) → IsBelow p c → c < n → NoWorse (k p) (k c)
-
--- the same, but that the state in place x may be better than the one above it
-pub record Rising (n : ℕ) (k : ℕ → Key) (x : ℕ) : Type 0 where
-  pub ordered : (p c : ℕ) → IsBelow p c → c < n → c ≢ x → NoWorse (k p) (k c)
-  pub across : (p c : ℕ) → IsBelow p x → IsBelow x c → c < n → NoWorse (k p) (k c)
-
--- the same, but that the state in place x may be worse than those below it
-pub record Falling (n : ℕ) (k : ℕ → Key) (x : ℕ) : Type 0 where
-  pub ordered : (p c : ℕ) → IsBelow p c → c < n → p ≢ x → NoWorse (k p) (k c)
-  pub across : (p c : ℕ) → IsBelow p x → IsBelow x c → c < n → NoWorse (k p) (k c)
-
 -- each state of the heap has its place, one up, in the table of places, and no other state has one there
 pub record Linked (heap places : List ℕ) (size : ℕ) : Type 0 where
   pub low : (i : ℕ) → i < length heap → (get_or heap i 0 < length places) × (get_or heap i 0 < size)
@@ -69,14 +52,10 @@ pub record Linked (heap places : List ℕ) (size : ℕ) : Type 0 where
 abbrev pub SamePresent : List ℕ → List ℕ → Type 0
 SamePresent old new = (q : ℕ) → (get_or new q 0 ≡ 0) ↔ (get_or old q 0 ≡ 0)
 
--- a place that has another below it in the first n, of which c is one that is not worse than the other
-abbrev pub IsBestBelow : ℕ → (ℕ → Key) → ℕ → ℕ → Type 0
-IsBestBelow n k p c = IsBelow p c × (c < n) × ((d : ℕ) → IsBelow p d → d < n → NoWorse (k c) (k d))
-
 -- a heap in order
 pub record Heaped (heap places : List ℕ) (keys : List Key) : Type 0 where
   pub linked : Linked heap places (length keys)
-  pub ordered : Ordered (length heap) (key_in keys heap)
+  pub ordered : Ordered key_cmp (length heap) (key_in keys heap)
 
 -- the states of a heap with their keys
 abbrev pub entries_of : List Key → List ℕ → List (ℕ × Key)

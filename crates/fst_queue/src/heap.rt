@@ -6,7 +6,8 @@
 ghost use Rattle.std.specs.Prelude.{◌≡◌, ◌≢◌, ◌+◌, ◌*◌, ◌<◌, ◌≤◌, ℕ, length, IfSome, MatchOption, OnErr, OnOk, get_or, set};
 ghost use Rattle.std.specs.Ordering.{is_lt};
 ghost use Rattle.fst_semiring.specs.Keys.{key_cmp};
-ghost use Rattle.fst_queue.specs.Heap.{key_at, key_in, Falling, Heaped, IsBest, IsBestBelow, Linked, Ordered, Rising, SamePresent};
+ghost use Rattle.fst_queue.specs.Heap.{key_at, key_in, Heaped, IsBest, Linked, SamePresent};
+ghost use Rattle.fst_queue.specs.HeapOrder.{Falling, IsFirstBelow, Ordered, Rising};
 ghost use Rattle.fst_machine.specs.BreadthFirst.{Has};
 ghost use Rattle.fst_queue.specs.Members.{Adds, Takes};
 
@@ -60,7 +61,7 @@ fn exchange(heap: &mut Vec<u32>, places: &mut Vec<usize>, a: usize, b: usize)
 /// The place below another whose state is not worse than the other's there; `None` exactly where none is below it.
 fn best_below(heap: &Vec<u32>, places: &Vec<usize>, keys: &Vec<Key>, at: usize) -> Option<usize>
     requires linked { Linked heap.now.items places.now.items (length keys.now.items) }
-    ensures { let n = length heap.now.items in MatchOption result (n ≤ 2 * at + 1) (λ c. IsBestBelow n (key_in keys.now.items heap.now.items) at c) }
+    ensures { let n = length heap.now.items in MatchOption result (n ≤ 2 * at + 1) (λ c. IsFirstBelow key_cmp n (key_in keys.now.items heap.now.items) at c) }
 {
     let len = heap.len();
     if at >= len / 2 {
@@ -79,9 +80,9 @@ fn best_below(heap: &Vec<u32>, places: &Vec<usize>, keys: &Vec<Key>, at: usize) 
 pub(crate) fn rise(heap: &mut Vec<u32>, places: &mut Vec<usize>, keys: &Vec<Key>, at: usize)
     requires linked { Linked heap.old.items places.old.items (length keys.now.items) }
     requires within { at < length heap.old.items }
-    requires rising { Rising (length heap.old.items) (key_in keys.now.items heap.old.items) at }
+    requires rising { Rising key_cmp (length heap.old.items) (key_in keys.now.items heap.old.items) at }
     ensures linked { Linked heap.new.items places.new.items (length keys.now.items) }
-    ensures ordered { Ordered (length heap.new.items) (key_in keys.now.items heap.new.items) }
+    ensures ordered { Ordered key_cmp (length heap.new.items) (key_in keys.now.items heap.new.items) }
     ensures same { SamePresent places.old.items places.new.items }
 {
     let mut at = at;
@@ -99,9 +100,9 @@ pub(crate) fn rise(heap: &mut Vec<u32>, places: &mut Vec<usize>, keys: &Vec<Key>
 pub(crate) fn fall(heap: &mut Vec<u32>, places: &mut Vec<usize>, keys: &Vec<Key>, at: usize)
     requires linked { Linked heap.old.items places.old.items (length keys.now.items) }
     requires within { at < length heap.old.items }
-    requires falling { Falling (length heap.old.items) (key_in keys.now.items heap.old.items) at }
+    requires falling { Falling key_cmp (length heap.old.items) (key_in keys.now.items heap.old.items) at }
     ensures linked { Linked heap.new.items places.new.items (length keys.now.items) }
-    ensures ordered { Ordered (length heap.new.items) (key_in keys.now.items heap.new.items) }
+    ensures ordered { Ordered key_cmp (length heap.new.items) (key_in keys.now.items heap.new.items) }
     ensures same { SamePresent places.old.items places.new.items }
 {
     let mut at = at;

@@ -1,4 +1,5 @@
 use Rattle.std.proofs.Common.{◌≡◌, length, map, ◌++◌, ◌∷◌, [], get_or, sym, ap, ◌∙◌, subst, arith}
+use Rattle.std.specs.Bool.{Decides}
 use Rattle.std.proofs.lemmas.List.{length-map}
 use Rattle.fst_semiring.specs.Cost.{Cost}
 use Rattle.fst_machine.specs.Machine.{State, valued_arc, valued_state}
@@ -22,9 +23,7 @@ made g c =
     (ap (map (valued_arc w.wide_value)) c.deref.ensures.value ∙ c.in_ok-put_arcs.ensures.arcs)
 
 pub returns-clause-fits : goal.returns-clause-fits
-returns-clause-fits g c =
-    let fits = c.in_ok-fits.ensures.fits in
-    ((λ e. subst IsInRange (made g c) (fits.0 e)), (λ h. fits.1 (subst IsInRange (sym (made g c)) h)))
+returns-clause-fits g c = subst (λ (s : State Cost). Decides c.in_ok-fits.fits (IsInRange s)) (made g c) c.in_ok-fits.ensures.fits
 
 pub returns-clause-list : goal.returns-clause-list
 returns-clause-list g c = λ e. c.in_ok-fits.ensures.list e ∙ ap (λ (s : State Cost). map (valued_state g.W.Weight.value) c.args.list.now ++ s ∷ []) (made g c)

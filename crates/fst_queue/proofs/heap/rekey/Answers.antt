@@ -2,7 +2,7 @@ use Rattle.std.proofs.Common.{◌≡◌, ◌∙◌, ◌+◌, ◌-◌, true, fals
 use Rattle.std.proofs.lemmas.Grind.{get_or_default_zero}
 use Rattle.std.proofs.lemmas.List.{get_or_default}
 use Rattle.fst_queue.specs.Heap.{key_at, no_key, NoWorse}
-use Rattle.fst_queue.proofs.HeapOrder.{better_NoWorse, not_better_NoWorse}
+use Rattle.fst_queue.proofs.HeapKeys.{better_NoWorse, not_better_NoWorse}
 use Rattle.fst_queue.proofs.HeapPuts.{rekey_within, rekeyed_adds, rekeyed_falling, rekeyed_rising}
 use Rattle.fst_queue.proofs.heap.rekey.Goals as goal
 

@@ -1,7 +1,10 @@
 use Rattle.std.proofs.Common.{◌≡◌, ◌∙◌, ◌/◌, ◌-◌, true, length, subst, sym, arith, ℕ, rules}
-use Rattle.fst_queue.specs.Heap.{key_in, IsBelow, NoWorse, Rising}
+use Rattle.fst_semiring.specs.Keys.{key_cmp}
+use Rattle.fst_queue.specs.Heap.{key_in, NoWorse}
+use Rattle.fst_queue.specs.HeapOrder.{IsBelow, Rising}
 use Rattle.fst_queue.proofs.Exchange.{SamePresent-trans}
-use Rattle.fst_queue.proofs.HeapOrder.{better_NoWorse, keys_exchanged, rises}
+use Rattle.fst_queue.proofs.HeapKeys.{better_NoWorse, key_total, keys_exchanged}
+use Rattle.fst_queue.proofs.HeapOrder.{rises}
 use Rattle.fst_queue.proofs.heap.rise.Goals as goal
 
 pub loop-at-preserved : goal.loop-at-preserved
@@ -17,6 +20,6 @@ loop-at-preserved c =
     record {
       linked = ens.linked (length keys) c.loop-at.invariant.linked;
       within = omega (arith, ens.len, c.loop-at.invariant.within);
-      rising = subst (λ (n : ℕ). Rising n (key_in keys new) above) (sym ens.len) (rises (length old) (key_in keys old) (key_in keys new) above c.loop-at.at (keys_exchanged keys old new above c.loop-at.at ens.at_a ens.at_b ens.others) c.loop-at.invariant.rising below c.loop-at.invariant.within no_worse);
+      rising = subst (λ (n : ℕ). Rising key_cmp n (key_in keys new) above) (sym ens.len) (rises key_cmp key_total (length old) (key_in keys old) (key_in keys new) above c.loop-at.at (keys_exchanged keys old new above c.loop-at.at ens.at_a ens.at_b ens.others) c.loop-at.invariant.rising below c.loop-at.invariant.within no_worse);
       same = SamePresent-trans _ _ _ c.loop-at.invariant.same ens.same;
     }
