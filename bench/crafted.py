@@ -138,16 +138,25 @@ KINDS = [
         lambda draw, count: [b"%08d%08d" % (place, draw.randrange(10**8)) for place in range(count)],
         table_text,
         "compile --isymbols={table.text} {machine.text} {out}",
+        MOST_TIMES,
     ),
     Kind(
         "numbers of symbols",
         # Those below twice the lines are found by a list.
-        lambda count: keys.labels(count, 4 * count),
+        lambda count: keys.node_labels(count, 4 * count),
         drawn(4 * KEYS, keys.LABELS),
         numbered_table_text,
         "compile --isymbols={table.text} {machine.text} {out}",
+        MOST_TIMES,
     ),
-    Kind("pairs of labels", keys.labels, drawn(1, keys.LABELS), relabel_text, "relabel --relabel_ipairs={pairs.text} {machine} {out}"),
+    Kind(
+        "pairs of labels",
+        keys.node_labels,
+        drawn(1, keys.LABELS),
+        relabel_text,
+        "relabel --relabel_ipairs={pairs.text} {machine} {out}",
+        MOST_TIMES,
+    ),
     Kind(
         "labels and weights of a codex",
         keys.entries,

@@ -58,10 +58,10 @@ def state_pairs(count, states):
     return list(islice((pair for pair in named if first_half(1 + pair[0] + pair[1] * LABELS) < first), count))
 
 
-def node_labels(count):
-    """So many labels that begin in the first slots of a flat table, as the first numbers of rows do when states are told apart."""
+def node_labels(count, least=1):
+    """So many labels from the least on that begin in the first slots of a flat table."""
     first = HALF // PARTS
-    return list(islice((label for label in numbers_from(1) if first_half(label) < first), count))
+    return list(islice((label for label in numbers_from(least) if first_half(label) < first), count))
 
 
 def subsets(count):
@@ -111,13 +111,8 @@ def tried(count, state_of, candidates):
 
 
 def names(count):
-    """So many names of 16 bytes with hash 0: their last 8 bytes are the factor, which the hasher takes away from them."""
+    """So many names of 16 bytes with hash 0, so with one code: their last 8 bytes are the factor, which the hasher takes away."""
     return [b"%08d" % number + MULTIPLIER.to_bytes(8, "little") for number in range(count)]
-
-
-def labels(count, least=1):
-    """So many labels from the least on that begin in the first groups of a map of labels."""
-    return tried(count, lambda label: written(BEGIN, label, 4), numbers_from(least))
 
 
 def entries(count):
