@@ -1,18 +1,19 @@
 -- Pairs with one more.
-use Rattle.std.proofs.Common.{◌≡◌, ℕ, ◌<◌, ◌≤◌, ◌==◌, Bool, true, false, cond, List, [], ◌∷◌, ◌++◌, map, is_some, Option, None, Some, Ok, Err, refl, sym, ap, ◌∙◌, subst, if◌then◌else◌}
+use Rattle.std.proofs.Common.{◌≡◌, ◌⊎◌, inl, inr, arith, ℕ, ◌<◌, ◌≤◌, ◌==◌, Bool, true, false, cond, List, [], ◌∷◌, ◌++◌, map, is_some, Option, None, Some, Ok, Err, refl, sym, ap, ◌∙◌, subst, if◌then◌else◌}
 use Rattle.std.specs.Prelude.{nat_eq}
 use Rattle.std.specs.List.{IsDistinct, list_any}
-use Rattle.std.specs.Option.{option_map}
 use Rattle.std.specs.Map.{lookup, keys_of}
 use Rattle.std.specs.Cmp.{nat_eq_equiv}
 use Rattle.std.proofs.lemmas.List.{map-append}
-use Rattle.std.proofs.lemmas.List.Elements.{All-push}
+use Rattle.std.proofs.lemmas.List.Elements.{All-nil, All-push}
 use Rattle.std.proofs.lemmas.Map.Keys.{IsDistinct-push}
 use Rattle.std.proofs.lemmas.Map.Made.{is_some-lookup}
+use Rattle.std.proofs.lemmas.Bool.Decides.{nat_tests}
 use Rattle.fst_machine.specs.Machine.{greatest_label}
+use Rattle.fst_table.specs.Slots.{with_place}
 use Rattle.fst_rational.specs.Labels.{Pair, IsPairs, new_label}
 use Rattle.fst_rational.specs.declared.pairs.PairsFault.TheVariants.{Duplicate}
-use Rattle.fst_rational.specs.Pairs.{pairs_of, with_pair}
+use Rattle.fst_rational.specs.Pairs.{AreKept, pairs_of, with_pair}
 
 -- the old labels are the keys
 olds : (es : List (ℕ × ℕ)) → ◌≡◌ {A = List ℕ} (map (λ p. p.old) (pairs_of es)) (keys_of es)
@@ -33,8 +34,25 @@ new_label-lookup (e ∷ es) n = by_test (n == e.0) (new_label-lookup es n)
     by_test false more = more
 
 -- one entry more is one pair more
-pub pairs_of-push : (es after : List (ℕ × ℕ)) (old new : ℕ) → after ≡ es ++ (old, new) ∷ [] → pairs_of after ≡ pairs_of es ++ record { old = old; new = new } ∷ []
-pairs_of-push es after old new e = ap pairs_of e ∙ map-append (λ (p : ℕ × ℕ). record { old = p.0; new = p.1 }) es ((old, new) ∷ [])
+pub pairs_of-push : (es : List (ℕ × ℕ)) (old new : ℕ) → pairs_of (es ++ (old, new) ∷ []) ≡ pairs_of es ++ record { old = old; new = new } ∷ []
+pairs_of-push es old new = map-append (λ (p : ℕ × ℕ). record { old = p.0; new = p.1 }) es ((old, new) ∷ [])
+
+-- and one new label more is found
+pub lookup-push : (es : List (ℕ × ℕ)) (old new n : ℕ) → lookup (nat_eq old) es ≡ None → lookup (nat_eq n) (es ++ (old, new) ∷ []) ≡ cond (n == old) (Some new) (lookup (nat_eq n) es)
+lookup-push [] old new n none = refl
+lookup-push (e ∷ es) old new n none = go (old == e.0) refl none (λ less. lookup-push es old new n less) where
+  by_test : (b : Bool) → (n == e.0) ≡ b → ((n == old) ≡ false) ⊎ (b ≡ false) → lookup (nat_eq n) (es ++ (old, new) ∷ []) ≡ cond (n == old) (Some new) (lookup (nat_eq n) es) → cond b (Some e.1) (lookup (nat_eq n) (es ++ (old, new) ∷ [])) ≡ cond (n == old) (Some new) (cond b (Some e.1) (lookup (nat_eq n) es))
+  by_test true is (inl apart) more = sym (ap (λ b. cond b (Some new) (Some e.1)) apart)
+  by_test true is (inr wrong) more = absurd (cc)
+  by_test false is apart more = more
+
+  apart : (old == e.0) ≡ false → (b : Bool) → (n == e.0) ≡ b → ((n == old) ≡ false) ⊎ (b ≡ false)
+  apart differ true is = inl (grind (arith, nat_tests))
+  apart differ false is = inr refl
+
+  go : (b : Bool) → (old == e.0) ≡ b → cond b (Some e.1) (lookup (nat_eq old) es) ≡ None → (lookup (nat_eq old) es ≡ None → lookup (nat_eq n) (es ++ (old, new) ∷ []) ≡ cond (n == old) (Some new) (lookup (nat_eq n) es)) → cond (n == e.0) (Some e.1) (lookup (nat_eq n) (es ++ (old, new) ∷ [])) ≡ cond (n == old) (Some new) (cond (n == e.0) (Some e.1) (lookup (nat_eq n) es))
+  go true is wrong more = absurd (cc)
+  go false is less more = by_test (n == e.0) refl (apart is (n == e.0) refl) (more less)
 
 -- pairs and one more are pairs
 pub IsPairs-push : (pairs : List Pair) (p : Pair) → IsPairs pairs → 0 < p.old → p.old ≤ greatest_label → p.new ≤ greatest_label → list_any (nat_eq p.old) (map (λ (q : Pair). q.old) pairs) ≡ false → IsPairs (pairs ++ p ∷ [])
@@ -57,16 +75,22 @@ pub none_of : {X : Type 0} (r : Option X) → is_some r ≡ false → r ≡ None
 none_of None e = refl
 none_of (Some x) e = cc
 
--- the same by what a value is seen as
-pub is_some-map : {X Y : Type 0} (f : X → Y) (r : Option X) (s : Option Y) → option_map f r ≡ s → is_some s ≡ is_some r
-is_some-map f None s e = ap is_some (sym e)
-is_some-map f (Some x) s e = ap is_some (sym e)
+-- no pairs
+IsPairs-nil : IsPairs []
+unfolding IsDistinct
+IsPairs-nil = record { distinct = tt; labels = All-nil (λ q. 0 < q.old); small = All-nil (λ q. (q.old ≤ greatest_label) × (q.new ≤ greatest_label)) }
 
-module _ (es : List (ℕ × ℕ)) (label : ℕ) where
-  -- a label that is found has the new label that is found
-  pub new_label-found : {X : Type 0} (f : X → ℕ) (r : Option X) (x : X) → option_map f r ≡ lookup (nat_eq label) es → r ≡ Some x → f x ≡ new_label (pairs_of es) label
-  new_label-found f r x e found = sym (new_label-lookup es label ∙ ap (λ (o : Option ℕ). elim o [ None ↦ label | Some new ↦ new ]) (sym e ∙ ap (option_map f) found))
+pub AreKept-nil : (news : ℕ → Option ℕ) → ((n : ℕ) → news n ≡ None) → AreKept [] news
+AreKept-nil news none = record { pairs = IsPairs-nil; found = none }
 
-  -- one that is not found stays
-  pub new_label-stays : {X : Type 0} (f : X → ℕ) (r : Option X) → option_map f r ≡ lookup (nat_eq label) es → r ≡ None → label ≡ new_label (pairs_of es) label
-  new_label-stays f r e none = sym (new_label-lookup es label ∙ ap (λ (o : Option ℕ). elim o [ None ↦ label | Some new ↦ new ]) (sym e ∙ ap (option_map f) none))
+module _ (es : List (ℕ × ℕ)) (news : ℕ → Option ℕ) (kept : AreKept es news) where
+  -- a label that is found has the new label that is found, and one that is not found stays
+  pub new_label-found : (label : ℕ) (r : Option ℕ) → r ≡ news label → elim r [ None ↦ label | Some new ↦ new ] ≡ new_label (pairs_of es) label
+  new_label-found label r e = ap (λ (o : Option ℕ). elim o [ None ↦ label | Some new ↦ new ]) (e ∙ kept.found label) ∙ sym (new_label-lookup es label)
+
+  -- with one pair more
+  pub AreKept-push : (more : ℕ → Option ℕ) (old new : ℕ) → 0 < old → old ≤ greatest_label → new ≤ greatest_label → news old ≡ None → ((n : ℕ) → more n ≡ with_place news old new n) → AreKept (es ++ (old, new) ∷ []) more
+  AreKept-push more old new label low high free told = record {
+    pairs = subst IsPairs (sym (pairs_of-push es old new)) (IsPairs-push (pairs_of es) (record { old = old; new = new }) kept.pairs label low high (sym (is_old es old) ∙ ap is_some (sym (kept.found old) ∙ free)));
+    found = λ n. told n ∙ ap (λ (o : Option ℕ). cond (n == old) (Some new) o) (kept.found n) ∙ sym (lookup-push es old new n (sym (kept.found old) ∙ free));
+  }

@@ -1,18 +1,24 @@
 -- The pairs of a text, and the first fault of a text that has none. (OpenFst manual, "fstrelabel": a line of a
 -- file of pairs has an old label and its new label. The range of the labels is this project's own.)
-use Rattle.std.specs.Prelude.{ℕ, ◌==◌, nat_eq, List, [], ◌∷◌, ◌++◌, map, Option, None, Some, Result, Ok, Err, if◌then◌else◌}
+use Rattle.std.specs.Prelude.{◌≡◌, ℕ, ◌==◌, nat_eq, List, [], ◌∷◌, ◌++◌, map, Option, None, Some, Result, Ok, Err, if◌then◌else◌}
 use Rattle.std.specs.List.{list_any}
+use Rattle.std.specs.Map.{lookup}
 use Rattle.fst_fields.specs.Reading as reading
 use Rattle.fst_fields.specs.Reading.{◌>>=◌}
 use Rattle.fst_fields.specs.Texts.{read_text, row_of, with_row}
 use Rattle.fst_fields.specs.Decimal.{label_of_text}
 use Rattle.fst_rational.specs.declared.pairs.PairsFault.{PairsFault}
 use Rattle.fst_rational.specs.declared.pairs.PairsFault.TheVariants.{BadColumns, BadLabel, Duplicate, Memory}
-use Rattle.fst_rational.specs.Labels.{Pair}
+use Rattle.fst_rational.specs.Labels.{IsPairs, Pair}
 
 -- entries as pairs
 abbrev pub pairs_of : List (ℕ × ℕ) → List Pair
 pairs_of entries = map (λ e. record { old = e.0; new = e.1 }) entries
+
+-- The entries are pairs, and a table has the new label of each old one, and of no other.
+pub record AreKept (entries : List (ℕ × ℕ)) (news : ℕ → Option ℕ) : Type 0 where
+  pub pairs : IsPairs (pairs_of entries)
+  pub found : (n : ℕ) → news n ≡ lookup (nat_eq n) entries
 
 -- an old label, which is not epsilon
 abbrev pub old_label : List ℕ → Option ℕ

@@ -2,15 +2,13 @@
 
 ghost use Rattle.std.specs.Prelude.{◌≡◌, IfOk, None};
 ghost use Rattle.fst_machine.specs.Machine.{IsArc, most_states, valued, valued_arc};
-ghost use Rattle.fst_rational.specs.Labels.{KeepsRange, inverted, labelled, labelled_machine, new_label, projected, relabelled};
-ghost use Rattle.fst_rational.specs.Pairs.{pairs_of};
+ghost use Rattle.fst_rational.specs.Labels.{KeepsRange, inverted, labelled, labelled_machine, projected, relabelled};
 ghost use Rattle.fst_rational.specs.Relations.{Inverts, Projects, Relabels};
 
 use crate::change::{Change, put_states};
 use crate::pairs::Pairs;
 use fst_machine::{ArcsChange, Fst, FstArc, StateList};
 use fst_semiring::Weight;
-use indexmap::IndexMap;
 use std::alloc::{AllocError, Global};
 
 /// What the labels of an arc become.
@@ -170,34 +168,23 @@ impl Rules for Projection {
 /// The rules of relabelling by the new labels of old ones, on each side.
 #[derive(Clone, Copy)]
 struct Relabelling<'p> {
-    input: &'p IndexMap<u32, u32>,
-    output: &'p IndexMap<u32, u32>,
-}
-
-/// The new label of an old one; a label that is no old one stays.
-fn renew(news: &IndexMap<u32, u32>, label: u32) -> u32
-    ensures { result ≡ new_label (pairs_of news.now.entries) label }
-{
-    match news.get(&label) {
-        Some(new) => *new,
-        None => label,
-    }
+    input: &'p Pairs,
+    output: &'p Pairs,
 }
 
 impl<'p> Rules for Relabelling<'p> {
     ghost use Rattle.fst_rational.specs.Labels.{new_label};
-    ghost use Rattle.fst_rational.specs.Pairs.{pairs_of};
 
-    ghost reads = { λ s i o. new_label (pairs_of s.input.now.entries) i };
+    ghost reads = { λ s i o. new_label s.input.now i };
 
-    ghost writes = { λ s i o. new_label (pairs_of s.output.now.entries) o };
+    ghost writes = { λ s i o. new_label s.output.now o };
 
     fn input(&self, ilabel: u32, _olabel: u32) -> u32 {
-        renew(self.input, ilabel)
+        self.input.renew(ilabel)
     }
 
     fn output(&self, _ilabel: u32, olabel: u32) -> u32 {
-        renew(self.output, olabel)
+        self.output.renew(olabel)
     }
 }
 
@@ -229,10 +216,8 @@ pub fn relabel<W: Weight>(
     ensures machine { IfOk result (λ m. valued W.value m ≡ relabelled input.now output.now (valued W.value a.now)) }
     ensures relation { IfOk result (λ m. Relabels W.KIND input.now output.now (valued W.value a.now) (valued W.value m)) }
 {
-    let rules = Relabelling {
-        input: input.news(),
-        output: output.news(),
-    };
+    let _counts = (input.count(), output.count());
+    let rules = Relabelling { input, output };
     with_labels(alloc, a, rules)
 }
 
@@ -269,9 +254,7 @@ pub fn into_relabelled<W: Weight>(
     ensures machine { IfOk result (λ m. valued W.value m ≡ relabelled input.now output.now (valued W.value a)) }
     ensures relation { IfOk result (λ m. Relabels W.KIND input.now output.now (valued W.value a) (valued W.value m)) }
 {
-    let rules = Relabelling {
-        input: input.news(),
-        output: output.news(),
-    };
+    let _counts = (input.count(), output.count());
+    let rules = Relabelling { input, output };
     with_labels_given(alloc, a, rules)
 }

@@ -1,15 +1,15 @@
 //! Pairs of an old and a new label.
 
-ghost use Rattle.std.specs.Prelude.{◌≡◌, ◌<◌, ◌≤◌, [], IfOk, IfSome};
+ghost use Rattle.std.specs.Prelude.{◌≡◌, ◌<◌, ◌≤◌, [], IfOk, IfSome, length};
 ghost use Rattle.fst_fields.specs.Lines.{fields_of};
 ghost use Rattle.fst_fields.specs.Texts.{IsRead};
 ghost use Rattle.fst_machine.specs.Machine.{greatest_label};
 ghost use Rattle.fst_rational.specs.Faults.{line_of, reason_of};
-ghost use Rattle.fst_rational.specs.Labels.{IsPairs};
-ghost use Rattle.fst_rational.specs.Pairs.{Gives, after_line, pair_of, pairs_of, pairs_of_text, with_pair};
+ghost use Rattle.fst_rational.specs.Labels.{IsPairs, new_label};
+ghost use Rattle.fst_rational.specs.Pairs.{Gives, after_line, pair_of, pairs_of_text, with_pair};
 
 use fst_fields::{next_line, read_label, read_row};
-use indexmap::IndexMap;
+use fst_table::FlatTable;
 use std::alloc::{AllocError, Global};
 use std::marker::Model;
 
@@ -57,19 +57,23 @@ impl PairsFault {
 /// all labels are at most 2,147,483,647.
 #[derive(Drop)]
 pub struct Pairs {
-    news: IndexMap<u32, u32>,
+    list: Vec<(u32, u32)>,
+    /// The new labels by the old ones. A look-up costs a bounded number of slots and at most a search among sorted labels,
+    /// whatever the labels are.
+    news: FlatTable,
 }
 
 impl Model for Pairs {
     ghost use Rattle.std.specs.Prelude.{List};
-    ghost use Rattle.fst_rational.specs.Labels.{IsPairs, Pair};
-    ghost use Rattle.fst_rational.specs.Pairs.{pairs_of};
+    ghost use Rattle.fst_rational.specs.Labels.{Pair};
+    ghost use Rattle.fst_rational.specs.Pairs.{AreKept, pairs_of};
+    ghost use Rattle.fst_table.specs.Placed.{placed_in};
 
     ghost Value = { List Pair };
 
-    ghost view = { λ p. pairs_of p.news.entries };
+    ghost view = { λ p. pairs_of p.list.items };
 
-    ghost invariant = { λ p. IsPairs (pairs_of p.news.entries) };
+    ghost invariant = { λ p. AreKept p.list.items (placed_in p.news) };
 }
 
 impl Pairs {
@@ -78,16 +82,27 @@ impl Pairs {
         ensures { result ≡ [] }
     {
         Pairs {
-            news: IndexMap::new(alloc),
+            list: Vec::new(alloc),
+            news: FlatTable::new(alloc),
         }
     }
 
-    /// The new labels by the old ones.
-    pub(crate) fn news(&self) -> &IndexMap<u32, u32>
-        ensures value { pairs_of result.now.entries ≡ self.now }
+    /// How many pairs there are, and with it what holds of all of them. Takes no memory.
+    pub(crate) fn count(&self) -> usize
+        ensures value { result ≡ length self.now }
         ensures pairs { IsPairs self.now }
     {
-        &self.news
+        self.list.len()
+    }
+
+    /// The new label of an old one; a label that is no old one stays. Takes no memory.
+    pub(crate) fn renew(&self, label: u32) -> u32
+        ensures { result ≡ new_label self.now label }
+    {
+        match self.news.find(u64::from(label)) {
+            Some(new) => new,
+            None => label,
+        }
     }
 
     /// Adds a pair; the fault, where its old label is there. After either error the pairs are as before.
@@ -97,12 +112,13 @@ impl Pairs {
         requires new { new ≤ greatest_label }
         ensures { IfOk result (λ r. IsRead (λ x. self.new) r (with_pair line self.old old new)) }
     {
-        if self.news.get(&old).is_some() {
+        let number = u64::from(old);
+        if self.news.find(number).is_some() {
             return Ok(Err(PairsFault::Duplicate { line }));
         }
-        let Ok(_) = self.news.insert(old, new) else {
-            return Err(AllocError);
-        };
+        self.list.reserve(1)?;
+        self.news.add(number, new)?;
+        self.list.push_reserved((old, new));
         Ok(Ok(()))
     }
 
@@ -170,7 +186,7 @@ pub fn read_pairs(alloc: Global, bytes: &[u8]) -> Result<Pairs, PairsFault>
 {
     match read_lines(alloc, bytes) {
         Ok(Ok(pairs)) => {
-            let _ = pairs.news();
+            let _count = pairs.count();
             Ok(pairs)
         }
         Ok(Err(fault)) => Err(fault),
