@@ -4,6 +4,7 @@
 #![tactic(auto)]
 
 mod coded;
+mod finding;
 mod hashing;
 mod keys;
 
