@@ -1,0 +1,12 @@
+//! Sets of keys that no chosen keys make slow: each key is found by a number, and where another key has that number,
+//! by all that it is, in a sorted map. So a look-up costs a bounded number of slots and at most the logarithm of a
+//! search, whatever the keys are.
+#![tactic(auto)]
+
+mod coded;
+mod hashing;
+mod keys;
+
+pub use coded::{Code, Coded};
+pub use hashing::hash_of;
+pub use keys::KeySet;
