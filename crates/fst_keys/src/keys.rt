@@ -1,14 +1,113 @@
 //! Sets of keys, in the order in which they were put in.
 
 ghost use Rattle.std.specs.Prelude.{◌≡◌, ◌<◌, ◌≤◌, ℕ, [], true, false, not, IfOk, IfSome, MatchOption, None, OnErr, Some, length, slice_get};
+ghost use Rattle.std.specs.BTreeMap.{get};
 ghost use Rattle.std.specs.List.{list_any};
-ghost use Rattle.fst_keys.specs.Keys.{with_key};
+ghost use Rattle.fst_table.specs.Found.{found_in};
+ghost use Rattle.fst_table.specs.Slots.{with_place};
+ghost use Rattle.fst_keys.specs.Keys.{AreKept, IsPut, with_key, with_whole};
+ghost use Rattle.fst_keys.specs.Sought.{IsSought};
 
 use crate::coded::Coded;
 use fst_table::Places;
 use std::alloc::{AllocError, Global};
 use std::collections::BTreeMap;
 use std::marker::Model;
+
+/// What is known of a key that is looked up.
+#[derive(Drop)]
+pub(crate) enum Sought<W: Drop> {
+    /// It stands in this place.
+    There(usize),
+    /// No key has its number.
+    Unnumbered(u64),
+    /// Another key has its number, and it is none of the keys. All that it is.
+    Apart(W),
+}
+
+/// Looks a key up by its number, and where another key has that number, by all that it is.
+#[inline]
+fn seek<K: Coded>(
+    keys: &[K],
+    firsts: &Places,
+    others: &BTreeMap<K::Whole, u32>,
+    key: &K,
+    alloc: Global,
+) -> Result<Sought<K::Whole>, AllocError>
+    requires kept { AreKept K.code K.whole keys.now (found_in firsts.now) (get K.Whole.cmp others.now) }
+    ensures { IfOk result (IsSought K.code K.whole keys.now (found_in firsts.now) (get K.Whole.cmp others.now) key.now) }
+{
+    let code = key.code();
+    let Some(first) = firsts.find(code.number) else {
+        return Ok(Sought::Unnumbered(code.number));
+    };
+    if code.is_alone {
+        return Ok(Sought::There(first as usize));
+    }
+    if keys[first as usize] == *key {
+        return Ok(Sought::There(first as usize));
+    }
+    let whole = key.whole(alloc)?;
+    match others.get(&whole) {
+        Some(place) => Ok(Sought::There(*place as usize)),
+        None => Ok(Sought::Apart(whole)),
+    }
+}
+
+/// Puts a key after the others, and its place into a table for its number, which none of them has; `None` where there are
+/// as many keys as the limit.
+fn put_first<K: Coded>(
+    keys: &mut Vec<K>,
+    firsts: &mut Places,
+    key: K,
+    number: u64,
+    limit: u32,
+) -> Result<Option<(usize, bool)>, AllocError>
+    requires absent { found_in firsts.old number ≡ None }
+    ensures put { IfOk result (λ o. IfSome o (IsPut keys.old.items keys.new.items key limit)) }
+    ensures added { IfOk result (λ o. IfSome o (λ r. (n : ℕ) → found_in firsts.new n ≡ with_place (found_in firsts.old) number r.0 n)) }
+    ensures full { IfOk result (λ o. o ≡ None → limit ≤ length keys.old.items) }
+    ensures none { IfOk result (λ o. o ≡ None → keys.new.items ≡ keys.old.items) }
+    ensures untold { IfOk result (λ o. o ≡ None → (n : ℕ) → found_in firsts.new n ≡ found_in firsts.old n) }
+    ensures err { OnErr result (keys.new.items ≡ keys.old.items) }
+    ensures stays { OnErr result ((n : ℕ) → found_in firsts.new n ≡ found_in firsts.old n) }
+{
+    let place = keys.len();
+    if place >= limit as usize {
+        return Ok(None);
+    }
+    keys.reserve(1)?;
+    firsts.add(number, place as u32)?;
+    keys.push_reserved(key);
+    Ok(Some((place, true)))
+}
+
+/// Puts a key after the others, and its place into a map for all that it is, since another has its number; `None` where
+/// there are as many keys as the limit.
+fn put_apart<K: Coded>(
+    keys: &mut Vec<K>,
+    others: &mut BTreeMap<K::Whole, u32>,
+    key: K,
+    whole: K::Whole,
+    limit: u32,
+) -> Result<Option<(usize, bool)>, AllocError>
+    ensures put { IfOk result (λ o. IfSome o (IsPut keys.old.items keys.new.items key limit)) }
+    ensures added { IfOk result (λ o. IfSome o (λ r. (w : K.Whole) → get K.Whole.cmp others.new w ≡ with_whole K.Whole.cmp (get K.Whole.cmp others.old) whole r.0 w)) }
+    ensures full { IfOk result (λ o. o ≡ None → limit ≤ length keys.old.items) }
+    ensures none { IfOk result (λ o. o ≡ None → keys.new.items ≡ keys.old.items) }
+    ensures untold { IfOk result (λ o. o ≡ None → (w : K.Whole) → get K.Whole.cmp others.new w ≡ get K.Whole.cmp others.old w) }
+    ensures err { OnErr result (keys.new.items ≡ keys.old.items) }
+    ensures stays { OnErr result ((w : K.Whole) → get K.Whole.cmp others.new w ≡ get K.Whole.cmp others.old w) }
+{
+    let place = keys.len();
+    if place >= limit as usize {
+        return Ok(None);
+    }
+    keys.reserve(1)?;
+    others.insert(whole, place as u32)?;
+    keys.push_reserved(key);
+    Ok(Some((place, true)))
+}
 
 /// Keys, each once, in the order in which they were put in. A key is looked up by its number, and where an earlier key
 /// has that number, by all that it is. So no chosen keys make it slow.
@@ -56,17 +155,34 @@ impl<K: Coded> KeySet<K> {
     /// The place of a key, which is put after the others where it is new, and whether it was; `None` where it is new and
     /// there are as many keys as the limit, or more. The only fault is that memory has run out. Then, and with `None`,
     /// the keys are as before.
-    pub fn put_below(&mut self, key: K, _limit: u32) -> Result<Option<(usize, bool)>, AllocError>
+    pub fn put_below(&mut self, key: K, limit: u32) -> Result<Option<(usize, bool)>, AllocError>
         ensures keys { IfOk result (λ o. IfSome o (λ r. self.new ≡ with_key K.PartialEq.eq self.old key)) }
         ensures added { IfOk result (λ o. IfSome o (λ r. r.1 ≡ not (list_any (K.PartialEq.eq key) self.old))) }
         ensures there { IfOk result (λ o. IfSome o (λ r. slice_get self.new r.0 ≡ Some key)) }
         ensures within { IfOk result (λ o. IfSome o (λ r. r.0 < length self.new)) }
-        ensures last { IfOk result (λ o. IfSome o (λ r. r.1 ≡ true → (r.0 ≡ length self.old) × (r.0 < _limit))) }
-        ensures full { IfOk result (λ o. o ≡ None → (_limit ≤ length self.old) × (list_any (K.PartialEq.eq key) self.old ≡ false)) }
+        ensures last { IfOk result (λ o. IfSome o (λ r. r.1 ≡ true → (r.0 ≡ length self.old) × (r.0 < limit))) }
+        ensures full { IfOk result (λ o. o ≡ None → (limit ≤ length self.old) × (list_any (K.PartialEq.eq key) self.old ≡ false)) }
         ensures none { IfOk result (λ o. o ≡ None → self.new ≡ self.old) }
         ensures err { OnErr result (self.new ≡ self.old) }
     {
-        Err(AllocError)
+        let alloc = *self.keys.allocator();
+        match seek(
+            self.keys.as_slice(),
+            &self.firsts,
+            &self.others,
+            &key,
+            alloc,
+        )? {
+            Sought::There(place) => Ok(Some((place, false))),
+            Sought::Unnumbered(number) => {
+                let found = put_first(&mut self.keys, &mut self.firsts, key, number, limit)?;
+                Ok(found)
+            }
+            Sought::Apart(whole) => {
+                let found = put_apart(&mut self.keys, &mut self.others, key, whole, limit)?;
+                Ok(found)
+            }
+        }
     }
 
     /// The place of a key, which is put after the others where it is new, and whether it was. There are at most
@@ -87,10 +203,15 @@ impl<K: Coded> KeySet<K> {
 
     /// The place of a key; `None` exactly where it is not one of the keys. The only fault is that memory has run out, and
     /// memory is asked for only where another key has the number of this one.
-    pub fn place(&self, _key: &K) -> Result<Option<usize>, AllocError>
-        ensures { IfOk result (λ o. MatchOption o (list_any (K.PartialEq.eq _key.now) self.now ≡ false) (λ p. slice_get self.now p ≡ Some _key.now)) }
+    pub fn place(&self, key: &K) -> Result<Option<usize>, AllocError>
+        ensures { IfOk result (λ o. MatchOption o (list_any (K.PartialEq.eq key.now) self.now ≡ false) (λ p. slice_get self.now p ≡ Some key.now)) }
     {
-        Err(AllocError)
+        let alloc = *self.keys.allocator();
+        match seek(self.keys.as_slice(), &self.firsts, &self.others, key, alloc)? {
+            Sought::There(place) => Ok(Some(place)),
+            Sought::Unnumbered(_) => Ok(None),
+            Sought::Apart(_) => Ok(None),
+        }
     }
 
     /// The number of keys. Takes no memory.
