@@ -138,7 +138,8 @@ KINDS = [
         lambda draw, count: [b"%08d%08d" % (place, draw.randrange(10**8)) for place in range(count)],
         table_text,
         "compile --isymbols={table.text} {machine.text} {out}",
-        MOST_TIMES,
+        # Each is compared with the first, searched twice in the sorted map, and kept there once more.
+        2 * MOST_TIMES,
     ),
     Kind(
         "numbers of symbols",
