@@ -1,6 +1,6 @@
 -- Machines under labels. (OpenFst manual, "Replace": a list of labels with their machines, of which one is the
 -- root.)
-use Rattle.std.specs.Prelude.{ℕ, ◌<◌, ◌≤◌, nat_eq, List, Option, length, map, All, get_or}
+use Rattle.std.specs.Prelude.{◌≡◌, ℕ, ◌<◌, ◌≤◌, nat_eq, List, Option, length, map, All, get_or}
 use Rattle.std.specs.List.{IsDistinct, position}
 use Rattle.fst_semiring.specs.Cost.{Cost}
 use Rattle.fst_machine.specs.Machine.{Machine, IsMachine, greatest_label, no_states, valued}
@@ -25,6 +25,11 @@ pub record IsRules {V : Type 0} (value : V → Cost) (rules : List (Labelled V))
 -- the place of the rule with this label
 abbrev pub place_of : List ℕ → ℕ → Option ℕ
 place_of labels label = position (nat_eq label) labels
+
+-- They are rules, and a table has the place of each label, and of no other.
+pub record AreKept {V : Type 0} (value : V → Cost) (list : List (Labelled V)) (places : ℕ → Option ℕ) : Type 0 where
+  pub rules : IsRules value list
+  pub found : (n : ℕ) → places n ≡ place_of (labels_of list) n
 
 -- the machine of the rule in this place
 abbrev pub machine_at : {V : Type 0} → List (Labelled V) → ℕ → Machine V

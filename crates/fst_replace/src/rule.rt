@@ -1,6 +1,6 @@
 //! Rules: machines under labels.
 
-ghost use Rattle.std.specs.Prelude.{◌≡◌, ◌<◌, ◌≤◌, ◌↔◌, ◌∷◌, ◌++◌, [], IfOk, IfSome, OnOk, OnErr, IsErrOf, Some, length, slice_get};
+ghost use Rattle.std.specs.Prelude.{◌≡◌, ◌<◌, ◌≤◌, ◌↔◌, ◌∷◌, ◌++◌, [], IfOk, IfSome, None, OnOk, OnErr, IsErrOf, Some, length, slice_get};
 ghost use Rattle.fst_machine.specs.BreadthFirst.{Has};
 ghost use Rattle.fst_machine.specs.Machine.{greatest_label};
 ghost use Rattle.fst_replace.specs.Rules.{IsRules, labels_of, machine_at, place_of};
@@ -8,7 +8,7 @@ ghost use Rattle.fst_replace.specs.Rules.{IsRules, labels_of, machine_at, place_
 use crate::fault::AddFault;
 use fst_machine::Fst;
 use fst_semiring::Weight;
-use indexmap::IndexMap;
+use fst_table::FlatTable;
 use std::alloc::{AllocError, Global};
 use std::marker::Model;
 
@@ -24,18 +24,22 @@ pub struct Rule<'m, W: Weight> {
 /// Rules, the root first. No two labels are the same, and none is 0.
 #[derive(Drop)]
 pub struct Rules<'m, W: Weight> {
-    machines: IndexMap<u32, &'m Fst<W>>,
+    list: Vec<Rule<'m, W>>,
+    /// The places of the labels. A look-up costs a bounded number of slots and at most a search among sorted labels, whatever
+    /// the labels are.
+    places: FlatTable,
 }
 
 impl<'m, W: Weight> Model for Rules<'m, W> {
     ghost use Rattle.std.specs.Prelude.{List, map};
-    ghost use Rattle.fst_replace.specs.Rules.{IsRules, Labelled};
+    ghost use Rattle.fst_table.specs.Placed.{placed_in};
+    ghost use Rattle.fst_replace.specs.Rules.{AreKept, Labelled};
 
     ghost Value = { List (Labelled W) };
 
-    ghost view = { λ r. map (λ e. record { label = e.0; machine = e.1.now }) r.machines.entries };
+    ghost view = { λ r. map (λ e. record { label = e.label; machine = e.machine.now }) r.list.items };
 
-    ghost invariant = { λ r. IsRules W.value (map (λ e. record { label = e.0; machine = e.1.now }) r.machines.entries) };
+    ghost invariant = { λ r. AreKept W.value (map (λ e. record { label = e.label; machine = e.machine.now }) r.list.items) (placed_in r.places) };
 }
 
 impl<'m, W: Weight> Rules<'m, W> {
@@ -46,11 +50,30 @@ impl<'m, W: Weight> Rules<'m, W> {
         ensures { IfOk result (λ r. r ≡ record { label = root.entry.label; machine = root.entry.machine.now } ∷ []) }
     {
         let _states = root.machine.states();
-        let mut machines = IndexMap::new(alloc);
-        let Ok(_) = machines.insert(root.label, root.machine) else {
+        let mut list = Vec::new(alloc);
+        list.push(root)?;
+        let mut places = FlatTable::new(alloc);
+        places.add(u64::from(root.label), 0)?;
+        Ok(Rules { list, places })
+    }
+
+    /// Puts a rule with a new label after the others. After an `Err` the rules are as before.
+    fn put(&mut self, rule: Rule<'m, W>) -> Result<(), AllocError>
+        requires label { 0 < rule.label }
+        requires small { rule.label ≤ greatest_label }
+        requires new { place_of (labels_of self.old) rule.label ≡ None }
+        ensures ok { OnOk result (self.new ≡ self.old ++ record { label = rule.entry.label; machine = rule.entry.machine.now } ∷ []) }
+        ensures err { OnErr result (self.new ≡ self.old) }
+    {
+        let _states = rule.machine.states();
+        let place = self.list.len();
+        if place >= u32::MAX as usize {
             return Err(AllocError);
-        };
-        Ok(Rules { machines })
+        }
+        self.list.reserve(1)?;
+        self.places.add(u64::from(rule.label), place as u32)?;
+        self.list.push_reserved(rule);
+        Ok(())
     }
 
     /// Adds a rule behind the others. `LabelTaken` exactly where a rule has its label. After an `Err` the rules
@@ -62,11 +85,10 @@ impl<'m, W: Weight> Rules<'m, W> {
         ensures taken { IsErrOf result AddFault.LabelTaken ↔ Has (labels_of self.old) rule.entry.label }
         ensures err { OnErr result (self.new ≡ self.old) }
     {
-        let _states = rule.machine.states();
-        if self.machines.get(&rule.label).is_some() {
+        if self.place(rule.label).is_some() {
             return Err(AddFault::LabelTaken);
         }
-        let Ok(_) = self.machines.insert(rule.label, rule.machine) else {
+        let Ok(_) = self.put(rule) else {
             return Err(AddFault::Memory);
         };
         Ok(())
@@ -77,7 +99,7 @@ impl<'m, W: Weight> Rules<'m, W> {
         ensures value { result ≡ length self.now }
         ensures rules { IsRules W.value self.now }
     {
-        self.machines.len()
+        self.list.len()
     }
 
     /// The place of the rule with this label. Takes no memory.
@@ -85,7 +107,8 @@ impl<'m, W: Weight> Rules<'m, W> {
         ensures value { result ≡ place_of (labels_of self.now) label }
         ensures within { IfSome result (λ i. i < length self.now) }
     {
-        self.machines.get_index_of(&label)
+        let place = self.places.find(u64::from(label))?;
+        Some(place as usize)
     }
 
     /// The machine of the rule in this place. Takes no memory.
@@ -93,7 +116,7 @@ impl<'m, W: Weight> Rules<'m, W> {
         requires { place < length self.now }
         ensures { result.now ≡ machine_at self.now place }
     {
-        self.machines[place]
+        self.list[place].machine
     }
 
     /// The label of the rule in this place. Takes no memory.
@@ -101,6 +124,6 @@ impl<'m, W: Weight> Rules<'m, W> {
         requires { place < length self.now }
         ensures { slice_get (labels_of self.now) place ≡ Some result }
     {
-        self.machines.keys()[place]
+        self.list[place].label
     }
 }

@@ -1,6 +1,10 @@
-use Rattle.std.proofs.Common.{ap, sym, ◌∙◌, slice_get}
-use Rattle.fst_replace.proofs.Entries.{labels_seen}
+use Rattle.std.proofs.Common.{◌≡◌, ◌<◌, ◌∙◌, length, ap, sym, arith}
+use Rattle.std.proofs.lemmas.List.{length-map}
+use Rattle.fst_replace.proofs.Entries.{label_at}
 use Rattle.fst_replace.proofs.rule.Rules.label.Goals as goal
 
 pub returns : goal.returns
-returns g c = rw (← c.self.view_is) (ap (λ ls. slice_get ls c.args.place) (labels_seen (λ m. m.now) c.self.inside.machines.entries) ∙ (ap (λ ks. slice_get ks c.args.place) (sym c.keys.ensures.rest) ∙ c.index.ensures))
+returns g c =
+    let counted : length c.args.self.now ≡ length c.self.inside.list.items = ap length (sym c.self.view_is) ∙ length-map c.self.inside.list.items _ in
+    let within : c.args.place < length c.self.inside.list.items = omega (arith, c.requires, counted) in
+    rw (← c.self.view_is) (label_at (λ e. record { label = e.label; machine = e.machine.now }) c.self.inside.list.items c.args.place c.index.result.now within c.index.ensures)
