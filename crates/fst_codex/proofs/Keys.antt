@@ -1,11 +1,9 @@
 -- Entries found by their keys.
-use Rattle.std.proofs.Common.{◌≡◌, inl, inr, ℕ, ℤ, ◌&&◌, eqb, int_eq, zero, suc, Bool, true, false, not, List, [], ◌∷◌, ◌++◌, Some, map, slice_get, refl, sym, ap, subst, ◌∙◌, true≢false, if◌then◌else◌}
+use Rattle.std.proofs.Common.{◌≡◌, inl, inr, ℕ, ℤ, zero, suc, Bool, true, false, not, List, [], ◌∷◌, ◌++◌, Some, map, slice_get, refl, sym, ap, subst, ◌∙◌, true≢false, if◌then◌else◌}
 use Rattle.std.specs.Bool.{Decides}
 use Rattle.std.specs.List.{list_any}
 use Rattle.std.proofs.lemmas.List.{map-append}
-use Rattle.std.proofs.lemmas.Bool.{eq-eqb, eqb-true}
-use Rattle.std.proofs.lemmas.Bool.Decides.{Decides-int_eq}
-use Rattle.indexmap.specs.IndexSet.{insert_key}
+use Rattle.fst_keys.specs.Keys.{with_key}
 use Rattle.fst_semiring.specs.Cost.{Cost, best, class_of, finite, first_of, infinite, second_of}
 use Rattle.fst_machine.specs.BreadthFirst.{Has, Grows}
 use Rattle.fst_machine.proofs.Arcs.{mapped_at}
@@ -16,36 +14,12 @@ use Rattle.fst_codex.specs.Table.{Entry}
 
 module _ {K : Type 0} (eq : K → K → Bool) (same : (x y : K) → Decides (eq x y) (x ≡ y)) where
   -- the keys with one more, where it was new
-  pub grows_by : (ks new : List K) (k : K) (fresh : Bool) → fresh ≡ not (list_any (eq k) ks) → new ≡ insert_key eq ks k → GrowsBy fresh ks k new
+  pub grows_by : (ks new : List K) (k : K) (fresh : Bool) → fresh ≡ not (list_any (eq k) ks) → new ≡ with_key eq ks k → GrowsBy fresh ks k new
   grows_by ks new k fresh says put = by (list_any (eq k) ks) refl
     where
       by : (b : Bool) → list_any (eq k) ks ≡ b → GrowsBy fresh ks k new
       by true e = subst (λ f. GrowsBy f ks k new) (sym (says ∙ ap not e)) (any-Has eq same ks k e, put ∙ ap (λ c. if c then ks else ks ++ k ∷ []) e)
       by false e = subst (λ f. GrowsBy f ks k new) (sym (says ∙ ap not e)) ((λ h. true≢false (sym (Has-any eq same ks k h) ∙ e)), put ∙ ap (λ c. if c then ks else ks ++ k ∷ []) e)
-
-both : (a b : Bool) → (a && b) ≡ true → (a ≡ true) × (b ≡ true)
-both true b e = (refl, e)
-both false b e = absurd (true≢false (sym e))
-
--- what `==` answers of keys
-abbrev pub same_key : EntryKey → EntryKey → Bool
-same_key a b = eqb a.ilabel b.ilabel && (eqb a.olabel b.olabel && (eqb a.class b.class && (int_eq a.first b.first && int_eq a.second b.second)))
-
-pub same_tells : (a b : EntryKey) → same_key a b ≡ true → a ≡ b
-same_tells a b e =
-    let one = both _ _ e in
-    let two = both _ _ one.1 in
-    let three = both _ _ two.1 in
-    let four = both _ _ three.1 in
-    let first : a.first ≡ b.first = (Decides-int_eq a.first b.first).0 four.0 in
-    let second : a.second ≡ b.second = (Decides-int_eq a.second b.second).0 four.1 in
-    λ i. record { ilabel = eqb-true a.ilabel b.ilabel one.0 i; olabel = eqb-true a.olabel b.olabel two.0 i; class = eqb-true a.class b.class three.0 i; first = first i; second = second i }
-
-same_own : (a : EntryKey) → same_key a a ≡ true
-same_own a = rw (eq-eqb a.ilabel a.ilabel refl, eq-eqb a.olabel a.olabel refl, eq-eqb a.class a.class refl, (Decides-int_eq a.first a.first).1 refl, (Decides-int_eq a.second a.second).1 refl) refl
-
-pub same_decides : (a b : EntryKey) → Decides (same_key a b) (a ≡ b)
-same_decides a b = (same_tells a b, λ e. ap (same_key a) (sym e) ∙ same_own a)
 
 -- the entry of a key
 cost_of : ℕ → ℤ → ℤ → Cost

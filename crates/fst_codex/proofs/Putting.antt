@@ -5,14 +5,14 @@ use Rattle.std.specs.Prelude.{IfSome}
 use Rattle.std.specs.Option.{option_map}
 use Rattle.std.proofs.lemmas.List.{length-map, map-append, map_more}
 use Rattle.std.proofs.lemmas.List.Concat.{flat_map-append}
-use Rattle.std.proofs.lemmas.List.Elements.{All-cons, All-head, All-nil, All-push, All-tail, AllZip-push, length_all_zip}
+use Rattle.std.proofs.lemmas.List.Elements.{All-cons, All-head, All-nil, All-push, All-tail, All-weaker, AllZip-push, length_all_zip}
 use Rattle.std.proofs.lemmas.Option.{slice_get_within, get_or_from_slice_get}
 use Rattle.std.proofs.lemmas.List.Sums.{sum_by-cons}
 use Rattle.fst_semiring.specs.Cost.{Cost, infinite}
 use Rattle.fst_semiring.specs.declared.arc_type.ArcType.{ArcType}
 use Rattle.fst_semiring.specs.Semiring.{InRange}
 use Rattle.fst_semiring.proofs.Laws.{one_not_zero}
-use Rattle.fst_machine.specs.Machine.{Arc, IsArc, IsMachine, Machine, State, arc_total, valued_arc, valued_state}
+use Rattle.fst_machine.specs.Machine.{Arc, IsArc, IsMachine, Machine, State, arc_total, most_states, valued_arc, valued_state}
 use Rattle.fst_machine.specs.BreadthFirst.{Grows}
 use Rattle.fst_machine.proofs.Arcs.{at_append_left}
 use Rattle.fst_machine.proofs.Walks.{Grows-front, Grows-then}
@@ -158,3 +158,22 @@ pub arcs_put : {V : Type 0} (value : V → Cost) (kind : ArcType) (weights : Boo
 arcs_put value kind weights old new arcs out h =
     let same = length_all_zip (IsEncodedArc kind weights new.entries) (map (valued_arc value) arcs) (map (valued_arc value) out) h.put in
     omega (arith, same, length-map arcs (valued_arc value), length-map out (valued_arc value))
+
+-- ---- where the arcs of a machine stand
+
+-- arcs that stand for arcs of a machine, by the values of their weights, are arcs of a machine
+module _ {V : Type 0} (value : V → Cost) (kind : ArcType) (weights : Bool) (entries : List (Entry Cost)) (few : length entries ≤ most_entries) (n : ℕ) where
+  arc_good : (a c : Arc V ℕ) → IsArc value n a → IsEncodedArc kind weights entries (valued_arc value a) (valued_arc value c) → IsArc value n c
+  arc_good a c good h =
+      let own = IsArc-encoded kind weights entries few n (valued_arc value a) (valued_arc value c) (record { ilabel = good.ilabel; olabel = good.olabel; weight = good.weight; next = good.next }) h in
+      record { ilabel = own.ilabel; olabel = own.olabel; weight = own.weight; next = own.next }
+
+  pub encoded_good : (arcs own : List (Arc V ℕ)) → All (IsArc value n) arcs → AllZip (IsEncodedArc kind weights entries) (map (valued_arc value) arcs) (map (valued_arc value) own) → All (IsArc value n) own
+  encoded_good [] [] good h = All-nil (IsArc value n)
+  encoded_good [] (c ∷ own) good h = absurd h
+  encoded_good (a ∷ arcs) [] good h = absurd h
+  encoded_good (a ∷ arcs) (c ∷ own) good h = All-cons (IsArc value n) c own (arc_good a c (All-head (IsArc value n) a arcs good) h.0) (encoded_good arcs own (All-tail (IsArc value n) a arcs good) h.1)
+
+-- an arc of a machine is one among as many states as there may be
+pub arcs_within : {V : Type 0} (value : V → Cost) (n : ℕ) (arcs : List (Arc V ℕ)) → n ≤ most_states → All (IsArc value n) arcs → All (IsArc value most_states) arcs
+arcs_within value n arcs few good = All-weaker (IsArc value n) (IsArc value most_states) (λ a h. record { ilabel = h.ilabel; olabel = h.olabel; weight = h.weight; next = omega (arith, h.next, few) }) arcs good

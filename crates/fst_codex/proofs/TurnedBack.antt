@@ -4,6 +4,7 @@ use Rattle.std.specs.Prelude.{IfSome}
 use Rattle.std.specs.List.{All}
 use Rattle.std.specs.Option.{option_map}
 use Rattle.std.proofs.lemmas.Bool.{cases_lt}
+use Rattle.std.proofs.Math.ListN.{get_or-map}
 use Rattle.std.proofs.lemmas.List.{length-map}
 use Rattle.std.proofs.lemmas.List.Elements.{All-map, All-weaker}
 use Rattle.std.proofs.lemmas.List.Sums.{sum_by-cons}
@@ -26,6 +27,9 @@ use Rattle.fst_codex.specs.Table.{Entry, IsEntry, IsTable, Table, valued_entry, 
 -- a label is outside of the entries that were read where it is outside of their values
 pub outside_valued : {V X : Type 0} (value : V → Cost) (es read : List (Entry V)) (m : Machine X) (found : Option Step) → read ≡ es → IsFirstArc (IsOutside (length read)) m found → IsFirstArc (IsOutside (length (map (valued_entry value) es))) m found
 outside_valued value es read m found same h = subst (λ (n : ℕ). IsFirstArc (IsOutside n) m found) (ap length same ∙ sym (length-map es (valued_entry value))) h
+
+pub outside_entries : {V X : Type 0} (value : V → Cost) (es : List (Entry V)) (m : Machine X) (found : Option Step) → IsFirstArc (IsOutside (length es)) m found → IsFirstArc (IsOutside (length (map (valued_entry value) es))) m found
+outside_entries value es m found h = outside_valued value es es m found refl h
 
 -- an arc in this place whose label is not past the numbers
 pub inside : {V : Type 0} (numbers : ℕ) (arcs : List (Arc V ℕ)) (place : ℕ) (a : Arc V ℕ) → slice_get arcs place ≡ Some a → a.ilabel ≤ numbers → IsOutside numbers arcs place → ⊥
@@ -136,7 +140,7 @@ module _ (kind : ArcType) (t : Table Cost) (good : IsTable kind (λ v. v) t) whe
       let own = entry e refl in
       record { ilabel = own.ilabel; olabel = own.olabel; weight = joined_not_zero kind t.weights a.weight e.weight h.weight own.weight; next = h.next }
 
-  IsArc-decoded : (n : ℕ) (a : Arc Cost ℕ) → IsArc (λ v. v) n a → IsArc (λ v. v) n (decoded_arc kind t a)
+  pub IsArc-decoded : (n : ℕ) (a : Arc Cost ℕ) → IsArc (λ v. v) n a → IsArc (λ v. v) n (decoded_arc kind t a)
   IsArc-decoded n a h = with_good n a (entry_at t.entries a.ilabel) h (entry_good a.ilabel)
 
   pub IsMachine-decoded : (m : Machine Cost) → IsMachine (λ v. v) m → IsMachine (λ v. v) (decoded kind t m)
@@ -161,3 +165,14 @@ IsTable-valued {V} kind value t h = record {
   good = All-map (IsEntry kind (λ v. v) t.weights) (valued_entry value) t.entries
       (All-weaker (IsEntry kind value t.weights) (λ e. IsEntry kind (λ v. v) t.weights (valued_entry value e)) (λ e own. record { ilabel = own.ilabel; olabel = own.olabel; weight = own.weight; bare = own.bare }) t.entries h.good);
 }
+
+-- arcs that arcs of a machine stand for are arcs of a machine
+pub decoded_good : {V : Type 0} (value : V → Cost) (kind : ArcType) (t : Table Cost) → IsTable kind (λ v. v) t → (n : ℕ) (arcs own : List (Arc V ℕ)) → map (valued_arc value) own ≡ map (decoded_arc kind t) (map (valued_arc value) arcs) → All (IsArc value n) arcs → All (IsArc value n) own
+decoded_good {V} value kind t table n arcs own same good = All-weaker (λ a. IsArc (λ v. v) n (valued_arc value a)) (IsArc value n) (λ a h. record { ilabel = h.ilabel; olabel = h.olabel; weight = h.weight; next = h.next }) own
+    (All-unmapped (IsArc (λ v. v) n) (valued_arc value) own (subst (λ (xs : List (Arc Cost ℕ)). All (IsArc (λ v. v) n) xs) (sym same)
+    (All-map (IsArc (λ v. v) n) (decoded_arc kind t) (map (valued_arc value) arcs)
+    (All-map (λ a. IsArc (λ v. v) n (decoded_arc kind t a)) (valued_arc value) arcs
+    (All-weaker (IsArc value n) (λ a. IsArc (λ v. v) n (decoded_arc kind t (valued_arc value a))) (λ a h. IsArc-decoded kind t table n (valued_arc value a) (record { ilabel = h.ilabel; olabel = h.olabel; weight = h.weight; next = h.next })) arcs good)))))
+  where
+    All-unmapped : {X Y : Type 0} (P : Y → Type 0) (f : X → Y) (xs : List X) → All P (map f xs) → All (λ x. P (f x)) xs
+    All-unmapped P f xs h i d low = subst P (get_or-map f xs i d) (h i (f d) (subst (λ (k : ℕ). i < k) (sym (length-map xs f)) low))

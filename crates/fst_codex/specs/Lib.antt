@@ -1,6 +1,7 @@
 pub mod Table
 pub mod Encoded
 pub mod Coding
+pub mod EntryKeys
 pub mod Decoded
 pub mod Parts
 pub mod Spelling

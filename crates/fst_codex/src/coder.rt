@@ -6,23 +6,50 @@ ghost use Rattle.fst_machine.specs.Machine.{IsArc, most_states, valued_arc};
 ghost use Rattle.fst_machine.specs.BreadthFirst.{Grows};
 ghost use Rattle.fst_codex.specs.Coding.{GrowsBy, entry_key};
 ghost use Rattle.fst_codex.specs.Encoded.{IsEncodedArc, entry_of};
+ghost use Rattle.fst_codex.specs.EntryKeys.{key_decides, key_number};
 ghost use Rattle.fst_codex.specs.Table.{IsEntry, most_entries, valued_entry};
 
 use crate::codex::{Codex, CodexEntry};
+use fst_keys::{Code, Coded, KeySet, hash_of};
 use fst_machine::FstArc;
 use fst_semiring::Weight;
-use indexmap::IndexSet;
 use std::alloc::{AllocError, Global};
 use std::marker::Model;
 
 /// An entry as a key of a set: its labels, and its weight as plain numbers.
-#[derive(Clone, Copy, PartialEq, Eq, Hash)]
+#[derive(Clone, Copy, PartialEq, Eq, PartialOrd, Ord, Hash)]
 pub(crate) struct EntryKey {
     ilabel: u32,
     olabel: u32,
     class: u8,
     first: i64,
     second: i64,
+}
+
+/// A key is found by its hash, and where another key has it, by all its parts.
+impl Coded for EntryKey {
+    type Whole = EntryKey;
+
+    ghost code = { key_number };
+
+    ghost whole = { λ k. k };
+
+    ghost same = { key_decides };
+
+    ghost apart = { λ a b e. e };
+
+    ghost compared = { key_decides };
+
+    fn code(&self) -> Code {
+        Code {
+            number: hash_of(self),
+            is_alone: false,
+        }
+    }
+
+    fn whole(&self, _alloc: Global) -> Result<EntryKey, AllocError> {
+        Ok(*self)
+    }
 }
 
 /// The key of an entry.
@@ -40,13 +67,13 @@ fn key_of<W: Weight>(entry: CodexEntry<W>) -> EntryKey
 }
 
 /// Puts a key after the others, where it is new, and gives its place and whether it was new.
-fn put_key(keys: &mut IndexSet<EntryKey>, key: EntryKey) -> Result<(usize, bool), AllocError>
-    ensures there { IfOk result (λ r. slice_get keys.new.keys r.0 ≡ Some key) }
-    ensures within { IfOk result (λ r. r.0 < length keys.new.keys) }
-    ensures grown { IfOk result (λ r. GrowsBy r.1 keys.old.keys key keys.new.keys) }
-    ensures err { OnErr result (keys.new.keys ≡ keys.old.keys) }
+fn put_key(keys: &mut KeySet<EntryKey>, key: EntryKey) -> Result<(usize, bool), AllocError>
+    ensures there { IfOk result (λ r. slice_get keys.new r.0 ≡ Some key) }
+    ensures within { IfOk result (λ r. r.0 < length keys.new) }
+    ensures grown { IfOk result (λ r. GrowsBy r.1 keys.old key keys.new) }
+    ensures err { OnErr result (keys.new ≡ keys.old) }
 {
-    let found = keys.insert_full(key)?;
+    let found = keys.put(key)?;
     Ok(found)
 }
 
@@ -56,7 +83,7 @@ pub(crate) struct Coder<W: Weight> {
     /// Whether weights go into the entries.
     weights: bool,
     /// The keys of the entries, in their order.
-    keys: IndexSet<EntryKey>,
+    keys: KeySet<EntryKey>,
     /// The entries.
     list: Vec<CodexEntry<W>>,
 }
@@ -71,7 +98,7 @@ impl<W: Weight> Model for Coder<W> {
 
     ghost view = { λ c. record { weights = c.weights; entries = c.list.items } };
 
-    ghost invariant = { λ c. (c.keys.keys ≡ map entry_key (map (valued_entry W.value) c.list.items)) × All (IsEntry W.KIND W.value c.weights) c.list.items };
+    ghost invariant = { λ c. (c.keys ≡ map entry_key (map (valued_entry W.value) c.list.items)) × All (IsEntry W.KIND W.value c.weights) c.list.items };
 }
 
 impl<W: Weight> Coder<W> {
@@ -81,7 +108,7 @@ impl<W: Weight> Coder<W> {
     {
         Coder {
             weights,
-            keys: IndexSet::new(alloc),
+            keys: KeySet::new(alloc),
             list: Vec::new(alloc),
         }
     }

@@ -1,16 +1,16 @@
 //! Decoding.
 
-ghost use Rattle.std.specs.Prelude.{◌≡◌, ◌≤◌, All, None, MatchOption, OnOk, length, map};
+ghost use Rattle.std.specs.Prelude.{◌≡◌, ◌≤◌, All, Err, None, MatchOption, OnOk, length, map};
 ghost use Rattle.std.specs.Result.{result_map_both};
 ghost use Rattle.fst_semiring.specs.Semiring.{InRange};
 ghost use Rattle.fst_machine.specs.Machine.{IsMachine, most_arcs, valued, valued_arc};
-ghost use Rattle.fst_trim.specs.FirstArcs.{IsFirstArc, IsFirstPlace, Meets};
+ghost use Rattle.fst_trim.specs.FirstArcs.{HasTwoLabels, IsFirstArc, IsFirstPlace, Meets};
 ghost use Rattle.fst_codex.specs.Decoded.{Decodes, HasLabel, IsOutside, decoded_arc, joined_weight};
 ghost use Rattle.fst_codex.specs.Parts.{DecodesArcs, DecodesStates};
-ghost use Rattle.fst_codex.specs.Table.{valued_table};
+ghost use Rattle.fst_codex.specs.Table.{IsTable, valued_table};
 
 use crate::codex::Codex;
-use fst_machine::{Fst, FstArc, StateList, Step};
+use fst_machine::{Fst, FstArc, Rewriting, StateList, Step};
 use fst_semiring::Weight;
 use fst_trim::not_acceptor_at;
 use std::alloc::{AllocError, Global};
@@ -190,6 +190,47 @@ fn decode_states<W: Weight>(
     Ok(states)
 }
 
+/// Puts what the states of a machine stand for where they stand.
+fn decode_in_place<W: Weight>(
+    alloc: Global,
+    machine: &mut Rewriting<W>,
+    codex: &Codex<W>,
+) -> Result<(), DecodeFault>
+    requires inside { IsFirstArc (IsOutside (length codex.now.entries)) machine.old None }
+    requires table { IsTable W.KIND W.value codex.now }
+    ensures decoded { DecodesStates W.KIND W.value (valued_table W.value codex.now) machine.old (result_map_both (λ done. machine.new.states) (λ e. e) result) }
+    ensures start { machine.new.start ≡ machine.old.start }
+{
+    let mut own = Vec::new(alloc);
+    for state in 0..machine.states() {
+        match decode_arcs(&mut own, codex, state, machine.arcs(state)) {
+            Ok(()) => {}
+            Err(fault) => return Err(fault),
+        }
+        machine.replace_arcs(state, own.as_slice());
+    }
+    Ok(())
+}
+
+/// Why a machine is not decoded, before the weights of its arcs are looked at.
+fn label_fault<W: Weight>(fst: &Fst<W>, codex: &Codex<W>) -> Option<DecodeFault>
+    ensures fault { MatchOption result (IsFirstArc HasTwoLabels fst.now None × IsFirstArc (IsOutside (length codex.now.entries)) fst.now None) (λ fault. (fault ≡ DecodeFault.Memory → ⊥) × Decodes W.KIND W.value fst.now (valued_table W.value codex.now) (Err fault)) }
+    ensures table { IsTable W.KIND W.value codex.now }
+{
+    let numbers = codex.entries().len() as u32;
+    if let Some(step) = not_acceptor_at(fst) {
+        return Some(DecodeFault::NotAcceptor {
+            state: step.state,
+            place: step.place,
+        });
+    }
+    if let Some(step) = outside_at(fst, numbers) {
+        let label = label_at(fst, step, numbers);
+        return Some(DecodeFault::NotInCodex { label });
+    }
+    None
+}
+
 /// The machine that a machine and a codex stand for. (OpenFst manual, "Encode": decoding.) An arc with label 0
 /// stays. Any other gets the labels of the entry of its number, counted from 1; where numbers stand for weights
 /// too, it gets its own weight times that of the entry. Final weights stay.
@@ -202,19 +243,49 @@ pub fn decode_labels<W: Weight>(
 ) -> Result<Fst<W>, DecodeFault>
     ensures { Decodes W.KIND W.value fst.now (valued_table W.value codex.now) (result_map_both (λ d. valued W.value d) (λ e. e) result) }
 {
-    if let Some(step) = not_acceptor_at(fst) {
-        return Err(DecodeFault::NotAcceptor {
-            state: step.state,
-            place: step.place,
-        });
-    }
-    let numbers = codex.entries().len() as u32;
-    if let Some(step) = outside_at(fst, numbers) {
-        let label = label_at(fst, step, numbers);
-        return Err(DecodeFault::NotInCodex { label });
+    if let Some(fault) = label_fault(fst, codex) {
+        return Err(fault);
     }
     match decode_states(alloc, fst, codex) {
         Ok(states) => Ok(states.into_machine(fst.start())),
         Err(fault) => Err(fault),
+    }
+}
+
+/// What a machine of which no label is wrong stands for, where it stands.
+fn decode_given<W: Weight>(
+    alloc: Global,
+    machine: Rewriting<W>,
+    codex: &Codex<W>,
+) -> Result<Fst<W>, DecodeFault>
+    requires two { IsFirstArc HasTwoLabels machine None }
+    requires inside { IsFirstArc (IsOutside (length codex.now.entries)) machine None }
+    requires table { IsTable W.KIND W.value codex.now }
+    ensures { Decodes W.KIND W.value machine (valued_table W.value codex.now) (result_map_both (λ d. valued W.value d) (λ e. e) result) }
+{
+    let mut machine = machine;
+    match decode_in_place(alloc, &mut machine, codex) {
+        Ok(()) => Ok(machine.into_machine()),
+        Err(fault) => Err(fault),
+    }
+}
+
+/// What a machine that is given away stands for, as `decode_labels` makes it. Its arcs are changed where they stand, where
+/// those of its states stand side by side.
+///
+/// Time: linear in the states and the arcs. Space: linear in the arcs of one state, or as `decode_labels`.
+pub fn into_decoded<W: Weight>(
+    alloc: Global,
+    fst: Fst<W>,
+    codex: &Codex<W>,
+) -> Result<Fst<W>, DecodeFault>
+    ensures { Decodes W.KIND W.value fst (valued_table W.value codex.now) (result_map_both (λ d. valued W.value d) (λ e. e) result) }
+{
+    if let Some(fault) = label_fault(&fst, codex) {
+        return Err(fault);
+    }
+    match fst.rewrite() {
+        Ok(machine) => decode_given(alloc, machine, codex),
+        Err(fst) => decode_labels(alloc, &fst, codex),
     }
 }

@@ -11,7 +11,7 @@ ghost use Rattle.fst_codex.specs.Table.{most_entries, valued_table};
 
 use crate::coder::Coder;
 use crate::codex::Codex;
-use fst_machine::{Fst, FstArc, StateList};
+use fst_machine::{Fst, FstArc, Rewriting, StateList};
 use fst_semiring::Weight;
 use std::alloc::{AllocError, Global};
 
@@ -79,4 +79,57 @@ pub fn encode_labels<W: Weight>(
     )?;
     put_states(alloc, &mut states, &mut coder, fst)?;
     Ok((states.into_machine(fst.start()), coder.into_codex()))
+}
+
+/// Puts the arcs with the numbers of their entries where those of the machine stand.
+fn put_in_place<W: Weight>(
+    alloc: Global,
+    machine: &mut Rewriting<W>,
+    coder: &mut Coder<W>,
+) -> Result<(), AllocError>
+    requires room { coder.old.entries ≡ [] }
+    ensures put { OnOk result (PutsStates W.KIND coder.old.weights (map (valued_state W.value) machine.old.states) (valued_table W.value coder.old) (valued_table W.value coder.new) (map (valued_state W.value) machine.new.states)) }
+    ensures few { OnOk result (length coder.new.entries ≤ most_entries) }
+    ensures start { OnOk result (machine.new.start ≡ machine.old.start) }
+{
+    let mut own = Vec::new(alloc);
+    for state in 0..machine.states() {
+        put_arcs(&mut own, coder, machine.arcs(state))?;
+        machine.replace_arcs(state, own.as_slice());
+    }
+    Ok(())
+}
+
+/// Encoding of a machine whose arcs are changed where they stand.
+fn encode_in_place<W: Weight>(
+    alloc: Global,
+    machine: Rewriting<W>,
+    weights: bool,
+) -> Result<(Fst<W>, Codex<W>), AllocError>
+    ensures encoded { IfOk result (λ r. IsEncoded W.KIND weights (valued W.value machine) (valued W.value r.0) (valued_table W.value r.1)) }
+    ensures again { IfOk result (λ r. (back : Result (Machine Cost) DecodeFault) → Decodes W.KIND W.value r.0 (valued_table W.value r.1) back → GivesBack (valued W.value machine) back) }
+{
+    let mut machine = machine;
+    let mut coder = Coder::new(alloc, weights);
+    put_in_place(alloc, &mut machine, &mut coder)?;
+    Ok((machine.into_machine(), coder.into_codex()))
+}
+
+/// The encoding of a machine that is given away, as `encode_labels` makes it. Its arcs are changed where they stand, where
+/// those of its states stand side by side.
+///
+/// Time: linear in the states and the arcs; an entry is found by a hash. Space: the entries, or as `encode_labels`.
+pub fn into_encoded<W: Weight>(
+    alloc: Global,
+    fst: Fst<W>,
+    weights: bool,
+) -> Result<(Fst<W>, Codex<W>), AllocError>
+    ensures encoded { IfOk result (λ r. IsEncoded W.KIND weights (valued W.value fst) (valued W.value r.0) (valued_table W.value r.1)) }
+    // Whatever decoding gives of it, it is the machine again, or memory ran out.
+    ensures again { IfOk result (λ r. (back : Result (Machine Cost) DecodeFault) → Decodes W.KIND W.value r.0 (valued_table W.value r.1) back → GivesBack (valued W.value fst) back) }
+{
+    match fst.rewrite() {
+        Ok(machine) => encode_in_place(alloc, machine, weights),
+        Err(fst) => encode_labels(alloc, &fst, weights),
+    }
 }

@@ -16,8 +16,8 @@ mod reading;
 mod writing;
 
 pub use codex::{Codex, CodexEntry, MOST_ENTRIES};
-pub use decoding::{DecodeFault, decode_labels};
-pub use encoding::encode_labels;
+pub use decoding::{DecodeFault, decode_labels, into_decoded};
+pub use encoding::{encode_labels, into_encoded};
 pub use fault::{CodexFault, CodexKind};
 pub use laws::one_answer;
 pub use reading::{codex_arc_type, read_codex};

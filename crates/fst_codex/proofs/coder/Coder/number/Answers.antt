@@ -20,12 +20,12 @@ known g t u e ks new k fresh b keys same key is h =
     subst (λ c. GrowsBy c (map entry_key (before g t)) (entry_key e) new) is
     (subst₂ (λ (xs : List EntryKey) (x : EntryKey). GrowsBy fresh xs x new) (keys ∙ ap (λ v. map entry_key (before g v)) same) key h)
 
-old : (g : given.Over) (c : goal.Then-not-new g) → Grows (before g c.args.self.now) (valued_entry g.W.Weight.value c.args.entry ∷ []) (map (valued_entry g.W.Weight.value) c.reserve.new.self.items) × (c.put_key.new.keys.keys ≡ map entry_key (map (valued_entry g.W.Weight.value) c.reserve.new.self.items))
+old : (g : given.Over) (c : goal.Then-not-new g) → Grows (before g c.args.self.now) (valued_entry g.W.Weight.value c.args.entry ∷ []) (map (valued_entry g.W.Weight.value) c.reserve.new.self.items) × (c.put_key.new.keys ≡ map entry_key (map (valued_entry g.W.Weight.value) c.reserve.new.self.items))
 old g c =
     let e = valued_entry g.W.Weight.value c.args.entry in
-    let grown = known g c.args.self.now _ e _ c.put_key.new.keys.keys _ c.in_ok-place.new false c.self.invariant.0 c.self.view_is c.key_of.ensures c.if-not-new.true c.in_ok-place.ensures.grown in
+    let grown = known g c.args.self.now _ e _ c.put_key.new.keys _ c.in_ok-place.new false c.self.invariant.0 c.self.view_is c.key_of.ensures c.if-not-new.true c.in_ok-place.ensures.grown in
     let same : map (valued_entry g.W.Weight.value) c.reserve.new.self.items ≡ before g c.args.self.now = ap (map (valued_entry g.W.Weight.value)) c.reserve.ensures.items ∙ ap (λ (t : Table g.row.W.Denot). map (valued_entry g.W.Weight.value) t.entries) c.self.view_is in
-    grows_old (before g c.args.self.now) _ e c.put_key.new.keys.keys grown same
+    grows_old (before g c.args.self.now) _ e c.put_key.new.keys grown same
 
 pub returns-then-not-new-clause-grown : goal.returns-then-not-new-clause-grown
 returns-then-not-new-clause-grown g c = (old g c).0
@@ -37,14 +37,14 @@ returns-then-not-new-clause-there g c =
     let key : slice_get (map entry_key es) c.in_ok-place.place ≡ Some (entry_key e) = subst₂ (λ (ks : List EntryKey) (k : EntryKey). slice_get ks c.in_ok-place.place ≡ Some k) (old g c).1 c.key_of.ensures c.in_ok-place.ensures.there in
     (c.in_ok-place.place, refl, stands_there es e c.in_ok-place.place key)
 
-new : (g : given.Over) (c : goal.After-push_reserved g) → Grows (before g c.args.self.now) (valued_entry g.W.Weight.value c.args.entry ∷ []) (map (valued_entry g.W.Weight.value) c.push_reserved.new.self.items) × (c.put_key.new.keys.keys ≡ map entry_key (map (valued_entry g.W.Weight.value) c.push_reserved.new.self.items))
+new : (g : given.Over) (c : goal.After-push_reserved g) → Grows (before g c.args.self.now) (valued_entry g.W.Weight.value c.args.entry ∷ []) (map (valued_entry g.W.Weight.value) c.push_reserved.new.self.items) × (c.put_key.new.keys ≡ map entry_key (map (valued_entry g.W.Weight.value) c.push_reserved.new.self.items))
 new g c =
     let value = g.W.Weight.value in
     let e = valued_entry value c.args.entry in
-    let grown = known g c.args.self.now _ e _ c.put_key.new.keys.keys _ c.in_ok-place.new true c.self.invariant.0 c.self.view_is c.key_of.ensures c.if-not-new.false c.in_ok-place.ensures.grown in
+    let grown = known g c.args.self.now _ e _ c.put_key.new.keys _ c.in_ok-place.new true c.self.invariant.0 c.self.view_is c.key_of.ensures c.if-not-new.false c.in_ok-place.ensures.grown in
     let front : map (valued_entry value) c.reserve.new.self.items ≡ before g c.args.self.now = ap (map (valued_entry value)) c.reserve.ensures.items ∙ ap (λ (t : Table g.row.W.Denot). map (valued_entry value) t.entries) c.self.view_is in
     let same : map (valued_entry value) c.push_reserved.new.self.items ≡ before g c.args.self.now ++ e ∷ [] = ap (map (valued_entry value)) c.push_reserved.ensures.items ∙ (map-append (valued_entry value) c.reserve.new.self.items (c.args.entry ∷ []) ∙ ap (λ (es : List (Entry Cost)). es ++ e ∷ []) front) in
-    grows_new (before g c.args.self.now) _ e c.put_key.new.keys.keys grown same
+    grows_new (before g c.args.self.now) _ e c.put_key.new.keys grown same
 
 pub invariant_of-self-2 : goal.invariant_of-self-2
 invariant_of-self-2 g c =
