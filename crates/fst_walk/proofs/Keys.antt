@@ -4,7 +4,7 @@ use Rattle.std.specs.Bool.{Decides}
 use Rattle.std.specs.List.{list_any}
 use Rattle.std.proofs.lemmas.List.{length-append}
 use Rattle.std.proofs.lemmas.Option.{slice_get_within}
-use Rattle.indexmap.specs.IndexSet.{insert_key}
+use Rattle.fst_keys.specs.Keys.{with_key}
 use Rattle.fst_machine.specs.BreadthFirst.{Grows}
 use Rattle.fst_machine.proofs.Arcs.{append_at}
 use Rattle.fst_machine.proofs.Elements.{at_Has, any-Has, Has-any}
@@ -12,7 +12,7 @@ use Rattle.fst_walk.specs.Making.{Passes}
 
 module _ {K : Type 0} (eq : K → K → Bool) (same : (x y : K) → Decides (eq x y) (x ≡ y)) where
   -- a key that is put in is new, or was there
-  pub put_grows : (ks new : List K) (k : K) → new ≡ insert_key eq ks k → Grows ks (k ∷ []) new
+  pub put_grows : (ks new : List K) (k : K) → new ≡ with_key eq ks k → Grows ks (k ∷ []) new
   put_grows ks new k put = by (list_any (eq k) ks) refl
     where
       by : (b : Bool) → list_any (eq k) ks ≡ b → Grows ks (k ∷ []) new

@@ -8,7 +8,6 @@
 //! operations share.
 #![tactic(auto)]
 
-mod coded;
 mod fault;
 pub mod laws;
 mod names;
@@ -17,7 +16,6 @@ mod output;
 mod table;
 mod walking;
 
-pub use coded::{Code, Coded};
 pub use fault::WalkFault;
 pub use names::{NameArc, Names};
 pub use table::NameTable;

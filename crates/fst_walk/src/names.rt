@@ -1,13 +1,12 @@
 //! What a walk asks of a graph of names.
 
 ghost use Rattle.std.specs.Prelude.{◌≡◌, ◌++◌, ◌≤◌, ℕ, OnOk, Some, slice_get, map};
-ghost use Rattle.std.specs.Bool.{Decides};
 ghost use Rattle.fst_semiring.specs.Cost.{Cost};
 ghost use Rattle.fst_machine.specs.Graph.{Graph};
 ghost use Rattle.fst_machine.specs.Machine.{Arc};
 ghost use Rattle.fst_walk.specs.Names.{IsGoodArc, IsNear, key_arc};
 
-use crate::coded::Coded;
+use fst_keys::Coded;
 use fst_semiring::Weight;
 use std::alloc::{AllocError, Global};
 use std::marker::Model;
@@ -75,9 +74,6 @@ pub trait Names<W: Weight> {
         requires holds { holds self.now }
         requires near { IsNear (graph self.now) key.now }
         ensures { W.wide_value result ≡ (graph self.now).final key.now };
-
-    /// Names that compare as equal are one.
-    ghost same: { (a b : Self.Key) → Decides (Self.Key.PartialEq.eq a b) (a ≡ b) };
 
     /// Arcs of names that the start reaches have labels in range and weights that are not Zero.
     ghost good: { (s : Self) → holds s → (n : Self.Key) → IsNear (graph s) n → (k : ℕ) (a : Arc Cost Self.Key) → slice_get ((graph s).arcs n) k ≡ Some a → IsGoodArc a };

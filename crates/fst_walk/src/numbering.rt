@@ -8,9 +8,9 @@ ghost use Rattle.fst_machine.specs.Machine.{valued_arc};
 ghost use Rattle.fst_walk.specs.Making.{Passes, PutsArcs};
 ghost use Rattle.fst_walk.specs.Names.{key_arc};
 
-use crate::coded::Coded;
 use crate::names::NameArc;
-use crate::table::NameTable;
+use crate::table::{NameTable, find};
+use fst_keys::Coded;
 use fst_machine::{FstArc, WideArc};
 use fst_semiring::Weight;
 use std::alloc::AllocError;
@@ -47,7 +47,6 @@ pub(crate) fn number_arcs<K: Coded, W: Weight>(
     made: &mut Vec<NameArc<K, W>>,
     limit: u32,
 ) -> Result<Option<bool>, AllocError>
-    requires same { (a b : K) → Decides (K.PartialEq.eq a b) (a ≡ b) }
     requires few { length names.old ≤ limit }
     ensures { IfOk result (λ found. MatchOption found (Passes limit names.old (nexts (map (key_arc W.wide_value) made.old.items))) (PutsArcs limit (map (key_arc W.wide_value) made.old.items) names.old names.new (map (valued_arc W.value) out.new.items))) }
 {
@@ -60,7 +59,7 @@ pub(crate) fn number_arcs<K: Coded, W: Weight>(
             weight,
             next,
         } = arc;
-        let Some(next) = names.find(next, limit)? else {
+        let Some(next) = find(names, next, limit)? else {
             return Ok(None);
         };
         let arc = FstArc {

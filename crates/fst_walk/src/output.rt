@@ -4,9 +4,9 @@ ghost use Rattle.std.specs.Prelude.{◌≡◌, ◌≤◌, ◌+◌, ℕ, true, No
 ghost use Rattle.fst_machine.specs.Machine.{arc_total, most_arcs, valued_arc, valued_state};
 ghost use Rattle.fst_walk.specs.Making.{IsCounted, PutsState};
 
-use crate::coded::Coded;
 use crate::names::NameArc;
 use crate::table::NameTable;
+use fst_keys::Coded;
 use fst_machine::{FstArc, MOST_ARCS, StateList};
 use fst_semiring::Weight;
 use std::alloc::AllocError;

@@ -1,18 +1,17 @@
 //! The machine of all names that the start reaches.
 
 ghost use Rattle.std.specs.Prelude.{◌≡◌, ◌<◌, ◌≤◌, ◌+◌, ◌∷◌, [], ℕ, true, false, IfOk, IfErr, None, OnOk, Some, length, map};
-ghost use Rattle.std.specs.Bool.{Decides};
 ghost use Rattle.fst_machine.specs.BreadthFirst.{Grows};
 ghost use Rattle.fst_machine.specs.Machine.{most_arcs, most_states, valued, valued_state};
 ghost use Rattle.fst_walk.specs.Answers.{IsExactly, IsFine, IsNamed, ReachesMore, Stops};
 ghost use Rattle.fst_walk.specs.Making.{IsDone, IsMaking};
 
-use crate::coded::Coded;
 use crate::fault::WalkFault;
 use crate::names::Names;
 use crate::numbering::number_arcs;
 use crate::output::{Output, counted, put_state};
-use crate::table::NameTable;
+use crate::table::{NameTable, find};
+use fst_keys::Coded;
 use fst_machine::{Fst, MOST_ARCS, StateList};
 use fst_semiring::Weight;
 use std::alloc::{AllocError, Global};
@@ -98,7 +97,6 @@ fn begin<K: Coded, W: Weight>(
     room: Room,
     limit: u32,
 ) -> Result<Output<K, W>, AllocError>
-    requires same { (a b : K) → Decides (K.PartialEq.eq a b) (a ≡ b) }
     requires some { 0 < limit }
     ensures names { IfOk result (λ o. Grows [] (start ∷ []) o.names × (length o.names ≤ limit)) }
     ensures states { IfOk result (λ o. o.states ≡ []) }
@@ -106,7 +104,7 @@ fn begin<K: Coded, W: Weight>(
     ensures overflow { IfOk result (λ o. o.overflow ≡ None) }
 {
     let mut names = NameTable::with_bound(alloc, room.states);
-    let _place = names.find(start, limit)?;
+    let _place = find(&mut names, start, limit)?;
     Ok(Output {
         names,
         states: StateList::with_capacity(alloc, room.states, room.arcs)?,

@@ -31,11 +31,11 @@ loop-arc-preserved g c =
     let rest = drain_items c.next.new.self in
     let x : Arc g.row.W-Wide.Denot g.row.K.Denot = record { ilabel = c.arc.inside.ilabel; olabel = c.arc.inside.olabel; weight = c.arc.inside.weight; next = c.arc.inside.next } in
     let step : drain_items c.loop-arc.arc-iterator ≡ y ∷ rest = (rw c.in-Some.is at c.next.ensures.steps).0 in
-    let found : IsFound c.args.limit c.loop-arc.names x.next c.find.new.self c.in-Some-2.next = rw c.in-Some-2.is at c.in_ok-next.ensures in
+    let found : IsFound c.args.limit c.loop-arc.names x.next c.find.new.names c.in-Some-2.next = rw c.in-Some-2.is at c.in_ok-next.ensures in
     let out = map (valued_arc g.W.Weight.value) c.loop-arc.out.items in
     let more = map (valued_arc g.W.Weight.value) c.put_arc.new.out.items in
-    let put = puts_more c.args.limit (map value so_far) c.args.names.now c.loop-arc.names c.find.new.self out more c.loop-arc.fits c.in_ok-fits.fits (value x) c.in-Some-2.next c.loop-arc.invariant.puts found c.in_ok-fits.ensures.range c.in_ok-fits.ensures.put in
+    let put = puts_more c.args.limit (map value so_far) c.args.names.now c.loop-arc.names c.find.new.names out more c.loop-arc.fits c.in_ok-fits.fits (value x) c.in-Some-2.next c.loop-arc.invariant.puts found c.in_ok-fits.ensures.range c.in_ok-fits.ensures.put in
     record {
       all = c.loop-arc.invariant.all ∙ (ap (λ zs. so_far ++ zs) step ∙ sym (append_assoc so_far (y ∷ []) rest));
-      puts = subst (λ (zs : List (Arc Cost g.row.K.Denot)). PutsArcs c.args.limit zs c.args.names.now c.find.new.self more c.in_ok-fits.fits) (ap (λ a. map value so_far ++ value a ∷ []) c.arc.view_is ∙ sym (map-append value so_far (y ∷ []))) put;
+      puts = subst (λ (zs : List (Arc Cost g.row.K.Denot)). PutsArcs c.args.limit zs c.args.names.now c.find.new.names more c.in_ok-fits.fits) (ap (λ a. map value so_far ++ value a ∷ []) c.arc.view_is ∙ sym (map-append value so_far (y ∷ []))) put;
     }
