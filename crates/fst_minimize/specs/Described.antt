@@ -26,7 +26,7 @@ pub record DescribedBy (g : Graph ℕ) (done : ℕ) (keys : List WeightKey) (sor
 -- the first states are described and numbered
 abbrev pub IsDescribed : Graph ℕ → ℕ → Describer → Type 0
 IsDescribed g done d = (sorted : List (List (Arc Cost ℕ))) × (seen : List (ℕ × List ℕ))
-    × DescribedBy g done d.keys.keys sorted seen d.rows × HasSeen seen d.numberer
+    × DescribedBy g done d.keys sorted seen d.rows × HasSeen seen d.numberer
 
 -- the weights of a state are values of the arc type
 abbrev pub OfKind : ArcType → Graph ℕ → ℕ → Type 0

@@ -16,3 +16,4 @@ pub mod Described
 pub mod Ready
 pub mod Minimized
 pub mod Faults
+pub mod WeightKeys

@@ -14,22 +14,22 @@ ghost use Rattle.fst_minimize.specs.Saying.{Extends, IsByLabel, SaysArcs};
 use crate::numberer::{Numberer, Numbering};
 use crate::rows::Rows;
 use crate::weights::{WeightKey, key_of, number_weight};
+use fst_keys::KeySet;
 use fst_machine::WideArc;
 use fst_pushing::Pushing;
 use fst_semiring::Weight;
-use indexmap::IndexSet;
 use std::alloc::{AllocError, Global};
 
 /// Fills a list with the labels of these arcs and the numbers of their weights, in turn.
 fn put_said<W: Weight>(
     said: &mut Vec<u32>,
-    keys: &mut IndexSet<WeightKey>,
+    keys: &mut KeySet<WeightKey>,
     arcs: &[WideArc<W>],
 ) -> Result<(), AllocError>
-    requires apart { Apart keys.old.keys }
-    ensures says { OnOk result (SaysArcs keys.new.keys (map (valued_arc W.wide_value) arcs.now) said.new.items) }
-    ensures apart { OnOk result (Apart keys.new.keys) }
-    ensures more { OnOk result (Extends keys.old.keys keys.new.keys) }
+    requires apart { Apart keys.old }
+    ensures says { OnOk result (SaysArcs keys.new (map (valued_arc W.wide_value) arcs.now) said.new.items) }
+    ensures apart { OnOk result (Apart keys.new) }
+    ensures more { OnOk result (Extends keys.old keys.new) }
 {
     said.clear();
     for arc in arcs {
@@ -65,7 +65,7 @@ fn sort_arcs<W: Weight>(arcs: &mut Vec<WideArc<W>>) -> Result<(), AllocError>
 pub(crate) struct Describer {
     said: Vec<u32>,
     ends: Vec<u32>,
-    keys: IndexSet<WeightKey>,
+    keys: KeySet<WeightKey>,
     numberer: Numberer,
     rows: Rows,
 }
@@ -76,9 +76,9 @@ fn add_state<W: Weight>(
     arcs: &[WideArc<W>],
     last: W::Wide,
 ) -> Result<(), AllocError>
-    requires apart { Apart describer.old.keys.keys }
+    requires apart { Apart describer.old.keys }
     ensures described { OnOk result ((g : Graph ℕ) (done : ℕ) → IsByLabel (g.arcs done) (map (valued_arc W.wide_value) arcs.now) → g.final done ≡ W.wide_value last → IsDescribed g done describer.old → IsDescribed g (done + 1) describer.new) }
-    ensures apart { OnOk result (Apart describer.new.keys.keys) }
+    ensures apart { OnOk result (Apart describer.new.keys) }
 {
     let head = number_weight(&mut describer.keys, key_of::<W>(last))?;
     put_said::<W>(&mut describer.said, &mut describer.keys, arcs)?;
@@ -92,12 +92,12 @@ impl Describer {
     /// No states, and room for the rows of so many states with so many arcs.
     fn with_capacity(alloc: Global, states: usize, arcs: usize) -> Result<Describer, AllocError>
         ensures described { IfOk result (λ d. (g : Graph ℕ) → IsDescribed g 0 d) }
-        ensures apart { IfOk result (λ d. Apart d.keys.keys) }
+        ensures apart { IfOk result (λ d. Apart d.keys) }
     {
         Ok(Describer {
             said: Vec::new(alloc),
             ends: Vec::new(alloc),
-            keys: IndexSet::new(alloc),
+            keys: KeySet::new(alloc),
             numberer: Numberer::with_capacity(alloc, states)?,
             rows: Rows::with_capacity(alloc, states, arcs)?,
         })
@@ -121,11 +121,11 @@ fn describe_state<W: Weight>(
     pushed: &Pushing<'_, W>,
     state: u32,
 ) -> Result<(), AllocError>
-    requires apart { Apart describer.old.keys.keys }
+    requires apart { Apart describer.old.keys }
     requires once { OncePlacedAll (graph_of pushed.now) }
     requires state { state < length pushed.now.states }
     ensures described { OnOk result (IsDescribed (graph_of pushed.now) state describer.old → IsDescribed (graph_of pushed.now) (state + 1) describer.new) }
-    ensures apart { OnOk result (Apart describer.new.keys.keys) }
+    ensures apart { OnOk result (Apart describer.new.keys) }
     ensures kind { OnOk result (OfKind W.KIND (graph_of pushed.now) state) }
 {
     pushed.put_arcs(arcs, state)?;

@@ -12,9 +12,9 @@ use Rattle.fst_minimize.proofs.describing.add_state.Goals as goal
 pub returns-clause-described : goal.returns-clause-described
 returns-clause-described g c = λ graph done by final old.
     let w = g.W.Weight in
-    let keys = c.args.describer.now.keys.keys in
-    let mid = c.number_weight.new.keys.keys in
-    let more = c.put_said.new.keys.keys in
+    let keys = c.args.describer.now.keys in
+    let mid = c.number_weight.new.keys in
+    let more = c.put_said.new.keys in
     let first = grows_extends keys mid c.key_of.result c.in_ok-head.ensures.grown in
     let extends : Extends keys more = λ (k : ℕ) (x : WeightKey) (e : slice_get keys k ≡ Some x). c.in_ok-put_said.ensures.more k x (first k x e) in
     let arcs = map (valued_arc w.wide_value) c.args.arcs.now in
@@ -33,4 +33,4 @@ returns-clause-described g c = λ graph done by final old.
     )
 
 pub put_said-requires : goal.put_said-requires
-put_said-requires g c = record { apart = grows_apart c.args.describer.now.keys.keys c.number_weight.new.keys.keys c.key_of.result c.requires.apart c.in_ok-head.ensures.grown }
+put_said-requires g c = record { apart = grows_apart c.args.describer.now.keys c.number_weight.new.keys c.key_of.result c.requires.apart c.in_ok-head.ensures.grown }

@@ -12,8 +12,8 @@ loop-arc-preserved g c =
     let low : i < length c.args.arcs.now = c.loop-arc-test.true in
     let y : Arc _ ℕ = record { ilabel = inside.ilabel; olabel = inside.olabel; weight = inside.weight; next = inside.next } in
     let read : y ≡ get_or c.args.arcs.now i y = read_as c.args.arcs.now i y c.arc-item.result c.arc.view_is c.arc-item.is in
-    let keys = c.loop-arc.keys.keys in
-    let more = c.number_weight.new.keys.keys in
+    let keys = c.loop-arc.keys in
+    let more = c.number_weight.new.keys in
     let extends = grows_extends keys more c.key_of.result c.in_ok-weight.ensures.grown in
     let put : c.push-in-loop-arc.new.self.items ≡ (c.loop-arc.said.items ++ inside.ilabel ∷ []) ++ c.in_ok-weight.weight ∷ [] =
     c.in_ok-push-2.ensures.items ∙ ap (λ (xs : List ℕ). xs ++ c.in_ok-weight.weight ∷ []) c.in_ok-push.ensures.items in

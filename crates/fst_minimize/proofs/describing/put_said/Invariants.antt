@@ -6,7 +6,7 @@ use Rattle.fst_minimize.proofs.describing.put_said.Given as goal
 
 abbrev pub invariant-loop-arc : goal.invariant-loop-arc
 invariant-loop-arc g l = record {
-  says : SaysArcs l.keys.keys (map (valued_arc g.W.Weight.wide_value) (take l.arc-index l.arcs)) l.said.items;
-  apart : Apart l.keys.keys;
-  more : Extends l.initial.keys.keys l.keys.keys;
+  says : SaysArcs l.keys (map (valued_arc g.W.Weight.wide_value) (take l.arc-index l.arcs)) l.said.items;
+  apart : Apart l.keys;
+  more : Extends l.initial.keys l.keys;
 }
