@@ -1,5 +1,5 @@
 -- Rules as they are kept: a list, and a table of the places of the labels.
-use Rattle.std.proofs.Common.{rules, ◌≡◌, ◌⊎◌, inl, inr, ℕ, ◌+◌, ◌<◌, ◌≤◌, true, false, ◌||◌, ◌==◌, Bool, not, suc, zero, cond, get_or, length, List, [], ◌∷◌, ◌++◌, map, slice_get, is_some, Option, None, Some, refl, sym, ap, ◌∙◌, subst, arith}
+use Rattle.std.proofs.Common.{rules, ◌≡◌, ◌⊎◌, inl, inr, ℕ, ◌+◌, ◌<◌, ◌≤◌, true, false, ◌||◌, ◌==◌, Bool, not, suc, cond, get_or, length, List, [], ◌∷◌, ◌++◌, map, slice_get, is_some, Option, None, Some, refl, sym, ap, ◌∙◌, subst, arith}
 use Rattle.std.specs.Prelude.{nat_eq}
 use Rattle.std.specs.List.{All, IsDistinct, list_any, position_or_len}
 use Rattle.std.specs.Option.{option_map}
@@ -15,9 +15,9 @@ use Rattle.std.proofs.lemmas.List.Quantifiers.{position-Some}
 use Rattle.std.proofs.lemmas.List.Sums.{prefix_len-le-length}
 use Rattle.fst_semiring.specs.Cost.{Cost}
 use Rattle.fst_machine.specs.BreadthFirst.{Has}
-use Rattle.fst_machine.specs.Machine.{IsMachine, Machine, greatest_label, no_states}
+use Rattle.fst_machine.specs.Machine.{IsMachine, greatest_label}
 use Rattle.fst_rational.proofs.Reading.{none_of}
-use Rattle.fst_replace.specs.Rules.{AreKept, IsRules, Labelled, labels_of, machine_at, place_of}
+use Rattle.fst_replace.specs.Rules.{AreKept, IsRules, Labelled, labels_of, place_of}
 
 eq_true : (n x : ℕ) → n ≡ x → nat_eq n x ≡ true
 eq_true n x e = grind (arith, nat_tests)
