@@ -8,7 +8,7 @@ ghost use Rattle.fst_walk.specs.Answers.{IsNamed};
 ghost use Rattle.fst_compose.specs.Answers.{IsExact, IsExactly, IsSorted, cause_of};
 ghost use Rattle.fst_compose.specs.Composition.{composition};
 ghost use Rattle.fst_compose.specs.Matching.{IsOrdered};
-ghost use Rattle.fst_compose.specs.Good.{good_arc, same_decides};
+ghost use Rattle.fst_compose.specs.Good.{good_arc};
 ghost use Rattle.fst_compose.specs.Theorem.{IsComposition};
 
 use crate::expanding::key_final;
@@ -75,8 +75,6 @@ impl<'a, W: Weight> Names<W> for Composing<'a, W> {
     fn final_weight(&self, key: &ComposeKey) -> W::Wide {
         key_final(self.a, self.b, *key)
     }
-
-    ghost same = { same_decides };
 
     ghost good = { λ s h n near k arc e. good_arc W.KIND W.value s.a.now s.b.now h.0 h.1 n near k arc e };
 }

@@ -1,9 +1,12 @@
 //! The names of the states of a composition, and their arcs.
 
 ghost use Rattle.std.specs.Prelude.{◌≡◌};
+ghost use Rattle.fst_compose.specs.Good.{same_decides};
 ghost use Rattle.fst_compose.specs.Names.{name_at, name_number};
 
-use fst_walk::{Code, Coded, NameArc, NameTable};
+use fst_keys::{Code, Coded};
+use fst_walk::{NameArc, NameTable};
+use std::alloc::{AllocError, Global};
 use std::marker::Model;
 
 /// For how many states of a machine there is room in the number of a name.
@@ -14,7 +17,7 @@ const FILTERS: u64 = 4_611_686_018_427_387_904;
 
 /// The name of a state of a composition: a state of the first machine, one of the second, and the state of the
 /// filter, which is 1 where an arc of the second machine alone led here, and else 0. (Mohri 2009, section 4.1.)
-#[derive(Clone, Copy, Debug, PartialEq, Eq, Hash)]
+#[derive(Clone, Copy, Debug, PartialEq, Eq, PartialOrd, Ord, Hash)]
 pub struct ComposeKey {
     /// The state of the first machine.
     pub first: u32,
@@ -38,7 +41,11 @@ impl Model for ComposeKey {
 /// A name is found by its parts side by side in one number, where they have room. They have in each composition, since a
 /// machine has at most 4,194,304 states.
 impl Coded for ComposeKey {
+    type Whole = ComposeKey;
+
     ghost code = { name_number };
+
+    ghost whole = { λ n. n };
 
     fn code(&self) -> Code {
         if self.first < ROOM && self.second < ROOM && self.filter < 2 {
@@ -55,6 +62,16 @@ impl Coded for ComposeKey {
             is_alone: false,
         }
     }
+
+    fn whole(&self, _alloc: Global) -> Result<ComposeKey, AllocError> {
+        Ok(*self)
+    }
+
+    ghost same = { same_decides };
+
+    ghost apart = { λ a b e. e };
+
+    ghost compared = { same_decides };
 }
 
 /// The name with these parts.

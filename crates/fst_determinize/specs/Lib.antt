@@ -5,6 +5,7 @@ pub mod SubsetLaws
 pub mod Kept
 pub mod Others
 pub mod KeyLaws
+pub mod Listing
 pub mod Weighed
 pub mod Faults
 pub mod Answers

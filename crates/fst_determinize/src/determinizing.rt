@@ -6,7 +6,6 @@ ghost use Rattle.fst_machine.specs.Machine.{most_states, valued};
 ghost use Rattle.fst_walk.specs.Answers.{IsExactly, IsNamed};
 ghost use Rattle.fst_walk.specs.Names.{key_arc};
 ghost use Rattle.fst_determinize.specs.Kept.{members_as};
-ghost use Rattle.fst_determinize.specs.KeyLaws.{same_decides};
 ghost use Rattle.fst_determinize.specs.Ways.{final_by, subsets};
 ghost use Rattle.fst_determinize.specs.Weighed.{AreMembers, HasGoodArcs, IsWeighed};
 
@@ -149,8 +148,6 @@ impl<'a, W: Weight, R: Residual<W>> Names<W> for Determinizing<'a, W, R> {
     fn final_weight(&self, key: &SubsetOf<R>) -> W::Wide {
         last_weight(self.fst, key)
     }
-
-    ghost same = { same_decides };
 
     ghost good = { λ s h n near k a at. h.1 n near k a at };
 }

@@ -13,6 +13,7 @@ mod determined;
 mod determinizing;
 mod fault;
 pub mod laws;
+mod listing;
 mod making;
 mod on_demand;
 mod residual;

@@ -5,10 +5,12 @@ ghost use Rattle.std.specs.Cmp.{on_equiv, on_per, partial_equiv_from_equiv};
 ghost use Rattle.fst_determinize.specs.Kept.{member_as, members_as, number_more, same_member, same_members, subset_number};
 ghost use Rattle.fst_determinize.specs.Others.{others_in};
 ghost use Rattle.std.specs.Bool.{Decides};
-ghost use Rattle.fst_determinize.specs.KeyLaws.{member_laws, subset_laws};
+ghost use Rattle.fst_determinize.specs.KeyLaws.{member_laws, same_decides, subset_laws};
+ghost use Rattle.fst_determinize.specs.Listing.{listed_apart, listed_decides, listed_of};
 
+use crate::listing::{Listed, Ranked};
 use crate::residual::Kept;
-use fst_walk::{Code, Coded};
+use fst_keys::{Code, Coded};
 use std::alloc::{AllocError, Global};
 use std::marker::Model;
 
@@ -194,9 +196,29 @@ fn numbered<R: Kept>(number: u64, members: &Others<R>) -> u64
     }
 }
 
-/// A subset is found by a number of its members, which others may have.
+/// The members of a subset as plain numbers.
+fn listed<R: Kept>(alloc: Global, subset: &SubsetOf<R>) -> Result<Listed, AllocError>
+    ensures { IfOk result (λ l. l ≡ listed_of subset.now) }
+{
+    let mut members = Vec::with_capacity(alloc, subset.len())?;
+    for place in 0..subset.len() {
+        let member = subset.item(place);
+        members.push(Ranked {
+            state: member.state,
+            key: member.residual.key(),
+        })?;
+    }
+    Ok(Listed { members })
+}
+
+/// A subset is found by a number of its members. Where another subset has that number, it is looked up by the list of its
+/// members.
 impl<R: Kept> Coded for SubsetOf<R> {
+    type Whole = Listed;
+
     ghost code = { subset_number };
+
+    ghost whole = { listed_of };
 
     fn code(&self) -> Code {
         let first = number_more(0, self.first);
@@ -205,6 +227,16 @@ impl<R: Kept> Coded for SubsetOf<R> {
             is_alone: false,
         }
     }
+
+    fn whole(&self, alloc: Global) -> Result<Listed, AllocError> {
+        listed(alloc, self)
+    }
+
+    ghost same = { same_decides };
+
+    ghost apart = { listed_apart };
+
+    ghost compared = { listed_decides };
 }
 
 /// The subset of these members.

@@ -3,8 +3,9 @@
 ghost use Rattle.std.specs.Prelude.{[], Some};
 ghost use Rattle.std.proofs.lemmas.Bool.Decides.{Decides-eqb};
 
+use fst_keys::{Code, Coded};
 use fst_semiring::{Tropical, Weight};
-use fst_walk::{Code, Coded, NameArc, Names, Room, walk};
+use fst_walk::{NameArc, Names, Room, walk};
 use std::alloc::{AllocError, Global};
 use std::marker::Model;
 use std::test::Fail;
@@ -27,7 +28,11 @@ impl Model for Mark {
 
 /// A name is found by its place.
 impl Coded for Mark {
+    type Whole = u32;
+
     ghost code = { λ n. n };
+
+    ghost whole = { λ n. n };
 
     fn code(&self) -> Code {
         Code {
@@ -35,6 +40,16 @@ impl Coded for Mark {
             is_alone: true,
         }
     }
+
+    fn whole(&self, _alloc: Global) -> Result<u32, AllocError> {
+        Ok(self.place)
+    }
+
+    ghost same = { λ a b. Decides-eqb a b };
+
+    ghost apart = { λ a b e. e };
+
+    ghost compared = { λ a b. Decides-eqb a b };
 }
 
 /// The graph of one name without arcs.
@@ -72,8 +87,6 @@ impl Names<Tropical> for Lone {
     fn final_weight(&self, _key: &Mark) -> <Tropical as Weight>::Wide {
         Tropical::zero().widen()
     }
-
-    ghost same = { λ a b. Decides-eqb a b };
 
     ghost good = { λ s h n near k a e. absurd (Prim.cc) };
 }

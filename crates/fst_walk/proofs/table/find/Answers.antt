@@ -1,4 +1,3 @@
-use Rattle.std.proofs.Common.{◌≡◌}
 use Rattle.fst_walk.proofs.Tables.{found_put, passes_new}
 use Rattle.fst_walk.proofs.table.find.Goals as goal
 
