@@ -1,5 +1,6 @@
 pub mod Apart
 pub mod Keys
+pub mod Fronts
 pub mod Held
 pub mod Handed
 pub mod Inside

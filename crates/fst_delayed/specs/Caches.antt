@@ -1,7 +1,7 @@
 -- A cache: names, each once, with arcs.
-use Rattle.std.specs.Prelude.{◌≡◌, List, map, All}
+use Rattle.std.specs.Prelude.{◌≡◌, ◌≤◌, List, [], ◌∷◌, length, map, All}
 use Rattle.fst_semiring.specs.Cost.{Cost}
-use Rattle.fst_machine.specs.BreadthFirst.{Has}
+use Rattle.fst_machine.specs.BreadthFirst.{Apart, Has}
 use Rattle.fst_machine.specs.Graph.{Graph}
 use Rattle.fst_machine.specs.Machine.{Arc}
 use Rattle.fst_walk.specs.Names.{key_arc}
@@ -21,3 +21,14 @@ IsTrueOf value g entries = All (λ e. map (key_arc value) e.1 ≡ g.arcs e.0) en
 -- no name has an entry in both
 abbrev pub AreApart : {N A : Type 0} → List (N × A) → List (N × A) → Type 0
 AreApart {N} a b = (n : N) → Has (keys a) n → Has (keys b) n → ⊥
+
+-- names with what is kept of them, place for place; of names behind these nothing is kept
+abbrev pub entered : {N A B : Type 0} → (A → B) → List N → List A → List (N × B)
+entered f [] kept = []
+entered f (n ∷ names) [] = []
+entered f (n ∷ names) (a ∷ kept) = (n, f a) ∷ entered f names kept
+
+-- Each name stands once, and something is kept of no more than these.
+pub record AreEntered {N A : Type 0} (names : List N) (kept : List A) : Type 0 where
+  pub few : length kept ≤ length names
+  pub apart : Apart names

@@ -16,6 +16,7 @@ mod delayed;
 mod entry;
 pub mod laws;
 mod meter;
+mod names;
 mod ranging;
 mod run;
 
