@@ -20,7 +20,7 @@ both false b e = absurd (true≢false (sym e))
 abbrev pub same_key : EntryKey → EntryKey → Bool
 same_key a b = eqb a.ilabel b.ilabel && (eqb a.olabel b.olabel && (eqb a.class b.class && (int_eq a.first b.first && int_eq a.second b.second)))
 
-pub same_tells : (a b : EntryKey) → same_key a b ≡ true → a ≡ b
+same_tells : (a b : EntryKey) → same_key a b ≡ true → a ≡ b
 same_tells a b e =
     let one = both _ _ e in
     let two = both _ _ one.1 in
@@ -28,10 +28,16 @@ same_tells a b e =
     let four = both _ _ three.1 in
     let first : a.first ≡ b.first = (Decides-int_eq a.first b.first).0 four.0 in
     let second : a.second ≡ b.second = (Decides-int_eq a.second b.second).0 four.1 in
-    λ i. record { ilabel = eqb-true a.ilabel b.ilabel one.0 i; olabel = eqb-true a.olabel b.olabel two.0 i; class = eqb-true a.class b.class three.0 i; first = first i; second = second i }
+    let ilabel = eqb-true a.ilabel b.ilabel one.0 in
+    let olabel = eqb-true a.olabel b.olabel two.0 in
+    let class = eqb-true a.class b.class three.0 in
+    λ i. record { ilabel = ilabel i; olabel = olabel i; class = class i; first = first i; second = second i }
 
 same_own : (a : EntryKey) → same_key a a ≡ true
-same_own a = rw (eq-eqb a.ilabel a.ilabel refl, eq-eqb a.olabel a.olabel refl, eq-eqb a.class a.class refl, (Decides-int_eq a.first a.first).1 refl, (Decides-int_eq a.second a.second).1 refl) refl
+same_own a =
+    let first = (Decides-int_eq a.first a.first).1 refl in
+    let second = (Decides-int_eq a.second a.second).1 refl in
+    rw (eq-eqb a.ilabel a.ilabel refl, eq-eqb a.olabel a.olabel refl, eq-eqb a.class a.class refl, first, second) refl
 
 -- keys that compare as equal are one
 pub key_decides : (a b : EntryKey) → Decides (same_key a b) (a ≡ b)

@@ -270,8 +270,8 @@ fn decode_given<W: Weight>(
     }
 }
 
-/// What a machine that is given away stands for, as `decode_labels` makes it. Its arcs are changed where they stand, where
-/// those of its states stand side by side.
+/// What a machine that is given away stands for, as `decode_labels` makes it. Its arcs are changed where they stand,
+/// where those of its states stand side by side.
 ///
 /// Time: linear in the states and the arcs. Space: linear in the arcs of one state, or as `decode_labels`.
 pub fn into_decoded<W: Weight>(

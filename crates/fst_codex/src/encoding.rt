@@ -61,7 +61,8 @@ fn put_states<W: Weight>(
 ///
 /// Decoding what this gives is the machine that went in.
 ///
-/// Time: linear in the states and the arcs; an entry is found by a hash. Space: the result.
+/// Time: linear in the states and the arcs; an entry is found by a hash, and where another has it, by a search.
+/// Space: the result.
 pub fn encode_labels<W: Weight>(
     alloc: Global,
     fst: &Fst<W>,
@@ -115,10 +116,10 @@ fn encode_in_place<W: Weight>(
     Ok((machine.into_machine(), coder.into_codex()))
 }
 
-/// The encoding of a machine that is given away, as `encode_labels` makes it. Its arcs are changed where they stand, where
-/// those of its states stand side by side.
+/// The encoding of a machine that is given away, as `encode_labels` makes it. Its arcs are changed where they stand,
+/// where those of its states stand side by side.
 ///
-/// Time: linear in the states and the arcs; an entry is found by a hash. Space: the entries, or as `encode_labels`.
+/// Time: as `encode_labels`. Space: the entries, or as `encode_labels`.
 pub fn into_encoded<W: Weight>(
     alloc: Global,
     fst: Fst<W>,
