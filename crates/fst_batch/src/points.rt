@@ -4,14 +4,18 @@ ghost use Rattle.std.specs.Prelude.{◌≡◌, ◌⊎◌, ◌+◌, ◌<◌, ◌�
 ghost use Rattle.fst_machine.specs.BreadthFirst.{Grows, Has};
 ghost use Rattle.fst_walk.specs.Making.{Passes};
 ghost use Rattle.fst_batch.specs.Lattice.{point};
+ghost use Rattle.fst_batch.specs.Points.{parts_apart, parts_decide, parts_of, point_decides, point_number};
 
 use fst_delayed::ComposeKey;
-use indexmap::IndexSet;
+use fst_keys::{Code, Coded, KeySet};
 use std::alloc::{AllocError, Global};
 use std::marker::Model;
 
+/// An odd number whose bits look random.
+const FACTOR: u64 = 0x9E3779B97F4A7C15;
+
 /// A name of a lattice: how many bytes of the line were read, and a name of the composition that reads it.
-#[derive(Clone, Copy, Debug, PartialEq, Eq, Hash)]
+#[derive(Clone, Copy, Debug, PartialEq, Eq)]
 struct PointKey {
     position: u64,
     name: ComposeKey,
@@ -29,20 +33,63 @@ impl Model for PointKey {
     ghost inverse = { λ p. record { position = p.position; name = p.name } };
 }
 
-/// Puts a name after the others, where it is new, and gives its place.
-fn put_point(keys: &mut IndexSet<PointKey>, key: PointKey) -> Result<usize, AllocError>
-    ensures grown { IfOk result (λ place. Grows keys.old.keys (key ∷ []) keys.new.keys) }
-    ensures there { IfOk result (λ place. slice_get keys.new.keys place ≡ Some key) }
-    ensures last { IfOk result (λ place. (keys.new.keys ≡ keys.old.keys) ⊎ (length keys.new.keys ≡ place + 1)) }
+/// A number of a name, which others may have: the states of both machines side by side, and a product of the position and
+/// the state of the filter.
+#[tactic(auto, unfolding(crate::specs::Points::point_number))]
+fn point_number(key: PointKey) -> u64
+    ensures { result ≡ point_number key }
 {
-    let (place, _) = keys.insert_full(key)?;
+    let name = key.name;
+    let states = u64::from(name.first) + u64::from(name.second) * 4_294_967_296;
+    let others = key
+        .position
+        .wrapping_mul(2)
+        .wrapping_add(u64::from(name.filter));
+    states.wrapping_add(others.wrapping_mul(FACTOR))
+}
+
+/// Where another name has its number, a name is found by all its parts.
+impl Coded for PointKey {
+    type Whole = (u64, u32, u32, u8);
+
+    ghost code = { point_number };
+
+    ghost whole = { parts_of };
+
+    ghost same = { point_decides };
+
+    ghost apart = { parts_apart };
+
+    ghost compared = { parts_decide };
+
+    fn code(&self) -> Code {
+        Code {
+            number: point_number(*self),
+            is_alone: false,
+        }
+    }
+
+    fn whole(&self, _alloc: Global) -> Result<(u64, u32, u32, u8), AllocError> {
+        let name = self.name;
+        Ok((self.position, name.first, name.second, name.filter))
+    }
+}
+
+/// Puts a name after the others, where it is new, and gives its place.
+fn put_point(keys: &mut KeySet<PointKey>, key: PointKey) -> Result<usize, AllocError>
+    ensures grown { IfOk result (λ place. Grows keys.old (key ∷ []) keys.new) }
+    ensures there { IfOk result (λ place. slice_get keys.new place ≡ Some key) }
+    ensures last { IfOk result (λ place. (keys.new ≡ keys.old) ⊎ (length keys.new ≡ place + 1)) }
+{
+    let (place, _) = keys.put(key)?;
     Ok(place)
 }
 
-/// Names of a lattice, each once, in the order in which they were found. A name is looked up by its hash.
+/// Names of a lattice, each once, in the order in which they were found. A name is looked up by a number, and where
+/// another has that number, by all its parts.
 #[derive(Drop)]
 pub struct Points {
-    keys: IndexSet<PointKey>,
+    keys: KeySet<PointKey>,
 }
 
 impl Model for Points {
@@ -52,7 +99,7 @@ impl Model for Points {
 
     ghost Value = { List (Point (Name ℕ ℕ)) };
 
-    ghost view = { λ t. t.keys.keys };
+    ghost view = { λ t. t.keys };
 }
 
 impl Points {
@@ -61,7 +108,7 @@ impl Points {
         ensures { result ≡ [] }
     {
         Points {
-            keys: IndexSet::new(alloc),
+            keys: KeySet::new(alloc),
         }
     }
 
@@ -95,13 +142,14 @@ impl Points {
         requires { index < length self.now }
         ensures { slice_get self.now index ≡ Some (point result.0 result.1) }
     {
-        let key = &self.keys[index];
+        let key = self.keys.item(index);
         (key.position, key.name)
     }
+
     /// The place of a name, from 0; `None` exactly where it was not found. Takes no memory.
     pub fn place(&self, position: u64, name: ComposeKey) -> Option<usize>
         ensures { MatchOption result (Has self.now (point position name) → ⊥) (λ place. slice_get self.now place ≡ Some (point position name)) }
     {
-        self.keys.get_index_of(&PointKey { position, name })
+        self.keys.find(&PointKey { position, name })
     }
 }

@@ -1,15 +1,10 @@
-use Rattle.std.proofs.Common.{ap, sym, ◌∙◌, Some}
 use Rattle.fst_walk.proofs.Keys.{put_grows, put_last}
 use Rattle.fst_batch.specs.Points.{point_decides, same_point}
 use Rattle.fst_batch.proofs.points.put_point.Goals as goal
 
 pub returns-clause-grown : goal.returns-clause-grown
-returns-clause-grown c = put_grows same_point point_decides c.args.keys.now.keys _ c.args.key c.in_ok-place.ensures.keys
-
-pub returns-clause-there : goal.returns-clause-there
-returns-clause-there c = let s = c.in_ok-place.ensures.stored in s.1 ∙ ap Some (sym ((point_decides c.args.key s.0).0 s.2))
+returns-clause-grown c = put_grows same_point point_decides c.args.keys.now _ c.args.key c.in_ok-place.ensures.keys
 
 pub returns-clause-last : goal.returns-clause-last
 returns-clause-last c =
-    let s = c.in_ok-place.ensures.stored in
-    put_last c.args.keys.now.keys _ c.args.key c.in_ok-place.place (put_grows same_point point_decides c.args.keys.now.keys _ c.args.key c.in_ok-place.ensures.keys) (s.1 ∙ ap Some (sym ((point_decides c.args.key s.0).0 s.2)))
+    put_last c.args.keys.now _ c.args.key c.in_ok-place.place (put_grows same_point point_decides c.args.keys.now _ c.args.key c.in_ok-place.ensures.keys) c.in_ok-place.ensures.there

@@ -10,5 +10,5 @@ use Rattle.fst_batch.proofs.points.Points.place.Goals as goal
 pub returns : goal.returns
 returns c =
     let k = point c.args.position c.args.name in
-    subst (λ (ns : List (Point (Name ℕ ℕ))). MatchOption c.get_index_of.result (Has ns k → ⊥) (λ place. slice_get ns place ≡ Some k)) c.self.view_is
-    (placed same_point point_decides c.self.inside.keys.keys k c.get_index_of.result c.get_index_of.ensures.index c.get_index_of.ensures.found)
+    subst (λ (ns : List (Point (Name ℕ ℕ))). MatchOption c.find.result (Has ns k → ⊥) (λ place. slice_get ns place ≡ Some k)) c.self.view_is
+    (placed same_point point_decides c.self.inside.keys k c.find.result c.find.ensures)
