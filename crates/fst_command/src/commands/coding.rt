@@ -14,7 +14,7 @@ ghost use Rattle.fst_command.specs.Told.{IsMade};
 use crate::given::{Given, one};
 use crate::made::Made;
 use crate::refusal::{Refusal, unmade};
-use fst_codex::{Codex, DecodeFault, decode_labels, encode_labels};
+use fst_codex::{Codex, DecodeFault, into_decoded, into_encoded};
 use fst_machine::Fst;
 use fst_semiring::Weight;
 use fst_words::Options;
@@ -24,7 +24,7 @@ use std::alloc::Global;
 fn encoded<W: Weight>(alloc: Global, weights: bool, machine: Fst<W>) -> Result<Made<W>, Refusal>
     ensures { Settles (coding_meaning false weights) (just W.KIND (valued W.value machine ∷ [])) (result_map_both (made_seen W.KIND W.value) (λ e. e) result) }
 {
-    let (coded, codex) = encode_labels(alloc, &machine, weights)?;
+    let (coded, codex) = into_encoded(alloc, machine, weights)?;
     Ok(Made::Coded(codex, coded))
 }
 
@@ -43,7 +43,7 @@ fn undecoded(alloc: Global, fault: DecodeFault) -> Refusal
 fn decoded<W: Weight>(alloc: Global, machine: Fst<W>, codex: Codex<W>) -> Result<Made<W>, Refusal>
     ensures { Settles (coding_meaning true false) (record (just W.KIND (valued W.value machine ∷ [])) { codex = Some (valued_table W.value codex) }) (result_map_both (made_seen W.KIND W.value) (λ e. e) result) }
 {
-    match decode_labels(alloc, &machine, &codex) {
+    match into_decoded(alloc, machine, &codex) {
         Ok(decoded) => Ok(Made::Machine(decoded)),
         Err(fault) => Err(undecoded(alloc, fault)),
     }
