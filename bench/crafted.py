@@ -152,7 +152,8 @@ KINDS = [
     ),
     Kind(
         "pairs of labels",
-        keys.node_labels,
+        # Those below half the length of the text, of some ten bytes a line, are found by a list.
+        lambda count: keys.node_labels(count, 8 * count),
         drawn(1, keys.LABELS),
         relabel_text,
         "relabel --relabel_ipairs={pairs.text} {machine} {out}",
