@@ -58,8 +58,8 @@ impl PairsFault {
 #[derive(Drop)]
 pub struct Pairs {
     list: Vec<(u32, u32)>,
-    /// The new labels by the old ones: of the lesser ones in a list by number, and of others in a flat table, where a look-up
-    /// costs a bounded number of slots and at most a search among sorted labels, whatever the labels are.
+    /// The new labels by the old ones: of the lesser ones in a list by number, and of others in a flat table. There a
+    /// look-up costs a bounded number of slots and at most a search among sorted labels, whatever the labels are.
     news: Places,
 }
 
