@@ -145,7 +145,14 @@ KINDS = [
         numbered_table_text,
         "compile --isymbols={table.text} {machine.text} {out}",
     ),
-    Kind("pairs of labels", keys.labels, drawn(1, keys.LABELS), relabel_text, "relabel --relabel_ipairs={pairs.text} {machine} {out}"),
+    Kind(
+        "pairs of labels",
+        # Those below half the length of the text, of some ten bytes a line, are found by a list.
+        lambda count: keys.labels(count, 8 * count),
+        drawn(1, keys.LABELS),
+        relabel_text,
+        "relabel --relabel_ipairs={pairs.text} {machine} {out}",
+    ),
     Kind(
         "labels and weights of a codex",
         keys.entries,

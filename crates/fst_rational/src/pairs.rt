@@ -9,7 +9,7 @@ ghost use Rattle.fst_rational.specs.Labels.{IsPairs, new_label};
 ghost use Rattle.fst_rational.specs.Pairs.{Gives, after_line, pair_of, pairs_of_text, with_pair};
 
 use fst_fields::{next_line, read_label, read_row};
-use fst_table::FlatTable;
+use fst_table::Places;
 use std::alloc::{AllocError, Global};
 use std::marker::Model;
 
@@ -58,22 +58,22 @@ impl PairsFault {
 #[derive(Drop)]
 pub struct Pairs {
     list: Vec<(u32, u32)>,
-    /// The new labels by the old ones. A look-up costs a bounded number of slots and at most a search among sorted labels,
-    /// whatever the labels are.
-    news: FlatTable,
+    /// The new labels by the old ones: of the lesser ones in a list by number, and of others in a flat table. There a
+    /// look-up costs a bounded number of slots and at most a search among sorted labels, whatever the labels are.
+    news: Places,
 }
 
 impl Model for Pairs {
     ghost use Rattle.std.specs.Prelude.{List};
     ghost use Rattle.fst_rational.specs.Labels.{Pair};
     ghost use Rattle.fst_rational.specs.Pairs.{AreKept, pairs_of};
-    ghost use Rattle.fst_table.specs.Placed.{placed_in};
+    ghost use Rattle.fst_table.specs.Found.{found_in};
 
     ghost Value = { List Pair };
 
     ghost view = { λ p. pairs_of p.list.items };
 
-    ghost invariant = { λ p. AreKept p.list.items (placed_in p.news) };
+    ghost invariant = { λ p. AreKept p.list.items (found_in p.news) };
 }
 
 impl Pairs {
@@ -81,9 +81,16 @@ impl Pairs {
     pub fn new(alloc: Global) -> Pairs
         ensures { result ≡ [] }
     {
+        Pairs::with_bound(alloc, 0)
+    }
+
+    /// No pairs. Old labels below the bound are to stand in a list by number. Takes no memory.
+    fn with_bound(alloc: Global, bound: usize) -> Pairs
+        ensures { result ≡ [] }
+    {
         Pairs {
             list: Vec::new(alloc),
-            news: FlatTable::new(alloc),
+            news: Places::new(alloc, bound),
         }
     }
 
@@ -163,7 +170,8 @@ fn read_pair(line: u64, text: &[u8]) -> Result<Option<(u32, u32)>, PairsFault>
 fn read_lines(alloc: Global, bytes: &[u8]) -> Result<Result<Pairs, PairsFault>, AllocError>
     ensures { IfOk result (λ r. IsRead (λ p. p) r (pairs_of_text bytes.now)) }
 {
-    let mut pairs = Pairs::new(alloc);
+    // The list by number takes no more than twice the memory of the text.
+    let mut pairs = Pairs::with_bound(alloc, bytes.len() / 2);
     let mut rest = bytes;
     let mut line: u64 = 0;
     while let Some((first, behind)) = next_line(rest) {
@@ -178,7 +186,7 @@ fn read_lines(alloc: Global, bytes: &[u8]) -> Result<Result<Pairs, PairsFault>, 
 }
 
 /// The pairs of a text: each line that is not blank has an old label, which is not 0, and its new label.
-/// (OpenFst manual, "fstrelabel".) Reads the text once, and takes memory by the pairs. A fault is the first one
+/// (OpenFst manual, "fstrelabel".) Reads the text once, and takes memory by the text. A fault is the first one
 /// of the first faulty line; `Memory` where memory runs out.
 pub fn read_pairs(alloc: Global, bytes: &[u8]) -> Result<Pairs, PairsFault>
     ensures read { Gives (λ p. p) result (pairs_of_text bytes.now) }

@@ -25,8 +25,8 @@ pub struct Rule<'m, W: Weight> {
 #[derive(Drop)]
 pub struct Rules<'m, W: Weight> {
     list: Vec<Rule<'m, W>>,
-    /// The places of the labels. A look-up costs a bounded number of slots and at most a search among sorted labels, whatever
-    /// the labels are.
+    /// The places of the labels. A look-up costs a bounded number of slots and at most a search among sorted labels,
+    /// whatever the labels are.
     places: FlatTable,
 }
 

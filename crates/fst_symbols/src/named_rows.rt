@@ -13,7 +13,7 @@ use std::alloc::{AllocError, Global};
 use std::collections::BTreeMap;
 use std::hash::{FoldHasher, Hasher};
 
-/// The code of a name, by which it is looked up. NamedRows can have one code, also such as somebody chose for that.
+/// The code of a name, by which it is looked up. Names can have one code, and be chosen for that.
 #[tactic(auto, unfolding(crate::specs::Codes::code_of))]
 fn code_of(name: &[u8]) -> u64
     ensures { result ≡ code_of name.now }
@@ -23,9 +23,9 @@ fn code_of(name: &[u8]) -> u64
     hasher.finish()
 }
 
-/// Rows in order. A row is found by the code of its name, in a table that bounds what a look-up costs. Of rows whose names
-/// have one code the first stands in that table, and the others in a sorted map. So a look-up costs at most a search
-/// among sorted names, whatever the names are.
+/// Rows in order. A row is found by the code of its name, in a table that bounds what a look-up costs. Of rows whose
+/// names have one code the first stands in that table, and the others in a sorted map. So a look-up costs a search
+/// among sorted codes and one among sorted names at most, whatever the names are.
 #[derive(Drop)]
 pub struct NamedRows {
     rows: Vec<Row>,
