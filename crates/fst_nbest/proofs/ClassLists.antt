@@ -26,7 +26,8 @@ use Rattle.fst_nbest.specs.Counts.{Hops, IsLeastCount, count_of, uncounted}
 use Rattle.fst_nbest.specs.Words.{AreFirstWords, Says, WeightedWord, WordsAscend, word_cmp}
 use Rattle.fst_nbest.specs.Classes.{IsClassLink, IsClassStop, class_links, class_words, is_counted, name_at, reached_by, unit}
 use Rattle.fst_nbest.specs.Totals.{AreFirstOf, AreFirstSoFar, HasTotals, wide_cmp}
-use Rattle.fst_nbest.specs.Heap.{FirstLeaves, NotAfter}
+use Rattle.fst_nbest.specs.Heap.{FirstLeaves}
+use Rattle.fst_queue.specs.HeapOrder.{NotAfter}
 use Rattle.fst_nbest.specs.PathWords.{AreDistances, HasSolidArcs}
 use Rattle.fst_nbest.specs.FirstPaths.{AreFirstPaths, IsTraceable, traced}
 use Rattle.fst_distance.proofs.MachineHops.{arc_good}

@@ -5,7 +5,7 @@ use Rattle.std.specs.Ordering.{is_le}
 use Rattle.std.proofs.lemmas.Bool.{cases_lt, le-ltb, lt-ltb, ltb-true}
 use Rattle.std.proofs.lemmas.List.{length-map}
 use Rattle.std.proofs.lemmas.Option.{same_Some, slice_get_past}
-use Rattle.fst_semiring.specs.Cost.{Cost, infinite, cost_cmp}
+use Rattle.fst_semiring.specs.Cost.{Cost, infinite, cost_cmp, plus}
 use Rattle.fst_semiring.specs.declared.arc_type.ArcType.TheVariants.{Boolean, MinMax}
 use Rattle.fst_semiring.specs.Semiring.{times, IsCost}
 use Rattle.fst_semiring.proofs.Laws.{one_times, times_assoc}
@@ -162,14 +162,16 @@ module _ {V : Type 0} (value : V → Cost) (m : Machine V) (good : IsMachine val
       let rest = ends_path k y ends in
       (s.0 ∷ rest.0, path_goes_on x s.0 s.1 rest.0 s.2 s.3 (subst (λ (z : ℕ). ClassPath z rest.0) (sym s.4) rest.1), ap suc rest.2)
 
-  -- and a path is counted
-  pub path_ends : (path : List (Transition ℕ)) (x last : ℕ) → IsPath (graph_of (valued value m)) (state_at (length m.states) x) path last → ((graph_of (valued value m)).final last ≡ infinite → ⊥) → x < length m.states + length m.states
-      → Meant total (is_reached (length m.states) x) (times MinMax (product MinMax (letters path)) ((graph_of (valued value m)).final last)) → Ends (IsClassStop value m total) (Hops (class_links m) (IsClassLink value (length m.states) total)) x (length path)
-  path_ends [] x last leads final low meant = record {
-    low = low;
-    is = meant_fits total (is_reached (length m.states) x) ((graph_of (valued value m)).final (state_at (length m.states) x)) (subst (λ (w : Cost). Meant total (is_reached (length m.states) x) w) (one_times MinMax ((graph_of (valued value m)).final last) ∙ ap (graph_of (valued value m)).final (sym leads)) meant);
-  }
-  path_ends (t ∷ path) x last leads final low meant =
+  -- the name to which a step leads
+  abbrev next_name : ℕ → Transition ℕ → ℕ
+  next_name x t = name_at (length m.states) t.arc.next (reached_by total (is_reached (length m.states) x) t.arc.weight)
+
+  -- a step is no worse than the total, and the path goes on from the name to which it leads
+  step_parts : (t : Transition ℕ) (path : List (Transition ℕ)) (x last : ℕ) → IsPath (graph_of (valued value m)) (state_at (length m.states) x) (t ∷ path) last
+      → Meant total (is_reached (length m.states) x) (times MinMax (product MinMax (letters (t ∷ path))) ((graph_of (valued value m)).final last))
+      → (plus t.arc.weight total ≡ t.arc.weight) × IsPath (graph_of (valued value m)) (state_at (length m.states) (next_name x t)) path last × (next_name x t < length m.states + length m.states)
+      × Meant total (is_reached (length m.states) (next_name x t)) (times MinMax (product MinMax (letters path)) ((graph_of (valued value m)).final last))
+  step_parts t path x last leads meant =
       let g = graph_of (valued value m) in
       let n = length m.states in
       let r = is_reached n x in
@@ -178,11 +180,22 @@ module _ {V : Type 0} (value : V → Cost) (m : Machine V) (good : IsMachine val
       let parts = meant_step total r a.weight rest (subst (λ (w : Cost). Meant total r w) (times_assoc MinMax a.weight (product MinMax (letters path)) (g.final last)) meant) in
       let next_low = (arc_good value m good (state_at n x) t.place a leads.0.1).1 in
       let b = reached_by total r a.weight in (
-        name_at n a.next b,
-        step_link x t.place a leads.0.1 (plus_le a.weight total parts.0),
-        path_ends path (name_at n a.next b) last (subst (λ (q : ℕ). IsPath g q path last) (sym (state_of_name n a.next b next_low)) leads.1) final (name_low n a.next b next_low)
-            (subst (λ (c : Bool). Meant total c rest) (sym (reached_of_name n a.next b next_low)) parts.1),
+        parts.0,
+        subst (λ (q : ℕ). IsPath g q path last) (sym (state_of_name n a.next b next_low)) leads.1,
+        name_low n a.next b next_low,
+        subst (λ (c : Bool). Meant total c rest) (sym (reached_of_name n a.next b next_low)) parts.1,
       )
+
+  -- and a path is counted
+  pub path_ends : (path : List (Transition ℕ)) (x last : ℕ) → IsPath (graph_of (valued value m)) (state_at (length m.states) x) path last → ((graph_of (valued value m)).final last ≡ infinite → ⊥) → x < length m.states + length m.states
+      → Meant total (is_reached (length m.states) x) (times MinMax (product MinMax (letters path)) ((graph_of (valued value m)).final last)) → Ends (IsClassStop value m total) (Hops (class_links m) (IsClassLink value (length m.states) total)) x (length path)
+  path_ends [] x last leads final low meant = record {
+    low = low;
+    is = meant_fits total (is_reached (length m.states) x) ((graph_of (valued value m)).final (state_at (length m.states) x)) (subst (λ (w : Cost). Meant total (is_reached (length m.states) x) w) (one_times MinMax ((graph_of (valued value m)).final last) ∙ ap (graph_of (valued value m)).final (sym leads)) meant);
+  }
+  path_ends (t ∷ path) x last leads final low meant =
+      let o = step_parts t path x last leads meant in
+      (next_name x t, step_link x t.place t.arc leads.0.1 (plus_le t.arc.weight total o.0), path_ends path (next_name x t) last o.1 final o.2 o.3)
 
   module _ (counts : List ℕ) (least : (x : ℕ) → IsLeastCount (IsClassStop value m total) (Hops (class_links m) (IsClassLink value (length m.states) total)) x (count_of counts x)) where
     counted_lives : (x k : ℕ) → Ends (IsClassStop value m total) (Hops (class_links m) (IsClassLink value (length m.states) total)) x k → is_counted counts x ≡ true
@@ -207,24 +220,16 @@ module _ {V : Type 0} (value : V → Cost) (m : Machine V) (good : IsMachine val
         let e : Ends (IsClassStop value m total) (Hops (class_links m) (IsClassLink value (length m.states) total)) x 0 = path_ends [] x last leads final low meant in
         ap (λ (b : Bool). cond b (Some unit) None) e.is
     class_says (t ∷ path) x last leads final low meant =
-        let g = graph_of (valued value m) in
         let n = length m.states in
         let r = is_reached n x in
-        let a = t.arc in
-        let rest = times MinMax (product MinMax (letters path)) (g.final last) in
-        let parts = meant_step total r a.weight rest (subst (λ (w : Cost). Meant total r w) (times_assoc MinMax a.weight (product MinMax (letters path)) (g.final last)) meant) in
-        let next_low = (arc_good value m good (state_at n x) t.place a leads.0.1).1 in
-        let b = reached_by total r a.weight in
-        let y = name_at n a.next b in
-        let onward : IsPath g (state_at n y) path last = subst (λ (q : ℕ). IsPath g q path last) (sym (state_of_name n a.next b next_low)) leads.1 in
-        let fitting : Meant total (is_reached n y) rest = subst (λ (c : Bool). Meant total c rest) (sym (reached_of_name n a.next b next_low)) parts.1 in
-        let y_low = name_low n a.next b next_low in
-        let lives = counted_lives y (length path) (path_ends path y last onward final y_low fitting) in (
+        let y = next_name x t in
+        let o = step_parts t path x last leads meant in
+        let lives = counted_lives y (length path) (path_ends path y last o.1 final o.2 o.3) in (
           unit,
           y,
           unit,
-          ap (class_step n total (is_counted counts) r) leads.0.1 ∙ class_arc_step n total (is_counted counts) r a (plus_le a.weight total parts.0) lives,
-          class_says path y last onward final y_low fitting,
+          ap (class_step n total (is_counted counts) r) leads.0.1 ∙ class_arc_step n total (is_counted counts) r t.arc (plus_le t.arc.weight total o.0) lives,
+          class_says path y last o.1 final o.2 o.3,
           refl,
         )
 

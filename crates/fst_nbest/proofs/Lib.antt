@@ -6,7 +6,6 @@ pub mod Building
 pub mod Ranks
 pub mod Covering
 pub mod Peeling
-pub mod HeapOrder
 pub mod Heaps
 pub mod Sorted
 pub mod Walks

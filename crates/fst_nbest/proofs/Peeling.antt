@@ -59,8 +59,9 @@ module _ {N : Type 0} (kind : ArcType) (g : Words N) (dist : N → Cost) (count 
       by b (inl here) = inl here
       by b (inr (f, there, holds)) = inr (f, Has-permutation ys xs f (IsPermutation-sym xs ys p) there, holds)
 
-  pub leading_permutation : (core : Family N) (xs ys : List (Family N)) (t : Cost) (n : ℕ) → IsPermutation xs ys → IsLeading kind g dist count start core xs t n → IsLeading kind g dist count start core ys t n
-  leading_permutation core xs ys t n p l = record {
+  -- a family leads where fewer families are beside it
+  pub leading_fewer : (core : Family N) (xs ys : List (Family N)) (t : Cost) (n : ℕ) → ((f : Family N) → Has ys f → Has xs f) → IsLeading kind g dist count start core xs t n → IsLeading kind g dist count start core ys t n
+  leading_fewer core xs ys t n fewer l = record {
     move = l.move;
     others = l.others;
     ahead = l.ahead;
@@ -68,8 +69,11 @@ module _ {N : Type 0} (kind : ArcType) (g : Words N) (dist : N → Cost) (count 
     is = l.is;
     weighs = l.weighs;
     counts = l.counts;
-    beats = λ rest u says first weight long f b there holds. l.beats rest u says first weight long f b (Has-permutation xs ys f p there) holds;
+    beats = λ rest u says first weight long f b there holds. l.beats rest u says first weight long f b (fewer f there) holds;
   }
+
+  pub leading_permutation : (core : Family N) (xs ys : List (Family N)) (t : Cost) (n : ℕ) → IsPermutation xs ys → IsLeading kind g dist count start core xs t n → IsLeading kind g dist count start core ys t n
+  leading_permutation core xs ys t n p l = leading_fewer core xs ys t n (λ f there. Has-permutation xs ys f p there) l
 
   -- a family with no moves left has no words
   pub covered_empty : (listed : List WeightedWord) (e : Family N) (families : List (Family N)) → e.moves ≡ [] → IsCovered kind g dist count start listed (e ∷ families) → IsCovered kind g dist count start listed families

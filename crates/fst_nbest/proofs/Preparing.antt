@@ -1,5 +1,5 @@
 -- A machine with its distances and counts, read.
-use Rattle.std.proofs.Common.{◌≡◌, ℕ, ◌<◌, suc, true, false, List, [], ◌∷◌, ◌++◌, Option, Some, length, map, get_or, slice_get, refl, sym, ap, subst, ◌∙◌}
+use Rattle.std.proofs.Common.{◌≡◌, ℕ, ◌<◌, suc, true, false, List, [], ◌∷◌, ◌++◌, Option, Some, length, map, get_or, slice_get, refl, sym, ap, ap₂, subst, ◌∙◌, arith}
 use Rattle.std.proofs.lemmas.Option.{get_or_from_slice_get, slice_get_read}
 use Rattle.fst_semiring.specs.Cost.{Cost, best, finite, infinite, is_infinite}
 use Rattle.fst_semiring.specs.declared.arc_type.ArcType.{ArcType}
@@ -11,10 +11,16 @@ use Rattle.fst_nbest.specs.declared.turns.Turn.{Turn}
 use Rattle.fst_nbest.specs.Words.{Ahead, ahead_of, ahead_of_stop, ahead_of_step}
 use Rattle.fst_nbest.specs.PathWords.{solid, toward, arc_step, path_words}
 use Rattle.fst_nbest.specs.Turns.{HasTurn}
-use Rattle.fst_nbest.specs.Ready.{dist_in}
+use Rattle.fst_nbest.specs.Ready.{count_in, dist_in}
 
 pub dist_is : {D : Type 0} (wide : D → Cost) (dist : List D) (q : ℕ) (x : D) → q < length dist → x ≡ get_or dist q x → wide x ≡ dist_in wide dist q
 dist_is wide dist q x low is = sym (get_or_from_slice_get (map wide dist) q (wide x) infinite (at_mapped wide dist q x (slice_get_read dist (length dist) q x refl low is)))
+
+-- a count that is read at the end of an arc
+pub count_there : (held counts : List ℕ) (size n at next x : ℕ) → length held ≡ size → size ≡ n → next < n → held ≡ counts → at ≡ next → x ≡ get_or held at x → x ≡ count_in counts next
+count_there held counts size n at next x long states low same to is =
+    let inside : at < length held = omega (arith, long, states, low, to) in
+    sym (get_or_from_slice_get held at x 0 (slice_get_read held (length held) at x refl inside is)) ∙ ap₂ (λ (l : List ℕ) (q : ℕ). get_or l q 0) same to
 
 module _ {D : Type 0} (value : D → Cost) (kind : ArcType) (g : Graph ℕ) (dist : ℕ → Cost) (count : ℕ → ℕ) where
   pub stop_none : (f : Cost) (turns : List (Turn D)) → true ≡ is_infinite f → HasTurn value 0 (ahead_of_stop kind (path_words g dist) dist count (solid f)) turns turns

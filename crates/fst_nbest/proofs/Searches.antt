@@ -19,7 +19,8 @@ use Rattle.fst_semiring.proofs.Laws.{one_times}
 use Rattle.fst_machine.specs.BreadthFirst.{Has}
 use Rattle.fst_machine.proofs.Elements.{Has_at}
 use Rattle.fst_nbest.specs.declared.entry.Entry.{Entry}
-use Rattle.fst_nbest.specs.Heap.{NotAfter, IsHeap, FirstLeaves}
+use Rattle.fst_nbest.specs.Heap.{IsHeap, FirstLeaves}
+use Rattle.fst_queue.specs.HeapOrder.{NotAfter}
 use Rattle.fst_nbest.specs.Words.{Words, WeightedWord, Ahead, ahead_of, AreWords, AreFirstWords, IsAhead, IsOrder}
 use Rattle.fst_nbest.specs.Families.{Family, family_cmp, route, IsCovered, IsLeading}
 use Rattle.fst_nbest.specs.Entries.{list_at, move_of, prefix_of, family_at, family_of, families_on, entry_cmp, route_of, AreOrders, CanCompare, IsKept, IsLeftOn, IsSearching, OrdersGrow, Walked}

@@ -17,25 +17,11 @@ use Rattle.fst_nbest.specs.Families.{Family, IsCovered, IsLeading}
 use Rattle.fst_nbest.specs.Entries.{list_at, most_long, move_of, prefix_of, family_at, family_of, families_on, AreOrders, IsEntry, IsLeft, IsLeftOn, OrdersGrow, Stepped, Walked}
 use Rattle.fst_nbest.proofs.Sorted.{in_order_at}
 use Rattle.fst_nbest.proofs.Ranks.{first_ahead}
-use Rattle.fst_nbest.proofs.Peeling.{next_family, left_family, covered_empty, covered_permutation, leading_permutation, step_covered, step_leading, stop_covered}
+use Rattle.fst_nbest.proofs.Peeling.{next_family, left_family, covered_empty, covered_permutation, leading_fewer, leading_permutation, step_covered, step_leading, stop_covered}
 
 pub map_same : {X Y : Type 0} (P : X → Type 0) (f h : X → Y) (xs : List X) → ((x : X) → P x → f x ≡ h x) → All P xs → map f xs ≡ map h xs
 map_same P f h [] same all = refl
 map_same P f h (x ∷ xs) same all = ap₂ (◌∷◌) (same x (All-head P x xs all)) (map_same P f h xs same (All-tail P x xs all))
-
--- a family leads where fewer families are beside it
-leading_fewer : {N : Type 0} (kind : ArcType) (g : Words N) (dist : N → Cost) (count : N → ℕ) (start : N) (core : Family N) (xs ys : List (Family N)) (t : Cost) (n : ℕ) → ((f : Family N) → Has ys f → Has xs f)
-    → IsLeading kind g dist count start core xs t n → IsLeading kind g dist count start core ys t n
-leading_fewer kind g dist count start core xs ys t n fewer l = record {
-  move = l.move;
-  others = l.others;
-  ahead = l.ahead;
-  moves = l.moves;
-  is = l.is;
-  weighs = l.weighs;
-  counts = l.counts;
-  beats = λ rest u says first weight long f b there holds. l.beats rest u says first weight long f b (fewer f there) holds;
-}
 
 module _ {D : Type 0} (kind : ArcType) (g : Words ℕ) (dist : ℕ → Cost) (count : ℕ → ℕ) (value : D → Cost) (bounded : ℕ → D → Type 0) where
   -- A walk on its way: the core has the rest of the family, and leads.

@@ -1,6 +1,6 @@
 //! The n best paths of a machine.
 
-ghost use Rattle.std.specs.Prelude.{◌≡◌, ◌≤◌, ◌<◌, ◌+◌, ℕ, true, false, Some, All, IfErr, IfOk, OnOk, length, map};
+ghost use Rattle.std.specs.Prelude.{◌≡◌, ◌≤◌, ◌<◌, ◌+◌, ℕ, [], true, false, Some, All, IfErr, IfNone, IfOk, IfSome, OnOk, length, map};
 ghost use Rattle.fst_semiring.specs.Cost.{infinite};
 ghost use Rattle.fst_semiring.specs.Semiring.{Within, cancels};
 ghost use Rattle.fst_machine.specs.Cycles.{IsUseful};
@@ -106,6 +106,21 @@ fn by_distances<W: Weight, V: Copy, M: Widens<W, V>, L: Ledger>(
     by_counts::<W, V, M, L>(alloc, fst, dist, &count, start, n, steps)
 }
 
+/// The start, if a successful path leaves it.
+fn live_start<W: Weight, V: Copy, M: Widens<W, V>>(fst: &M, dist: &Vec<W::Wide>) -> Option<u32>
+    requires measured { HasDistances W.KIND M.value W.wide_value M.known (M.machine fst.now) dist.now.items }
+    ensures some { IfSome result (λ start. ((M.machine fst.now).start ≡ Some start) × (start < length (M.machine fst.now).states) × (dist_in W.wide_value dist.now.items start ≡ infinite → ⊥)) }
+    ensures none { IfNone result ((n : ℕ) → AreFirstPaths W.KIND (graph_of (valued M.value (M.machine fst.now))) n []) }
+{
+    let Some(start) = fst.start_state() else {
+        return None;
+    };
+    if is_zero_wide::<W>(dist[start as usize]) {
+        return None;
+    }
+    Some(start)
+}
+
 /// The first paths of a machine with its distances.
 fn first_paths<W: Weight, V: Copy, M: Widens<W, V>, L: Ledger>(
     alloc: Global,
@@ -118,12 +133,9 @@ fn first_paths<W: Weight, V: Copy, M: Widens<W, V>, L: Ledger>(
     ensures first { IfOk result (λ paths. AreFirstPaths W.KIND (graph_of (valued M.value (M.machine fst.now))) n (map written paths)) }
     ensures steps { IfOk result (λ paths. steps.new ≡ steps.old + length paths) }
 {
-    let Some(start) = fst.start_state() else {
+    let Some(start) = live_start::<W, V, M>(fst, dist) else {
         return Ok(Paths::new(alloc));
     };
-    if is_zero_wide::<W>(dist[start as usize]) {
-        return Ok(Paths::new(alloc));
-    }
     if W::CANCELS {
         return by_distances::<W, V, M, L>(alloc, fst, dist, start, n, steps);
     }
@@ -143,12 +155,9 @@ fn swept_paths<W: Weight, V: Copy, M: Widens<W, V>, L: Ledger>(
     ensures first { IfOk result (λ paths. AreFirstPaths W.KIND (graph_of (valued M.value (M.machine fst.now))) n (map written paths)) }
     ensures steps { IfOk result (λ paths. steps.new ≡ steps.old + length paths) }
 {
-    let Some(start) = fst.start_state() else {
+    let Some(start) = live_start::<W, V, M>(fst, &swept.dist) else {
         return Ok(Paths::new(alloc));
     };
-    if is_zero_wide::<W>(swept.dist[start as usize]) {
-        return Ok(Paths::new(alloc));
-    }
     by_counts::<W, V, M, L>(alloc, fst, &swept.dist, &swept.count, start, n, steps)
 }
 

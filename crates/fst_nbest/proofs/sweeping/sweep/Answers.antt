@@ -7,9 +7,6 @@ use Rattle.fst_nbest.proofs.sweeping.sweep.Goals as goal
 
 pub loop-left-init : goal.loop-left-init
 loop-left-init g c =
-    let kind = g.W.Weight.KIND in
-    let value = g.M.AsMachine.value in
-    let wide = g.W.Weight.wide_value in
     let m = g.M.AsMachine.machine c.args.fst.now in
     let dist = c.in_ok-dist.dist.items in
     let count = c.in_ok-count.count.items in
@@ -20,15 +17,12 @@ loop-left-init g c =
     let steps : 0 ≡ length c.args.order.now - length c.args.order.now = omega arith in
     record {
       few = omega arith;
-      swept = subst (λ (k : ℕ). IsSwept kind value wide m k dist count) steps
-          (sweep_begins kind value wide m dist count (c.in_ok-dist.ensures.size ∙ states) long c.in_ok-dist.ensures.zero (λ q. ap (λ (l : List ℕ). count_of l q) blank ∙ blank_counts n q));
+      swept = subst (λ (k : ℕ). IsSwept g.W.Weight.KIND g.M.AsMachine.value g.W.Weight.wide_value m k dist count) steps
+          (sweep_begins g.W.Weight.KIND g.M.AsMachine.value g.W.Weight.wide_value m dist count (c.in_ok-dist.ensures.size ∙ states) long c.in_ok-dist.ensures.zero (λ q. ap (λ (l : List ℕ). count_of l q) blank ∙ blank_counts n q));
     }
 
 pub loop-left-preserved-in-Some : goal.loop-left-preserved-in-Some
 loop-left-preserved-in-Some g c =
-    let kind = g.W.Weight.KIND in
-    let value = g.M.AsMachine.value in
-    let wide = g.W.Weight.wide_value in
     let m = g.M.AsMachine.machine c.args.fst.now in
     let dist = c.loop-left.dist.items in
     let count = c.loop-left.count.items in
@@ -43,24 +37,19 @@ loop-left-preserved-in-Some g c =
     let next : (length order - left) + 1 ≡ length order - (left - 1) = omega (arith, few, more) in
     record {
       few = omega (arith, few);
-      swept = subst (λ (k : ℕ). IsSwept kind value wide m k (set dist q c.in-Some.near.total) (set count q c.in-Some.near.arcs)) next
-          (sweep_further kind value wide m (length order - left) dist count inv.swept q c.in-Some.near.total c.in-Some.near.arcs low (omega (arith, short)) (c.in-Some.ensures (length order - left) inv.swept));
+      swept = subst (λ (k : ℕ). IsSwept g.W.Weight.KIND g.M.AsMachine.value g.W.Weight.wide_value m k (set dist q c.in-Some.near.total) (set count q c.in-Some.near.arcs)) next
+          (sweep_further g.W.Weight.KIND g.M.AsMachine.value g.W.Weight.wide_value m (length order - left) dist count inv.swept q c.in-Some.near.total c.in-Some.near.arcs low (omega (arith, short)) (c.in-Some.ensures (length order - left) inv.swept));
     }
 
 pub loop-left-preserved : goal.loop-left-preserved
 loop-left-preserved g c =
-    let kind = g.W.Weight.KIND in
-    let value = g.M.AsMachine.value in
-    let wide = g.W.Weight.wide_value in
     let m = g.M.AsMachine.machine c.args.fst.now in
-    let dist = c.loop-left.dist.items in
-    let count = c.loop-left.count.items in
-    let order = c.args.order.now in
-    let left = c.loop-left.left in
+    let done = length c.args.order.now - c.loop-left.left in
     let few = c.loop-left.invariant.few in
     let more = c.loop-left-test.true in
-    let next : (length order - left) + 1 ≡ length order - (left - 1) = omega (arith, few, more) in
+    let next : done + 1 ≡ length c.args.order.now - (c.loop-left.left - 1) = omega (arith, few, more) in
     record {
       few = omega (arith, few);
-      swept = subst (λ (k : ℕ). IsSwept kind value wide m k dist count) next (sweep_waits kind value wide m (length order - left) dist count c.loop-left.invariant.swept);
+      swept = subst (λ (k : ℕ). IsSwept g.W.Weight.KIND g.M.AsMachine.value g.W.Weight.wide_value m k c.loop-left.dist.items c.loop-left.count.items) next
+          (sweep_waits g.W.Weight.KIND g.M.AsMachine.value g.W.Weight.wide_value m done c.loop-left.dist.items c.loop-left.count.items c.loop-left.invariant.swept);
     }

@@ -1,5 +1,4 @@
-use Rattle.std.proofs.Common.{◌≡◌, ◌≢◌, ◌-◌, ◌<◌, ℕ, suc, List, None, length, get_or, refl, sym, ap, ap₂, subst, ◌∙◌, arith}
-use Rattle.std.proofs.lemmas.Option.{get_or_from_slice_get, slice_get_read}
+use Rattle.std.proofs.Common.{◌≡◌, ◌≢◌, ◌-◌, ℕ, suc, None, length, sym, ap, subst, ◌∙◌, arith}
 use Rattle.fst_semiring.specs.Semiring.{times}
 use Rattle.fst_machine.specs.Machine.{Arc, valued}
 use Rattle.fst_machine.specs.Graph.{graph_of}
@@ -7,6 +6,7 @@ use Rattle.fst_nbest.specs.PathWords.{path_words}
 use Rattle.fst_nbest.specs.Ready.{Prepared, count_in, dist_in}
 use Rattle.fst_nbest.specs.Words.{ahead_of}
 use Rattle.fst_nbest.proofs.Fronts.{front_wide}
+use Rattle.fst_nbest.proofs.Preparing.{count_there}
 use Rattle.fst_nbest.proofs.TurnLists.{move_ahead, move_place}
 use Rattle.fst_nbest.proofs.path_system.PathSystemSystemWide.look_ahead.Goals as goal
 
@@ -34,11 +34,7 @@ returns-clause-ahead g c ahead is =
     let e : c.args.turn ≡ suc (c.args.turn - 1) = omega arith in
     let r = move_ahead kind graph (dist_in wide s.dist) (count_in s.count) c.args.name (c.args.turn - 1) _ ahead c.arc-arc.ensures.arc
     (ap (ahead_of kind (path_words graph (dist_in wide s.dist)) (dist_in wide s.dist) (count_in s.count) c.args.name) (sym e) ∙ is) in
-    let held = c.self.inside.count.now.items in
     let states = ap (λ (p : Prepared g.row.V.Denot g.row.W-Wide.Denot). length p.machine.states) c.self.view_is in
     let counts = ap (λ (p : Prepared g.row.V.Denot g.row.W-Wide.Denot). p.count) c.self.view_is in
-    let next : c.arc.inside.next ≡ c.arc-arc.result.next = ap (λ (a : Arc _ ℕ). a.next) c.arc.view_is in
-    let low : c.arc.inside.next < length held = omega (arith, c.self.invariant.1.count_size, states, c.arc-arc.ensures.next, next) in
-    let read : get_or held c.arc.inside.next 0 ≡ c.index.result.now = get_or_from_slice_get held c.arc.inside.next c.index.result.now 0 (slice_get_read held (length held) c.arc.inside.next c.index.result.now refl low c.index.ensures) in
-    let count : c.index.result.now ≡ count_in s.count c.arc-arc.result.next = sym read ∙ ap₂ (λ (l : List ℕ) (q : ℕ). get_or l q 0) counts next in
+    let count = count_there c.self.inside.count.now.items s.count _ _ c.arc.inside.next c.arc-arc.result.next c.index.result.now c.self.invariant.1.count_size states c.arc-arc.ensures.next counts (ap (λ (a : Arc _ ℕ). a.next) c.arc.view_is) c.index.ensures in
     (c.wide_times-2.ensures.product ∙ ap (times kind (wide c.args.front)) (c.along.ensures.same ∙ sym r.0), (let total = r.1 in omega (arith, count, total)))
