@@ -4,7 +4,7 @@ ghost use Rattle.std.specs.Prelude.{◌≡◌, ◌⊎◌, ◌+◌, ◌<◌, ◌�
 ghost use Rattle.fst_machine.specs.BreadthFirst.{Grows, Has};
 ghost use Rattle.fst_walk.specs.Making.{Passes};
 ghost use Rattle.fst_batch.specs.Lattice.{point};
-ghost use Rattle.fst_batch.specs.Points.{parts_apart, parts_decide, parts_of, point_decides, point_number};
+ghost use Rattle.fst_batch.specs.Points.{point_decides, point_number};
 
 use fst_delayed::ComposeKey;
 use fst_keys::{Code, Coded, KeySet};
@@ -15,7 +15,7 @@ use std::marker::Model;
 const FACTOR: u64 = 0x9E3779B97F4A7C15;
 
 /// A name of a lattice: how many bytes of the line were read, and a name of the composition that reads it.
-#[derive(Clone, Copy, Debug, PartialEq, Eq)]
+#[derive(Clone, Copy, Debug, PartialEq, Eq, PartialOrd, Ord)]
 struct PointKey {
     position: u64,
     name: ComposeKey,
@@ -50,17 +50,17 @@ fn point_number(key: PointKey) -> u64
 
 /// Where another name has its number, a name is found by all its parts.
 impl Coded for PointKey {
-    type Whole = (u64, u32, u32, u8);
+    type Whole = PointKey;
 
     ghost code = { point_number };
 
-    ghost whole = { parts_of };
+    ghost whole = { λ p. p };
 
     ghost same = { point_decides };
 
-    ghost apart = { parts_apart };
+    ghost apart = { λ a b e. e };
 
-    ghost compared = { parts_decide };
+    ghost compared = { point_decides };
 
     fn code(&self) -> Code {
         Code {
@@ -69,9 +69,8 @@ impl Coded for PointKey {
         }
     }
 
-    fn whole(&self, _alloc: Global) -> Result<(u64, u32, u32, u8), AllocError> {
-        let name = self.name;
-        Ok((self.position, name.first, name.second, name.filter))
+    fn whole(&self, _alloc: Global) -> Result<PointKey, AllocError> {
+        Ok(*self)
     }
 }
 

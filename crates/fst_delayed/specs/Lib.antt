@@ -4,4 +4,3 @@ pub mod Ascending
 pub mod Caches
 pub mod Graphs
 pub mod DelayedLaws
-pub mod Parts

@@ -6,7 +6,7 @@ ghost use Rattle.fst_delayed.specs.Ascending.{Ascends};
 ghost use Rattle.fst_delayed.specs.Caches.{AreApart, AreEntered, entered, keys};
 
 use crate::entry::Entry;
-use crate::names::{NameKey, keep_first, put_names};
+use crate::names::{keep_first, put_names};
 use fst_compose::{ComposeKey, KeyArc};
 use fst_keys::KeySet;
 use fst_semiring::Weight;
@@ -15,7 +15,7 @@ use std::marker::Model;
 
 /// Puts a name and its entry after the others. Where there is no memory, the entries are as before.
 fn add_entry<W: Weight>(
-    names: &mut KeySet<NameKey>,
+    names: &mut KeySet<ComposeKey>,
     entries: &mut Vec<Entry<W>>,
     key: ComposeKey,
     kept: Entry<W>,
@@ -29,16 +29,16 @@ fn add_entry<W: Weight>(
     let alloc = *entries.allocator();
     keep_first(alloc, names, entries.len())?;
     entries.reserve(1)?;
-    names.put(NameKey { name: key })?;
+    names.put(key)?;
     entries.push_reserved(kept);
     Ok(())
 }
 
 /// Moves other names with their entries after these. Where there is no memory, the entries of both are as before.
 fn join_entries<W: Weight>(
-    names: &mut KeySet<NameKey>,
+    names: &mut KeySet<ComposeKey>,
     entries: &mut Vec<Entry<W>>,
-    more: &mut KeySet<NameKey>,
+    more: &mut KeySet<ComposeKey>,
     others: &mut Vec<Entry<W>>,
 ) -> Result<(), AllocError>
     requires held { AreEntered names.old entries.old.items }
@@ -63,7 +63,7 @@ fn join_entries<W: Weight>(
 #[derive(Drop)]
 pub struct Cache<W: Weight> {
     /// Names, place for place with their entries. Those after the last entry have none: they were put where memory ran out.
-    names: KeySet<NameKey>,
+    names: KeySet<ComposeKey>,
     entries: Vec<Entry<W>>,
 }
 
@@ -106,7 +106,7 @@ impl<W: Weight> Cache<W> {
         ensures arcs { MatchOption result (Has (keys self.now) key → ⊥) (λ held. Has self.now (key, held.0.now)) }
         ensures ascends { IfSome result (λ held. held.1 ≡ true → Ascends held.0.now) }
     {
-        let Some(place) = self.names.find(&NameKey { name: key }) else {
+        let Some(place) = self.names.find(&key) else {
             return None;
         };
         if place >= self.entries.len() {
