@@ -12,10 +12,10 @@ use Rattle.fst_semiring.specs.Cost.{Cost}
 use Rattle.fst_machine.specs.ArcsChanged.{ArePartsChanged, IsArcsChanged, part_of}
 use Rattle.fst_machine.specs.Machine.{Arc, State, Machine, IsArc, IsMachine, arc_total}
 use Rattle.fst_machine.specs.SideBySide.{Follow, end_of}
-use Rattle.fst_machine.specs.Store.{Slot, Apart, LiesIn, kept_state, kept_from, kept_states, slot_arcs}
+use Rattle.fst_machine.specs.Store.{Slot, LiesIn, kept_state, kept_from, kept_states, slot_arcs}
 use Rattle.fst_machine.specs.KeptMachine.{IsKept}
 use Rattle.fst_machine.proofs.Keeping.{kept_length}
-use Rattle.fst_machine.proofs.Retaining.{arcs_here, end_low, end_past}
+use Rattle.fst_machine.proofs.Retaining.{arcs_here, end_low, end_past, written_back}
 
 -- the part of each state begins behind what they follow
 follow_low : {V : Type 0} (behind : ℕ) (slots : List (Slot V)) (p : ℕ) (s : Slot V) → Follow behind slots → slice_get slots p ≡ Some s → 0 < s.count → behind ≤ s.first
@@ -170,7 +170,7 @@ kept_at store from (u ∷ slots) (suc p) s there = kept_at store (suc from) slot
 
 module _ {V : Type 0} (changes : List (Arc V ℕ) → List (Arc V ℕ) → Type 0) where
   -- the machine of a store whose parts are changed
-  pub arcs_changed : (start : Option ℕ) (slots : List (Slot V)) (old new : List (Arc V ℕ)) → ArePartsChanged changes slots old new → IsArcsChanged changes (record { start = start; states = kept_states old [] slots }) (record { start = start; states = kept_states new [] slots })
+  arcs_changed : (start : Option ℕ) (slots : List (Slot V)) (old new : List (Arc V ℕ)) → ArePartsChanged changes slots old new → IsArcsChanged changes (record { start = start; states = kept_states old [] slots }) (record { start = start; states = kept_states new [] slots })
   arcs_changed start slots old new are = record {
     start = refl;
     size = kept_length new [] 0 slots ∙ sym (kept_length old [] 0 slots);
@@ -188,15 +188,8 @@ module _ {V : Type 0} (changes : List (Arc V ℕ) → List (Arc V ℕ) → Type 
           let after : part_of was.0 new ≡ t.arcs = ap (λ (u : Slot V). part_of u new) (sym same) ∙ is.3 in
           (sym is.2 ∙ (ap (λ (u : Slot V). u.final) same ∙ was.2), subst (λ (zs : List (Arc V ℕ)). changes s.arcs zs) after (subst (λ (zs : List (Arc V ℕ)). changes zs (part_of was.0 new)) was.3 own))
 
-  -- the same where no list stands apart, by what the machine and the new store are
-  pub arcs_put_back : (start : Option ℕ) (slots : List (Slot V)) (old given new : List (Arc V ℕ)) (apart : List (Apart V)) (m : Machine V) → apart ≡ [] → new ≡ given → ◌≡◌ {A = Machine V} (record { start = start; states = kept_states old apart slots }) m → ArePartsChanged changes slots old given → IsArcsChanged changes m (record { start = start; states = kept_states new apart slots })
-  arcs_put_back start slots old given new apart m none back is are =
-      subst (λ (d : Machine V). IsArcsChanged changes d (record { start = start; states = kept_states new apart slots })) is
-      (subst (λ (xs : List (Apart V)). IsArcsChanged changes (record { start = start; states = kept_states old xs slots }) (record { start = start; states = kept_states new xs slots })) (sym none)
-      (subst (λ (store : List (Arc V ℕ)). IsArcsChanged changes (record { start = start; states = kept_states old [] slots }) (record { start = start; states = kept_states store [] slots })) (sym back) (arcs_changed start slots old given are)))
-
   -- it is a machine where arcs of a machine become such arcs
-  pub changed_machine : (value : V → Cost) (m c : Machine V) → ((n : ℕ) (arcs new : List (Arc V ℕ)) → changes arcs new → All (IsArc value n) arcs → All (IsArc value n) new) → IsArcsChanged changes m c → arc_total c.states ≡ arc_total m.states → IsMachine value m → IsMachine value c
+  changed_machine : (value : V → Cost) (m c : Machine V) → ((n : ℕ) (arcs new : List (Arc V ℕ)) → changes arcs new → All (IsArc value n) arcs → All (IsArc value n) new) → IsArcsChanged changes m c → arc_total c.states ≡ arc_total m.states → IsMachine value m → IsMachine value c
   changed_machine value m c keeps is total h = record {
     start = start_in c.start refl;
     arcs = λ k d low. good k (get_or c.states k d) (slice_get-get_or c.states k d low);
@@ -220,13 +213,52 @@ module _ {V : Type 0} (changes : List (Arc V ℕ) → List (Arc V ℕ) → Type 
           subst (λ (n : ℕ). All (IsArc value n) t.arcs) (sym is.size) (keeps (length m.states) s.0.arcs t.arcs (is.arcs k s.0 t s.1 there) old)
 
 -- its fields are kept as they were, where no list stands apart
-pub IsKept-sized : {V : Type 0} (slots : List (Slot V)) (old new : List (Arc V ℕ)) (apart : List (Apart V)) (total : ℕ) → apart ≡ [] → length new ≡ length old → IsKept slots old apart total → IsKept slots new apart total
-IsKept-sized {V} slots old new apart total none size kept = subst (λ (xs : List (Apart V)). IsKept slots new xs total) (sym none) (bare (subst (λ (xs : List (Apart V)). IsKept slots old xs total) none kept))
+pub IsKept-sized : {V : Type 0} (slots : List (Slot V)) (old new : List (Arc V ℕ)) (total : ℕ) → length new ≡ length old → IsKept slots old [] total → IsKept slots new [] total
+IsKept-sized slots old new total size is = record {
+  counted = is.counted ∙ arc_total-sized old new 0 slots (sym size);
+  fits = omega (arith, size, is.fits);
+  parts = subst (λ n. All (LiesIn n) slots) (sym size) is.parts;
+  few_states = is.few_states;
+}
+
+-- what holds where the parts of the store of a machine that is seen are changed
+pub record IsWritten {V : Type 0} (changes : List (Arc V ℕ) → List (Arc V ℕ) → Type 0) (value : V → Cost) (start : Option ℕ) (slots : List (Slot V)) (total : ℕ) (new : List (Arc V ℕ)) (m : Machine V) : Type 0 where
+  pub kept : IsKept slots new [] total
+  pub machine : IsMachine value (record { start = start; states = kept_states new [] slots })
+  pub is : IsArcsChanged changes m (record { start = start; states = kept_states new [] slots })
+
+-- it holds by what is read of the machine, and what is written of its store
+pub parts_written : {V : Type 0} (changes : List (Arc V ℕ) → List (Arc V ℕ) → Type 0) (value : V → Cost) (start : Option ℕ) (slots seen : List (Slot V)) (total : ℕ) (old lent given : List (Arc V ℕ)) (len : ℕ) (m : Machine V)
+    → ((n : ℕ) (arcs new : List (Arc V ℕ)) → changes arcs new → All (IsArc value n) arcs → All (IsArc value n) new) → IsKept slots old [] total → IsMachine value (record { start = start; states = kept_states old [] slots }) → ◌≡◌ {A = Machine V} (record { start = start; states = kept_states old [] slots }) m
+    → seen ≡ slots → lent ≡ old → length lent ≡ len → length given ≡ length lent → ArePartsChanged changes seen lent given → IsWritten changes value start slots total (take len (given ++ drop (length given) old)) m
+parts_written {V} changes value start slots seen total old lent given len m keeps kept machine view same_slots same count size are = record {
+  kept = kept_new;
+  machine = changed_machine changes value m made keeps is_new total_new (subst (λ (n : Machine V). IsMachine value n) view machine);
+  is = is_new;
+}
   where
-    bare : IsKept slots old [] total → IsKept slots new [] total
-    bare is = record {
-      counted = is.counted ∙ arc_total-sized old new 0 slots (sym size);
-      fits = omega (arith, size, is.fits);
-      parts = subst (λ n. All (LiesIn n) slots) (sym size) is.parts;
-      few_states = is.few_states;
-    }
+    new : List (Arc V ℕ)
+    new = take len (given ++ drop (length given) old)
+
+    made : Machine V
+    made = record { start = start; states = kept_states new [] slots }
+
+    whole : length given ≡ length old
+    whole = size ∙ ap length same
+
+    back : new ≡ given
+    back = written_back old given len (sym count ∙ ap length same) whole
+
+    parts : ArePartsChanged changes slots old new
+    parts =
+        subst (λ (xs : List (Arc V ℕ)). ArePartsChanged changes slots old xs) (sym back)
+        (subst (λ (xs : List (Arc V ℕ)). ArePartsChanged changes slots xs given) same (subst (λ (ss : List (Slot V)). ArePartsChanged changes ss lent given) same_slots are))
+
+    kept_new : IsKept slots new [] total
+    kept_new = IsKept-sized slots old new total (ap length back ∙ whole) kept
+
+    is_new : IsArcsChanged changes m made
+    is_new = subst (λ (n : Machine V). IsArcsChanged changes n made) view (arcs_changed changes start slots old new parts)
+
+    total_new : arc_total made.states ≡ arc_total m.states
+    total_new = sym kept_new.counted ∙ (kept.counted ∙ ap (λ (n : Machine V). arc_total n.states) view)

@@ -75,7 +75,7 @@ module _ {V : Type 0} (value : V → Cost) (start : Option ℕ) (slots : List (S
 
   replaced : IsMachine value (record { start = start; states = kept_states old [] slots }) → length ys ≡ s.count → 0 < length ys → All (IsArc value (length (kept_states old [] slots))) ys → (new : List (Arc V ℕ)) → new ≡ put_mid s.first (length ys) old ys → IsReplaced value start slots total old new ys i
   replaced machine size some good new is = record {
-    kept = IsKept-sized slots old new [] total refl same_size kept;
+    kept = IsKept-sized slots old new total same_size kept;
     states = states ∙ set-changed (with_new_arcs ys) (kept_states old [] slots) i own (kept_state old [] i s) low (sym (ap (with_new_arcs ys) (get_or_from_slice_get (kept_states old [] slots) i (kept_state old [] i s) (kept_state old [] i s) state_here)));
     machine = subst (λ (ss : List (State V)). IsMachine value (record { start = start; states = ss })) (sym states)
         (IsMachine-set value (record { start = start; states = kept_states old [] slots }) i own machine good (omega (arith, few, machine.few_arcs)));

@@ -8,9 +8,8 @@ ghost use Rattle.fst_machine.specs.SideBySide.{Follow};
 ghost use Rattle.fst_machine.specs.Store.{LiesIn};
 
 use super::Fst;
-use super::retain::are_side_by_side;
+use super::rewriting::Rewriting;
 use crate::arc::FstArc;
-use crate::kept::Kept;
 use crate::slot::Slot;
 use fst_semiring::Weight;
 use std::alloc::AllocError;
@@ -48,6 +47,29 @@ fn change_parts<W: Weight, C: ArcsChange<W>>(
     Ok(())
 }
 
+impl<W: Weight> Rewriting<W> {
+    /// The machine with the arcs of each state changed. An `Err` is of the change.
+    fn changed<C: ArcsChange<W>>(self, change: &C) -> Result<Fst<W>, AllocError>
+        requires { (n : ℕ) (arcs new : List (Arc W ℕ)) → C.changes change.now arcs new → All (IsArc W.value n) arcs → All (IsArc W.value n) new }
+        ensures changed { IfOk result (λ fst. IsArcsChanged (C.changes change.now) self fst) }
+    {
+        let Rewriting {
+            start,
+            slots,
+            mut store,
+            total,
+        } = self;
+        change_parts(slots.as_slice(), store.as_mut_slice(), change)?;
+        let changed = Rewriting {
+            start,
+            slots,
+            store,
+            total,
+        };
+        Ok(changed.into_machine())
+    }
+}
+
 impl<W: Weight> Fst<W> {
     /// A machine that is given away with the arcs of each state changed, where they stand, by a change that makes arcs of
     /// a machine of such arcs. Where the arcs of the states do not stand side by side, the machine is given back as it was.
@@ -61,31 +83,9 @@ impl<W: Weight> Fst<W> {
         ensures changed { IfOk result (λ r. IfOk r (λ fst. IsArcsChanged (C.changes change.now) self fst)) }
         ensures given { IfOk result (λ r. IfErr r (λ fst. fst ≡ self)) }
     {
-        let Kept {
-            start,
-            slots,
-            mut store,
-            apart,
-            total,
-        } = self.kept;
-        if !apart.is_empty() || !are_side_by_side(slots.as_slice()) {
-            let kept = Kept {
-                start,
-                slots,
-                store,
-                apart,
-                total,
-            };
-            return Ok(Err(Fst { kept }));
+        match self.rewrite() {
+            Err(fst) => Ok(Err(fst)),
+            Ok(machine) => Ok(Ok(machine.changed(change)?)),
         }
-        change_parts(slots.as_slice(), store.as_mut_slice(), change)?;
-        let kept = Kept {
-            start,
-            slots,
-            store,
-            apart,
-            total,
-        };
-        Ok(Ok(Fst { kept }))
     }
 }

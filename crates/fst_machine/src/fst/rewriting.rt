@@ -17,10 +17,10 @@ use std::marker::Model;
 /// stand. They stay as many.
 #[derive(Drop)]
 pub struct Rewriting<W: Weight> {
-    start: Option<u32>,
-    slots: Vec<Slot<W>>,
-    store: Vec<FstArc<W>>,
-    total: u32,
+    pub(super) start: Option<u32>,
+    pub(super) slots: Vec<Slot<W>>,
+    pub(super) store: Vec<FstArc<W>>,
+    pub(super) total: u32,
 }
 
 impl<W: Weight> Model for Rewriting<W> {
