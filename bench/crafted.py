@@ -94,6 +94,11 @@ def rows_text(labels):
     return {"machine": [*(f"0\t{state}\t{state}\t{state}\n" for state in range(1, end)), *arcs, f"{end}\n"]}
 
 
+def falling_text(labels):
+    """A machine of one state with an arc for each label, where the greatest label is first."""
+    return {"machine": [*(f"0\t0\t{label}\t{label}\n" for label in sorted(labels, reverse=True)), "0\n"]}
+
+
 def weights_text(weights):
     """A start with an arc of each weight to the end, and one of weight 0, so that pushing changes none."""
     arcs = [f"0\t1\t{label}\t{label}\t{weight}\n" for label, weight in enumerate([0, *weights], 1)]
@@ -182,6 +187,7 @@ KINDS = [
         merged_text,
         "rmepsilon {machine} {out}",
     ),
+    Kind("input labels of one state", keys.labels, drawn(1, keys.LABELS), falling_text, "info {machine}"),
     Kind("labels when states are told apart", keys.labels, drawn(1, keys.LABELS), rows_text, "minimize {machine} {out}"),
     Kind("weights when states are told apart", keys.weights, drawn(1, keys.NUMBERS), weights_text, "minimize {machine} {out}"),
 ]

@@ -255,9 +255,10 @@ pub fn encode<W: Weight>(alloc: Global, fst: &Fst<W>) -> Result<Vec<u8>, AllocEr
     write_whole(alloc, fst)
 }
 
-/// The bytes of a machine that is given away. Where it has 1,048,576 arcs or more, and none of its states has arcs apart
-/// from those of the others, their room is given back in about four parts as they are written, so that the machine and its
-/// bytes do not stand beside each other whole. Memory may run out after the bytes were reserved, too.
+/// The bytes of a machine that is given away. Where it has 1,048,576 arcs or more, and none of its states has arcs
+/// apart from those of the others, their room is given back in about four parts of as many states as they are written,
+/// so that a machine whose arcs are spread over its states and its bytes do not stand beside each other whole. Memory
+/// may run out after the bytes were reserved, too.
 pub fn encode_given<W: Weight>(alloc: Global, fst: Fst<W>) -> Result<Vec<u8>, AllocError>
     ensures spelled { IfOk result (λ bytes. bytes.items ≡ spelling W.KIND (valued W.value fst)) }
     ensures again { IfOk result (λ bytes. machine_of_bytes W.KIND bytes.items ≡ Ok (valued W.value fst)) }

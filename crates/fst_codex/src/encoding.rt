@@ -119,7 +119,7 @@ fn encode_in_place<W: Weight>(
 /// The encoding of a machine that is given away, as `encode_labels` makes it. Its arcs are changed where they stand,
 /// where those of its states stand side by side.
 ///
-/// Time: as `encode_labels`. Space: the entries, or as `encode_labels`.
+/// Time: as `encode_labels`. Space: the entries and the arcs of one state, or as `encode_labels`.
 pub fn into_encoded<W: Weight>(
     alloc: Global,
     fst: Fst<W>,

@@ -17,7 +17,7 @@ const FILTERS: u64 = 4_611_686_018_427_387_904;
 
 /// The name of a state of a composition: a state of the first machine, one of the second, and the state of the
 /// filter, which is 1 where an arc of the second machine alone led here, and else 0. (Mohri 2009, section 4.1.)
-#[derive(Clone, Copy, Debug, PartialEq, Eq, PartialOrd, Ord, Hash)]
+#[derive(Clone, Copy, Debug, PartialEq, Eq, PartialOrd, Ord)]
 pub struct ComposeKey {
     /// The state of the first machine.
     pub first: u32,

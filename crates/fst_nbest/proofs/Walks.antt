@@ -10,7 +10,6 @@ use Rattle.fst_semiring.specs.Cost.{Cost}
 use Rattle.fst_semiring.specs.declared.arc_type.ArcType.{ArcType}
 use Rattle.fst_semiring.specs.Semiring.{cancels, times}
 use Rattle.fst_semiring.proofs.Laws.{times_assoc}
-use Rattle.fst_machine.specs.BreadthFirst.{Has}
 use Rattle.fst_nbest.specs.declared.entry.Entry.{Entry}
 use Rattle.fst_nbest.specs.Words.{Words, WeightedWord, Ahead, ahead_of, ahead_of_step, ahead_of_stop, AreWords, IsOrder}
 use Rattle.fst_nbest.specs.Families.{Family, IsCovered, IsLeading}

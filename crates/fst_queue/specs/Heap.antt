@@ -1,5 +1,5 @@
 -- A heap of states by key, with the place of each state in it.
-use Rattle.std.specs.Prelude.{◌≡◌, ◌≢◌, ◌⊎◌, ◌↔◌, ℕ, ◌+◌, ◌<◌, ◌≤◌, pos, false}
+use Rattle.std.specs.Prelude.{◌≡◌, ◌≢◌, ◌⊎◌, ◌↔◌, ℕ, ◌+◌, ◌<◌, pos, false}
 use Rattle.std.specs.Prelude.{List, [], Option, Some, None, map, length, get_or}
 use Rattle.std.specs.Ordering.{is_gt}
 use Rattle.fst_semiring.specs.declared.key.Key.{Key}

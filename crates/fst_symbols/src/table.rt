@@ -50,7 +50,8 @@ impl SymbolTable {
         }
     }
 
-    /// The number of a name; `None` exactly where no symbol has it. Takes no memory, and time by the name.
+    /// The number of a name; `None` exactly where no symbol has it. Takes no memory, and time by the name; where names
+    /// are chosen to meet, a search among those that do.
     pub fn find(&self, name: &[u8]) -> Option<u32>
         ensures number { result ≡ number_of self.now name.now }
         ensures table { IsTable self.now }
@@ -58,8 +59,8 @@ impl SymbolTable {
         self.rows.find(name)
     }
 
-    /// The name of a label; `None` exactly where no symbol has its number. Takes no memory, and time that
-    /// does not grow with the table.
+    /// The name of a label; `None` exactly where no symbol has its number. Takes no memory, and mostly one look in
+    /// a list or a table; where numbers are chosen to meet, a search among those that do.
     pub fn name(&self, label: u32) -> Option<&[u8]>
         ensures name { option_map (λ name. name.now) result ≡ name_of self.now label }
         ensures table { IsTable self.now }

@@ -1,6 +1,6 @@
 //! A table from numbers to places, in one list of slots: open addressing with linear probing, where a probe looks at no
 //! more than a bounded number of slots. The numbers that find no slot within it stand in a sorted map. So a look-up costs
-//! a bounded number of slots and at most the logarithm of a search in the map, whatever the numbers are, also where
+//! a bounded number of slots and at most a search in the map, whatever the numbers are, also where
 //! they are chosen so that all their probes begin at one slot.
 
 ghost use Rattle.std.specs.Prelude.{◌≡◌, ◌+◌, ◌*◌, ◌<◌, ◌≤◌, ℕ, length, None, IfOk, OnErr, OnOk};

@@ -122,20 +122,20 @@ module _ {V : Type 0} (P : List (Arc V ℕ) → ℕ → Type 0) (m : Machine V) 
   none_decides (Some step) false first e = ((λ is. absurd (let wrong : false ≡ true = is in cc)), (λ free. absurd (free step.state step.place first.0)))
 
 -- a table of the labels before a place, with the label of the arc there
-pub table_more : {V : Type 0} (arcs : List (Arc V ℕ)) (place : ℕ) (a : Arc V ℕ) (old new : ℕ → Bool) → slice_get arcs place ≡ Some a → ((label : ℕ) → new label ≡ cond (eqb a.ilabel label) true (old label)) → ((label : ℕ) → Decides (old label) (HasEarlier arcs place label)) → (label : ℕ) → Decides (new label) (HasEarlier arcs (place + 1) label)
-table_more {V} arcs place a old new there put decides label = by_label (eqb_tells a.ilabel label)
+pub table_more : {V : Type 0} (arcs : List (Arc V ℕ)) (place : ℕ) (a : Arc V ℕ) (old new : ℕ → Bool) → slice_get arcs place ≡ Some a → ((label : ℕ) → new label ≡ cond (eqb label a.ilabel) true (old label)) → ((label : ℕ) → Decides (old label) (HasEarlier arcs place label)) → (label : ℕ) → Decides (new label) (HasEarlier arcs (place + 1) label)
+table_more {V} arcs place a old new there put decides label = by_label (eqb_tells label a.ilabel)
   where
-    by_label : ((eqb a.ilabel label ≡ true) × (a.ilabel ≡ label)) ⊎ ((eqb a.ilabel label ≡ false) × (a.ilabel ≡ label → ⊥)) → Decides (new label) (HasEarlier arcs (place + 1) label)
+    by_label : ((eqb label a.ilabel ≡ true) × (label ≡ a.ilabel)) ⊎ ((eqb label a.ilabel ≡ false) × (label ≡ a.ilabel → ⊥)) → Decides (new label) (HasEarlier arcs (place + 1) label)
     by_label (inl same) =
         let has : new label ≡ true = put label ∙ ap (λ (b : Bool). cond b true (old label)) same.0 in
-        ((λ is. record { earlier = place; arc = a; before = omega arith; there = there; same = same.1 }), (λ h. has))
+        ((λ is. record { earlier = place; arc = a; before = omega arith; there = there; same = sym same.1 }), (λ h. has))
     by_label (inr other) =
         let kept : new label ≡ old label = put label ∙ ap (λ (b : Bool). cond b true (old label)) other.0 in
         ((λ is. earlier_kept arcs place label ((decides label).0 (sym kept ∙ is))), (λ h. kept ∙ (decides label).1 (only (earlier_cases arcs place label a there h))))
       where
         only : HasEarlier arcs place label ⊎ (a.ilabel ≡ label) → HasEarlier arcs place label
         only (inl h) = h
-        only (inr e) = absurd (other.1 e)
+        only (inr e) = absurd (other.1 (sym e))
 
 -- an empty table
 pub table_empty : {V : Type 0} (arcs : List (Arc V ℕ)) (has : ℕ → Bool) → ((label : ℕ) → has label ≡ false) → (label : ℕ) → Decides (has label) (HasEarlier arcs 0 label)

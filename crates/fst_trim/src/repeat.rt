@@ -10,8 +10,8 @@ ghost use Rattle.fst_trim.specs.FirstArcs.{HasEarlier, IsFirstPlace, Repeats};
 use crate::side::Side;
 use crate::sorted::stands_by;
 use fst_machine::FstArc;
+use fst_table::FlatTable;
 use std::alloc::{AllocError, Global};
-use std::collections::HashSet;
 
 /// Among arcs that stand by their input labels an arc with an earlier label stands right behind one with it.
 fn repeat_in_sorted<W>(arcs: &[FstArc<W>]) -> Option<u32>
@@ -29,17 +29,18 @@ fn repeat_in_sorted<W>(arcs: &[FstArc<W>]) -> Option<u32>
     None
 }
 
-/// Keeps the labels that were seen.
+/// Keeps the labels that were seen, in a table that no chosen labels make slow.
 fn repeat_by_table<W>(alloc: Global, arcs: &[FstArc<W>]) -> Result<Option<u32>, AllocError>
     requires few { length arcs.now ≤ most_arcs }
     ensures { IfOk result (IsFirstPlace Repeats arcs.now) }
 {
-    let mut seen: HashSet<u32> = HashSet::new(alloc);
+    let mut seen = FlatTable::new(alloc);
     for (place, arc) in arcs.iter().enumerate() {
-        let new = seen.insert(arc.ilabel)?;
-        if !new {
+        let label = u64::from(arc.ilabel);
+        if seen.find(label).is_some() {
             return Ok(Some(place as u32));
         }
+        seen.add(label, place as u32)?;
     }
     Ok(None)
 }

@@ -1,6 +1,6 @@
 //! The names that were found.
 
-ghost use Rattle.std.specs.Prelude.{◌≡◌, ◌≤◌, ◌∷◌, [], IfOk, MatchOption, length};
+ghost use Rattle.std.specs.Prelude.{◌≤◌, ◌∷◌, [], IfOk, MatchOption, length};
 ghost use Rattle.fst_walk.specs.Making.{IsFound, Passes};
 
 use fst_keys::{Coded, KeySet};

@@ -1,4 +1,4 @@
-use Rattle.std.proofs.Common.{◌≡◌, sym, ◌∙◌, arith}
+use Rattle.std.proofs.Common.{sym, ◌∙◌, arith}
 use Rattle.fst_keys.proofs.Looking.{all_none, none_more}
 use Rattle.fst_keys.proofs.finding.look_through.Goals as goal
 

@@ -1,6 +1,6 @@
-use Rattle.std.proofs.Common.{ℕ, ◌==◌}
+use Rattle.std.proofs.Common.{ℕ, is_some}
 use Rattle.std.specs.Bool.{Decides}
-use Rattle.std.specs.List.{list_any}
+use Rattle.fst_table.specs.Placed.{placed_in}
 use Rattle.fst_trim.specs.FirstArcs.{HasEarlier, Repeats}
 use Rattle.fst_trim.proofs.Places.{NoneBefore}
 use Rattle.fst_trim.proofs.repeat.repeat_by_table.Given as goal
@@ -8,5 +8,5 @@ use Rattle.fst_trim.proofs.repeat.repeat_by_table.Given as goal
 abbrev pub invariant-loop-place : goal.invariant-loop-place
 invariant-loop-place g l = record {
   none : NoneBefore Repeats l.arcs l.place;
-  seen : (label : ℕ) → Decides (list_any (λ k. label == k) l.seen.keys) (HasEarlier l.arcs l.place label);
+  seen : (label : ℕ) → Decides (is_some (placed_in l.seen label)) (HasEarlier l.arcs l.place label);
 }
