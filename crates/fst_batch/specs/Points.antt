@@ -1,7 +1,7 @@
 -- That names of a lattice can be compared, and the number by which one is found.
-use Rattle.std.proofs.Common.{◌≡◌, ℕ, ◌+◌, ◌*◌, ◌%◌, ◌^◌, Bool, true, false, true≢false, ◌&&◌, eqb, refl, sym, subst}
+use Rattle.std.proofs.Common.{◌≡◌, ℕ, ◌+◌, ◌*◌, ◌%◌, ◌^◌, Bool, true, ◌&&◌, eqb, refl, subst}
 use Rattle.std.specs.Bool.{Decides}
-use Rattle.std.proofs.lemmas.Bool.{eq-eqb, eqb-true}
+use Rattle.std.proofs.lemmas.Bool.{and_parts, eq-eqb, eqb-true}
 use Rattle.fst_delayed.specs.Handed.{Name, same_decides, same_name}
 use Rattle.fst_batch.specs.Lattice.{Point}
 
@@ -9,17 +9,13 @@ use Rattle.fst_batch.specs.Lattice.{Point}
 abbrev pub same_point : Point (Name ℕ ℕ) → Point (Name ℕ ℕ) → Bool
 same_point a b = eqb a.position b.position && same_name a.name b.name
 
-both : (a b : Bool) → (a && b) ≡ true → (a ≡ true) × (b ≡ true)
-both true b e = (refl, e)
-both false b e = absurd (true≢false (sym e))
-
 -- names that compare as equal are one
 pub point_decides : (a b : Point (Name ℕ ℕ)) → Decides (same_point a b) (a ≡ b)
 point_decides a b = (tells, λ e. subst (λ (p : Point (Name ℕ ℕ)). same_point a p ≡ true) e own)
   where
     tells : same_point a b ≡ true → a ≡ b
     tells e =
-        let parts = both (eqb a.position b.position) (same_name a.name b.name) e in
+        let parts = and_parts (eqb a.position b.position) (same_name a.name b.name) e in
         let name = (same_decides a.name b.name).0 parts.1 in
         λ i. record { position = eqb-true a.position b.position parts.0 i; name = name i }
 

@@ -1,9 +1,9 @@
 -- That keys of entries can be compared, and the number by which one is found. (The laws of an impl cite specs alone, so
 -- the lemmas stand here.)
-use Rattle.std.proofs.Common.{◌≡◌, ◌&&◌, ◌++◌, ℕ, eqb, int_eq, Bool, true, false, true≢false, refl, sym, ap, ◌∙◌}
+use Rattle.std.proofs.Common.{◌≡◌, ◌&&◌, ◌++◌, ℕ, eqb, int_eq, Bool, true, refl, sym, ap, ◌∙◌}
 use Rattle.std.specs.Bool.{Decides}
 use Rattle.std.specs.Hash as fed
-use Rattle.std.proofs.lemmas.Bool.{eq-eqb, eqb-true}
+use Rattle.std.proofs.lemmas.Bool.{and_parts, eq-eqb, eqb-true}
 use Rattle.std.proofs.lemmas.Bool.Decides.{Decides-int_eq}
 use Rattle.fst_keys.specs.Hashing.{hash_number}
 use Rattle.fst_codex.specs.declared.coder.EntryKey.{EntryKey}
@@ -12,20 +12,16 @@ use Rattle.fst_codex.specs.declared.coder.EntryKey.{EntryKey}
 abbrev pub key_number : EntryKey → ℕ
 key_number k = hash_number (fed.u32 k.ilabel ++ (fed.u32 k.olabel ++ (fed.u8 k.class ++ (fed.i64 k.first ++ fed.i64 k.second))))
 
-both : (a b : Bool) → (a && b) ≡ true → (a ≡ true) × (b ≡ true)
-both true b e = (refl, e)
-both false b e = absurd (true≢false (sym e))
-
 -- what `==` answers of keys
 abbrev pub same_key : EntryKey → EntryKey → Bool
 same_key a b = eqb a.ilabel b.ilabel && (eqb a.olabel b.olabel && (eqb a.class b.class && (int_eq a.first b.first && int_eq a.second b.second)))
 
 same_tells : (a b : EntryKey) → same_key a b ≡ true → a ≡ b
 same_tells a b e =
-    let one = both _ _ e in
-    let two = both _ _ one.1 in
-    let three = both _ _ two.1 in
-    let four = both _ _ three.1 in
+    let one = and_parts _ _ e in
+    let two = and_parts _ _ one.1 in
+    let three = and_parts _ _ two.1 in
+    let four = and_parts _ _ three.1 in
     let first : a.first ≡ b.first = (Decides-int_eq a.first b.first).0 four.0 in
     let second : a.second ≡ b.second = (Decides-int_eq a.second b.second).0 four.1 in
     let ilabel = eqb-true a.ilabel b.ilabel one.0 in

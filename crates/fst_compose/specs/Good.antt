@@ -1,10 +1,10 @@
 -- What a walk asks of a composition: that its names can be compared, that the start reaches states of both machines
 -- alone, and that its arcs are arcs of a machine. (The laws of an impl cite specs alone, so the lemmas stand here.)
 use Rattle.std.proofs.Common.{◌≡◌, ◌≢◌, ◌⊎◌, inl, inr, ℕ, ◌<◌, ◌≤◌, zero, suc, Bool, true, false, List, [], ◌∷◌, Option, None, Some, IfSome, ◌&&◌, cond}
-use Rattle.std.proofs.Common.{eqb, nat_eq, length, map, slice_get, true≢false, refl, sym, ap, subst, arith}
+use Rattle.std.proofs.Common.{eqb, nat_eq, length, map, slice_get, refl, sym, ap, subst, arith}
 use Rattle.std.specs.Bool.{Decides}
 use Rattle.std.specs.List.{All, flat_map}
-use Rattle.std.proofs.lemmas.Bool.{eq-eqb, eqb-true}
+use Rattle.std.proofs.lemmas.Bool.{and_parts, eq-eqb, eqb-true}
 use Rattle.std.specs.Option.{option_map}
 use Rattle.std.proofs.lemmas.List.Elements.{All-append, All-cons, All-map, All-nil, All-weaker}
 use Rattle.std.proofs.lemmas.Option.{get_or_from_slice_get, slice_get_within}
@@ -137,10 +137,6 @@ module _ {V : Type 0} (kind : ArcType) (value : V → Cost) (a b : Machine V) (l
       let h = All_at (IsComposedArc a b) ((composition kind value a b).arcs n) k arc (composed_good n (near_inside n near)) e in
       record { ilabel = h.ilabel; olabel = h.olabel; weight = h.weight }
 
-both : (a b : Bool) → (a && b) ≡ true → (a ≡ true) × (b ≡ true)
-both true b e = (refl, e)
-both false b e = absurd (true≢false (sym e))
-
 -- what `==` answers of names
 abbrev pub same_name : Name ℕ ℕ → Name ℕ ℕ → Bool
 same_name a b = eqb a.first b.first && (eqb a.second b.second && eqb a.filter b.filter)
@@ -151,8 +147,8 @@ same_decides a b = (tells, λ e. subst (λ (n : Name ℕ ℕ). same_name a n ≡
   where
     tells : same_name a b ≡ true → a ≡ b
     tells e =
-        let one = both _ _ e in
-        let two = both _ _ one.1 in
+        let one = and_parts _ _ e in
+        let two = and_parts _ _ one.1 in
         λ i. record { first = eqb-true a.first b.first one.0 i; second = eqb-true a.second b.second two.0 i; filter = eqb-true a.filter b.filter two.1 i }
 
     own : same_name a a ≡ true

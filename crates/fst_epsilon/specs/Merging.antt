@@ -1,9 +1,9 @@
 -- Arcs beside what makes them alike.
-use Rattle.std.proofs.Common.{true≢false, refl, sym, subst}
+use Rattle.std.proofs.Common.{refl, subst}
 use Rattle.std.specs.Prelude.{◌≡◌, ◌<◌, ◌+◌, ◌*◌, ◌%◌, ◌^◌, ◌&&◌, ℕ, Bool, false, true, All, List, get_or, length, map, nat_eq, set}
 use Rattle.std.specs.Bool.{Decides}
 use Rattle.std.specs.List.{list_any, position_or_len}
-use Rattle.std.proofs.lemmas.Bool.{eq-eqb, eqb-true}
+use Rattle.std.proofs.lemmas.Bool.{and_parts, eq-eqb, eqb-true}
 use Rattle.fst_semiring.specs.Cost.{Cost, plus}
 use Rattle.fst_machine.specs.BreadthFirst.{Apart}
 use Rattle.fst_machine.specs.Machine.{Arc}
@@ -34,18 +34,14 @@ pub record AreHeld {V : Type 0} (few : Bool) (spots : List Bool) (keys : List Ar
 abbrev pub same_key : ArcKey → ArcKey → Bool
 same_key a b = nat_eq a.ilabel b.ilabel && (nat_eq a.olabel b.olabel && nat_eq a.next b.next)
 
-both : (a b : Bool) → (a && b) ≡ true → (a ≡ true) × (b ≡ true)
-both true b e = (refl, e)
-both false b e = absurd (true≢false (sym e))
-
 -- keys that compare as equal are one (the laws of an impl cite specs alone, so this stands here)
 pub key_decides : (a b : ArcKey) → Decides (same_key a b) (a ≡ b)
 key_decides a b = (tells, λ e. subst (λ (k : ArcKey). same_key a k ≡ true) e own)
   where
     tells : same_key a b ≡ true → a ≡ b
     tells e =
-        let one = both _ _ e in
-        let two = both _ _ one.1 in
+        let one = and_parts _ _ e in
+        let two = and_parts _ _ one.1 in
         λ i. record { ilabel = eqb-true a.ilabel b.ilabel one.0 i; olabel = eqb-true a.olabel b.olabel two.0 i; next = eqb-true a.next b.next two.1 i }
 
     own : same_key a a ≡ true
