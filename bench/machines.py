@@ -245,12 +245,16 @@ def write_classes(path, arcs, seed=1, letters=10, alike=8):
 
 def write_confusion(path, arcs, seed=1, depth=12, width=3):
     """Writes layers of three states with two labels behind three rarer ones, group by group from one start, until there are so
-    many arcs: a word reaches up to three states of a layer, each with a weight of its own."""
+    many arcs: a word reaches up to three states of a layer, each with a weight of its own. No two groups have the same rarer
+    labels, so that the deterministic machine grows as the arcs do."""
     draw = random.Random(seed)
-    written, first = 0, 1
+    written, first, keys = 0, 1, set()
     with open(path, "w") as out:
         while written < arcs:
-            key = [draw.randrange(1, 27) for _ in range(3)]
+            key = tuple(draw.randrange(1, 27) for _ in range(3))
+            if key in keys:
+                continue
+            keys.add(key)
             sources = [0]
             for layer in range(depth):
                 targets = range(first, first + width)
