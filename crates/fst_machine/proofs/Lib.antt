@@ -24,6 +24,7 @@ pub mod Connected
 pub mod Walking
 pub mod Arriving
 pub mod Keeping
+pub mod Opening
 pub mod Retaining
 pub mod Forgetting
 pub mod ArcsChanged

@@ -24,6 +24,7 @@ pub mod Steps
 pub mod Marks
 pub mod Walking
 pub mod Store
+pub mod OpenStates
 pub mod SideBySide
 pub mod Renumbered
 pub mod Retaining
