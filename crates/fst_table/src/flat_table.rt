@@ -17,9 +17,10 @@ const FIRST_FACTOR: u64 = 0x9E3779B97F4A7C15;
 
 const SECOND_FACTOR: u64 = 0xD6E8FEB86659FD93;
 
-/// A probe looks at so many slots at most. Of numbers that are spread evenly one in a thousand finds none of them empty,
-/// when the table is as full as it may be; and to read so many slots takes about the time of a search in a large map.
-const PROBE_LIMIT: usize = 128;
+/// A probe looks at so many slots at most. Of numbers that are spread evenly six in ten thousand find none of them empty
+/// while a table fills, and a look-up of one that is not known ends in the map nine times in a thousand at worst, when
+/// the table is as full as it may be (by trial with four million slots).
+const PROBE_LIMIT: usize = 32;
 
 /// A number is its low half and so many times its high half.
 const HALF: u64 = 1 << 32;
@@ -78,8 +79,9 @@ fn first_slot(len: usize, number: u64) -> usize
 {
     let once = number.wrapping_mul(FIRST_FACTOR);
     let twice = once.wrapping_add(once >> 32).wrapping_mul(SECOND_FACTOR);
-    // The last sixteenth of the slots is left for the probes that begin before it.
-    let firsts = (len - len / 16) as u64;
+    // The last slots are left for the probes that begin before them: as many as a probe looks at, and fewer where the
+    // slots are few.
+    let firsts = (len - (len / 16).min(PROBE_LIMIT)) as u64;
     ((twice >> 32).wrapping_mul(firsts) >> 32) as usize
 }
 
@@ -152,7 +154,7 @@ impl FlatTable {
         if numbers > usize::MAX / 8 {
             return Err(AllocError);
         }
-        Self::with_slots(alloc, (numbers / 4 + 1) * 5)
+        Self::with_slots(alloc, (numbers / 2 + 1) * 3)
     }
 
     /// Writes a number with its place in the slot where its probe ends, or in the map where it meets no empty slot.
@@ -203,26 +205,30 @@ impl FlatTable {
     /// The same numbers in more than twice as many slots.
     fn grown(&self) -> Result<FlatTable, AllocError>
         ensures same { IfOk result (λ t. (n : ℕ) → placed_in t n ≡ placed_in self.now n) }
-        ensures longer { IfOk result (λ t. length t.slots.items ≡ 2 * length self.now.slots.items + 64) }
+        ensures longer { IfOk result (λ t. length t.slots.items ≡ 2 * length self.now.slots.items + 80) }
     {
         let len = self.slots.len();
         if len > usize::MAX / 4 {
             return Err(AllocError);
         }
-        let mut more = Self::with_slots(*self.slots.allocator(), 2 * len + 64)?;
+        let mut more = Self::with_slots(*self.slots.allocator(), 2 * len + 80)?;
         more.fill_from_slots(self)?;
         more.fill_from_overflow(self)?;
         Ok(more)
+    }
+
+    /// Whether the table is as full as it may be before it grows, which is two thirds.
+    fn is_full(&self) -> bool {
+        // Fuller, probes get long, and more numbers go into the map; emptier, the slots take more memory. The table grows for
+        // no other reason: numbers that are chosen to meet in one slot stand in the map, and do not make it grow.
+        self.used >= self.slots.len() / 3 * 2
     }
 
     /// Makes the table larger where it is as full as it may be. Where memory runs out, what is known stays.
     fn make_room(&mut self) -> Result<(), AllocError>
         ensures { (n : ℕ) → placed_in self.new n ≡ placed_in self.old n }
     {
-        // Fuller, probes get long; emptier, the slots take more memory, which costs a look-up more than a short probe.
-        // The table grows for no other reason: numbers that are chosen to meet in one slot stand in the map, and do not make
-        // it grow.
-        if self.used >= self.slots.len() / 5 * 4 {
+        if self.is_full() {
             *self = self.grown()?;
         }
         Ok(())
