@@ -31,3 +31,4 @@ pub mod ArcsReplaced
 pub mod Valued
 pub mod Narrowing
 pub mod OneMachine
+pub mod Extending
