@@ -42,12 +42,22 @@ fn shift_arcs<V: Copy>(store: &mut [FstArc<V>], by: u32)
 }
 
 impl<W: Weight> StateList<W> {
-    /// Takes room for so many more states and arcs.
+    /// The number of states. Takes no memory.
+    #[tactic(auto, using(crate::proofs::Keeping::kept_length))]
+    pub fn len(&self) -> usize
+        ensures { result ≡ length self.now }
+    {
+        self.slots.len()
+    }
+
+    /// Takes room for so many states and arcs in all.
     pub fn reserve(&mut self, states: usize, arcs: usize) -> Result<(), AllocError>
         ensures { self.new ≡ self.old }
     {
-        self.slots.reserve_exact(states)?;
-        self.store.reserve_exact(arcs)
+        let more = states.saturating_sub(self.slots.len());
+        self.slots.reserve_exact(more)?;
+        let more = arcs.saturating_sub(self.store.len());
+        self.store.reserve_exact(more)
     }
 
     /// Each arc leads so many places further on. Takes no memory.
