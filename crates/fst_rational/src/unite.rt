@@ -177,11 +177,7 @@ pub fn union<W: Weight>(alloc: Global, a: &Fst<W>, b: &Fst<W>) -> Result<Fst<W>,
 
 /// The union of two machines that are given away, as `union` makes it of them. It is made in the room of the first,
 /// where the arcs of none of its states stand apart from those of the others.
-pub fn into_union<W: Weight>(
-    alloc: Global,
-    a: Fst<W>,
-    b: Fst<W>,
-) -> Result<Fst<W>, RationalFault>
+pub fn into_union<W: Weight>(alloc: Global, a: Fst<W>, b: Fst<W>) -> Result<Fst<W>, RationalFault>
     ensures limits { IsLimited (union_of W.KIND (valued W.value a) (valued W.value b)) result }
     ensures machine { IfOk result (λ m. valued W.value m ≡ union_of W.KIND (valued W.value a) (valued W.value b)) }
     ensures relation { IfOk result (λ m. Unites W.KIND (valued W.value a) (valued W.value b) (valued W.value m)) }
