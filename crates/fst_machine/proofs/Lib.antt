@@ -32,3 +32,4 @@ pub mod ArcsReplaced
 pub mod Valued
 pub mod Narrowing
 pub mod OneMachine
+pub mod Extending

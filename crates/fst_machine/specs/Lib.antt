@@ -33,3 +33,4 @@ pub mod ArcsChanged
 pub mod Putting
 pub mod KeptMachine
 pub mod Narrowing
+pub mod Extending

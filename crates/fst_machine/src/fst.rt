@@ -9,6 +9,7 @@ use crate::arc::FstArc;
 use crate::kept::Kept;
 
 mod change;
+mod extending;
 mod leaving;
 mod open_list;
 mod retain;
