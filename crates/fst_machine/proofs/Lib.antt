@@ -25,6 +25,7 @@ pub mod Walking
 pub mod Arriving
 pub mod Keeping
 pub mod Retaining
+pub mod Rooms
 pub mod Forgetting
 pub mod ArcsChanged
 pub mod ArcsReplaced

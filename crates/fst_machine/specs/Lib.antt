@@ -25,6 +25,7 @@ pub mod Marks
 pub mod Walking
 pub mod Store
 pub mod SideBySide
+pub mod Placing
 pub mod Renumbered
 pub mod Retaining
 pub mod Forgetting

@@ -10,6 +10,7 @@ use crate::kept::Kept;
 
 mod change;
 mod leaving;
+mod placing;
 mod retain;
 mod rewriting;
 mod state_list;
@@ -17,6 +18,7 @@ mod state_list;
 pub use change::ArcsChange;
 use fst_semiring::Weight;
 pub use leaving::Leaving;
+pub use placing::Placing;
 pub use rewriting::Rewriting;
 pub use state_list::StateList;
 use std::alloc::{AllocError, Global};
