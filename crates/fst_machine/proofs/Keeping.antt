@@ -129,7 +129,7 @@ IsKept-final {V} slots store apart total i w s kept within read =
     }
 
 -- a state was added whose arcs are these, wherever it is kept
-kept_from-push : {V : Type 0} (store arcs : List (Arc V ℕ)) (apart : List (Apart V)) (from : ℕ) (slots : List (Slot V)) (s : Slot V) → ((state : ℕ) → slot_arcs store apart state s ≡ arcs) → kept_from store apart from (slots ++ s ∷ []) ≡ kept_from store apart from slots ++ record { final = s.final; arcs = arcs } ∷ []
+pub kept_from-push : {V : Type 0} (store arcs : List (Arc V ℕ)) (apart : List (Apart V)) (from : ℕ) (slots : List (Slot V)) (s : Slot V) → ((state : ℕ) → slot_arcs store apart state s ≡ arcs) → kept_from store apart from (slots ++ s ∷ []) ≡ kept_from store apart from slots ++ record { final = s.final; arcs = arcs } ∷ []
 kept_from-push store arcs apart from [] s are = ap (λ own. record { final = s.final; arcs = own } ∷ []) (are from)
 kept_from-push store arcs apart from (x ∷ slots) s are = ap (λ ss. kept_state store apart from x ∷ ss) (kept_from-push store arcs apart (suc from) slots s are)
 
@@ -158,7 +158,7 @@ abbrev pub slot_behind : {V : Type 0} → List (Arc V ℕ) → V → List (Arc V
 slot_behind store w arcs = record { final = w; first = length store; count = length arcs }
 
 -- no list stands apart
-none_apart : (V : Type 0) (first state : ℕ) → arcs_apart {V = V} [] first state ≡ []
+pub none_apart : (V : Type 0) (first state : ℕ) → arcs_apart {V = V} [] first state ≡ []
 none_apart V zero state = refl
 none_apart V (suc place) state = refl
 

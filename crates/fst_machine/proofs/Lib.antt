@@ -26,6 +26,7 @@ pub mod Arriving
 pub mod Keeping
 pub mod Opening
 pub mod Retaining
+pub mod Rooms
 pub mod Forgetting
 pub mod ArcsChanged
 pub mod ArcsReplaced

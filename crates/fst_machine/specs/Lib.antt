@@ -26,6 +26,7 @@ pub mod Walking
 pub mod Store
 pub mod OpenStates
 pub mod SideBySide
+pub mod Placing
 pub mod Renumbered
 pub mod Retaining
 pub mod Forgetting
