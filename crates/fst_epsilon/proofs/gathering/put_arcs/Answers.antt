@@ -21,7 +21,7 @@ loop-arc-preserved-then-arc-eq0-2 g c =
     let on : spoken kind d (take (i + 1) (map (valued_arc value) arcs)) ≡ spoken kind d (take i (map (valued_arc value) arcs)) =
     ap (spoken kind d) (taken (valued_arc value) arcs i b there) ∙ spoken-silent kind d (take i (map (valued_arc value) arcs)) (valued_arc value b) (silent_labels (valued_arc value b) c.if-arc-eq0.true c.if-arc-eq0-2.true) in
     record {
-      held = c.loop-arc.invariant.held;
+      paired = c.loop-arc.invariant.paired;
       arcs = c.loop-arc.invariant.arcs ∙ ap (merged (map (valued_arc g.W.Weight.wide_value) c.args.out.now.arcs.items)) (sym on);
     }
 
@@ -42,7 +42,7 @@ loop-arc-preserved g c =
     ap (spoken kind d) (taken (valued_arc value) arcs i b there) ∙ spoken-loud kind d (take i (map (valued_arc value) arcs)) (valued_arc value b) loud in
     let weight : wide c.wide_times.result ≡ times kind d (value c.arc.inside.weight) = c.wide_times.ensures.product ∙ ap (times kind d) c.widen.ensures.same in
     record {
-      held = c.in_ok-put.ensures.held;
+      paired = c.in_ok-put.ensures.paired;
       arcs = c.in_ok-put.ensures.arcs
           ∙ (ap (λ (w : Cost). put_arc (map (valued_arc wide) c.loop-arc.out.arcs.items) (record { ilabel = c.arc.inside.ilabel; olabel = c.arc.inside.olabel; weight = w; next = c.arc.inside.next })) weight
           ∙ (ap (λ (zs : List (Arc Cost ℕ)). put_arc zs (behind_arc kind d (valued_arc value b))) c.loop-arc.invariant.arcs
