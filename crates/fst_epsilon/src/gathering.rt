@@ -1,6 +1,6 @@
 //! What a state gets from those that epsilon arcs reach from it.
 
-ghost use Rattle.std.specs.Prelude.{◌≡◌, ◌<◌, [], true, All, IfOk, IfSome, OnOk, length, map};
+ghost use Rattle.std.specs.Prelude.{◌≡◌, ◌<◌, ◌&&◌, [], nat_eq, true, All, IfOk, IfSome, OnOk, length, map};
 ghost use Rattle.fst_semiring.specs.Cost.{plus};
 ghost use Rattle.fst_semiring.specs.Semiring.{times, InRange, IsWide};
 ghost use Rattle.fst_machine.specs.Graph.{graph_of};
@@ -18,6 +18,13 @@ use fst_machine::{Fst, FstArc, WideArc};
 use fst_semiring::{Weight, is_zero};
 use std::alloc::AllocError;
 
+/// Whether both labels of an arc are 0.
+fn is_epsilon<V>(arc: &FstArc<V>) -> bool
+    ensures { result ≡ (nat_eq arc.now.ilabel 0 && nat_eq arc.now.olabel 0) }
+{
+    arc.ilabel == 0 && arc.olabel == 0
+}
+
 /// Puts those of these arcs that are not epsilon, each with a distance before its weight, and tells whether all these
 /// weights are in range; where one is not, it stops there.
 fn put_few<W: Weight>(
@@ -32,7 +39,7 @@ fn put_few<W: Weight>(
     ensures arcs { IfOk result (λ fits. fits ≡ true → map (valued_arc W.value) out.new.arcs.items ≡ merged (map (valued_arc W.value) out.old.arcs.items) (spoken W.KIND (W.value distance) (map (valued_arc W.value) arcs.now))) }
 {
     for arc in arcs {
-        if arc.ilabel == 0 && arc.olabel == 0 {
+        if is_epsilon(arc) {
             continue;
         }
         let Some(weight) = W::narrow(distance.times(arc.weight)) else {
@@ -60,7 +67,7 @@ fn put_arcs<W: Weight>(
     ensures arcs { OnOk result (map (valued_arc W.wide_value) out.new.arcs.items ≡ merged (map (valued_arc W.wide_value) out.old.arcs.items) (spoken W.KIND (W.wide_value distance) (map (valued_arc W.value) arcs.now))) }
 {
     for arc in arcs {
-        if arc.ilabel == 0 && arc.olabel == 0 {
+        if is_epsilon(arc) {
             continue;
         }
         out.put(WideArc::<W> {
@@ -118,7 +125,7 @@ pub(crate) fn gather_few<W: Weight>(
     ensures ends { IfOk result (λ o. IfSome o (λ last. W.value last ≡ best_final W.KIND (graph_of (valued W.value fst.now)) (pairs_of W.wide_value closure.now))) }
 {
     out.clear();
-    let mut last = W::zero().widen();
+    let mut ends = W::zero().widen();
     for item in closure {
         let arcs = fst.arcs(item.state);
         if !out.has_room(arcs.len()) {
@@ -130,7 +137,7 @@ pub(crate) fn gather_few<W: Weight>(
         if !put_few(out, arcs, distance)? {
             return Ok(None);
         }
-        last = better_end(last, item.distance, fst.final_weight(item.state));
+        ends = better_end(ends, item.distance, fst.final_weight(item.state));
     }
-    Ok(W::narrow(last))
+    Ok(W::narrow(ends))
 }

@@ -40,7 +40,7 @@ loop-item-preserved g c =
           ∙ (ap₂ (λ (done own : List (Arc Cost ℕ)). merged done (spoken kind d own)) c.loop-item.invariant.arcs (sym own)
           ∙ (sym (merged-append [] (collected kind graph front) (spoken kind d (graph.arcs b.state)))
           ∙ ap (merged []) (sym (ap (collected kind graph) on ∙ collected-push kind graph front b.state d)))));
-      ends = c.better_end-last.ensures
+      ends = c.better_end-ends.ensures
           ∙ (ap₂ plus c.loop-item.invariant.ends (ap (times kind d) ends)
           ∙ sym (ap (best_final kind graph) on ∙ best-push kind graph front b.state d));
     }

@@ -16,5 +16,5 @@ invariant-loop-item g l =
       marked : AreMarked l.out.spots l.out.arcs.items;
       range : All (λ a. InRange (value a.weight)) l.out.arcs.items;
       arcs : map (valued_arc value) l.out.arcs.items ≡ merged [] (collected g.W.Weight.KIND graph (take l.item-index (pairs_of wide l.closure)));
-      ends : wide l.last ≡ best_final g.W.Weight.KIND graph (take l.item-index (pairs_of wide l.closure));
+      ends : wide l.ends ≡ best_final g.W.Weight.KIND graph (take l.item-index (pairs_of wide l.closure));
     }
