@@ -22,24 +22,6 @@ pub merged-append : (done xs ys : List (Arc Cost ℕ)) → merged done (xs ++ ys
 merged-append done [] ys = refl
 merged-append done (x ∷ xs) ys = merged-append (put_arc done x) xs ys
 
--- an arc with a label that is not 0
-pub loud_input : (a : Arc Cost ℕ) → (a.ilabel ≡ 0 → ⊥) → is_silent a ≡ false
-loud_input a other = by (cases_Bool (is_silent a))
-  where
-    by : (is_silent a ≡ true) ⊎ (is_silent a ≡ false) → is_silent a ≡ false
-    by (inl e) = absurd (other (eqb-true a.ilabel 0 (and_parts (nat_eq a.ilabel 0) (nat_eq a.olabel 0) e).0))
-    by (inr e) = e
-
-pub loud_output : (a : Arc Cost ℕ) → (a.olabel ≡ 0 → ⊥) → is_silent a ≡ false
-loud_output a other = by (cases_Bool (is_silent a))
-  where
-    by : (is_silent a ≡ true) ⊎ (is_silent a ≡ false) → is_silent a ≡ false
-    by (inl e) = absurd (other (eqb-true a.olabel 0 (and_parts (nat_eq a.ilabel 0) (nat_eq a.olabel 0) e).1))
-    by (inr e) = e
-
-pub silent_labels : (a : Arc Cost ℕ) → a.ilabel ≡ 0 → a.olabel ≡ 0 → is_silent a ≡ true
-silent_labels a one two = and_from (nat_eq a.ilabel 0) (nat_eq a.olabel 0) (eq-eqb a.ilabel 0 one) (eq-eqb a.olabel 0 two)
-
 module _ (kind : ArcType) (c : Cost) where
   -- an epsilon arc more changes nothing
   pub spoken-silent : (arcs : List (Arc Cost ℕ)) (a : Arc Cost ℕ) → is_silent a ≡ true → spoken kind c (arcs ++ a ∷ []) ≡ spoken kind c arcs

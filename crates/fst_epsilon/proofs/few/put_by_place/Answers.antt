@@ -3,11 +3,11 @@ use Rattle.fst_machine.specs.Machine.{Arc, valued_arc}
 use Rattle.fst_epsilon.specs.Merging.{Betters, HasNoKey, IsFirstWithKey, key_of, spot_of}
 use Rattle.fst_epsilon.specs.declared.merged.ArcKey.{ArcKey}
 use Rattle.fst_epsilon.proofs.Putting.{none_marked, put_better, put_new}
-use Rattle.fst_epsilon.proofs.merged.put_by_place.Goals as goal
+use Rattle.fst_epsilon.proofs.few.put_by_place.Goals as goal
 
 pub returns-then-not-spots-spot-clause-arcs : goal.returns-then-not-spots-spot-clause-arcs
 returns-then-not-spots-spot-clause-arcs g c =
-    let value = g.W.Weight.wide_value in
+    let value = g.W.Weight.value in
     let arcs = c.args.arcs.now.items in
     let spots = c.args.spots.now in
     let place : c.spot_of-spot.result ≡ spot_of (key_of c.args.arc) = c.spot_of-spot.ensures.spot ∙ ap spot_of c.arc_key-key.ensures in
@@ -16,14 +16,14 @@ returns-then-not-spots-spot-clause-arcs g c =
 
 pub returns-in-Some-clause-arcs : goal.returns-in-Some-clause-arcs
 returns-in-Some-clause-arcs g c =
-    let value = g.W.Weight.wide_value in
+    let value = g.W.Weight.value in
     let arcs = c.args.arcs.now.items in
-    let first = subst₂ (λ (k : ArcKey) (zs : List (Arc g.row.W-Wide.Denot ℕ)). IsFirstWithKey k zs c.in-Some.place) c.arc_key-key.ensures c.as_slice.ensures.value c.in-Some.ensures in
+    let first = subst₂ (λ (k : ArcKey) (zs : List (Arc g.row.W.Denot ℕ)). IsFirstWithKey k zs c.in-Some.place) c.arc_key-key.ensures c.as_slice.ensures.value c.in-Some.ensures in
     sym (put_better value c.args.arc arcs c.better.new.arcs.items c.in-Some.place (value c.args.arc.weight) refl first.met first.first
-    (subst (λ (a : Arc g.row.W-Wide.Denot ℕ). Betters value c.in-Some.place (value a.weight) arcs c.better.new.arcs.items) c.arc.view_is c.better.ensures))
+    (subst (λ (a : Arc g.row.W.Denot ℕ). Betters value c.in-Some.place (value a.weight) arcs c.better.new.arcs.items) c.arc.view_is c.better.ensures.better))
 
 pub returns-in_ok-push-in-None-clause-arcs : goal.returns-in_ok-push-in-None-clause-arcs
 returns-in_ok-push-in-None-clause-arcs g c =
-    let value = g.W.Weight.wide_value in
+    let value = g.W.Weight.value in
     let arcs = c.args.arcs.now.items in
-    ap (map (valued_arc value)) c.in_ok-push-in-None.ensures.items ∙ sym (put_new value c.args.arc arcs (subst₂ (λ (k : ArcKey) (zs : List (Arc g.row.W-Wide.Denot ℕ)). HasNoKey k zs) c.arc_key-key.ensures c.as_slice.ensures.value c.in-None.ensures))
+    ap (map (valued_arc value)) c.in_ok-push-in-None.ensures.items ∙ sym (put_new value c.args.arc arcs (subst₂ (λ (k : ArcKey) (zs : List (Arc g.row.W.Denot ℕ)). HasNoKey k zs) c.arc_key-key.ensures c.as_slice.ensures.value c.in-None.ensures))

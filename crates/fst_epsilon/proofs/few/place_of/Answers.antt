@@ -3,7 +3,7 @@ use Rattle.std.proofs.lemmas.Option.{slice_get-get_or}
 use Rattle.fst_machine.specs.Machine.{Arc}
 use Rattle.fst_epsilon.specs.Merging.{same_key}
 use Rattle.fst_epsilon.proofs.Putting.{all_none, found_here, none_more}
-use Rattle.fst_epsilon.proofs.merged.place_of.Goals as goal
+use Rattle.fst_epsilon.proofs.few.place_of.Goals as goal
 
 read_there : {V : Type 0} (arcs : List (Arc V ℕ)) (i : ℕ) (x : Arc V ℕ) → i < length arcs → x ≡ get_or arcs i x → slice_get arcs i ≡ Some x
 read_there arcs i x low read = slice_get-get_or arcs i x low ∙ ap Some (sym read)
