@@ -2,7 +2,7 @@ use Rattle.std.proofs.Common.{◌≡◌, ◌++◌, drop, map, take}
 use Rattle.fst_machine.specs.Machine.{valued_arc}
 use Rattle.fst_text.specs.Entries.{arc_entry}
 use Rattle.fst_text.specs.Printed.{text_of_entries, unnamed_label}
-use Rattle.fst_text.proofs.printing.push_arcs.Given as goal
+use Rattle.fst_text.proofs.printing.push_named_arcs.Given as goal
 
 -- the lines of the arcs so far are appended, and the first label without a name is of an arc that is left
 abbrev pub invariant-loop-arc : goal.invariant-loop-arc
