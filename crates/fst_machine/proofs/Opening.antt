@@ -1,33 +1,11 @@
--- An open state gets an arc, or all its arcs are there.
-use Rattle.std.proofs.Common.{◌≡◌, ℕ, ◌+◌, ◌<◌, List, [], ◌∷◌, ◌++◌, length, take, drop, sym, ap, ◌∙◌, subst, arith}
+-- All arcs of the open state are there.
+use Rattle.std.proofs.Common.{◌≡◌, ℕ, List, [], ◌∷◌, ◌++◌, length, take, drop, sym, ap, ◌∙◌, subst, arith}
 use Rattle.std.specs.List.{All}
-use Rattle.std.proofs.lemmas.List.{drop-append-le, drop_all, length-append, length-drop, length-take-le, take-append-drop, take-append-le, take_all}
-use Rattle.fst_machine.specs.Machine.{Arc, arc_total, most_arcs}
+use Rattle.std.proofs.lemmas.List.{drop_all, length-drop, length-take-le, take-append-drop, take_all}
+use Rattle.fst_machine.specs.Machine.{Arc, arc_total}
 use Rattle.fst_machine.specs.Store.{Slot, LiesIn, kept_states}
 use Rattle.fst_machine.specs.OpenStates.{IsOpen, opened}
 use Rattle.fst_machine.proofs.Keeping.{Pushed, pushed}
-
--- the arcs of all states, and of the open one, are those of the store
-pub open_total : {V : Type 0} (slots : List (Slot V)) (store : List (Arc V ℕ)) (first : ℕ) → IsOpen slots store first → length store ≡ arc_total (opened slots store first).states + length (opened slots store first).arcs
-open_total slots store first is = omega (arith, is.within, is.counted, length-drop first store)
-
--- the open state with one more arc
-pub record OpenPut {V : Type 0} (slots : List (Slot V)) (store new : List (Arc V ℕ)) (first : ℕ) (a : Arc V ℕ) : Type 0 where
-  pub is : IsOpen slots new first
-  pub gives : opened slots new first ≡ record { states = (opened slots store first).states; arcs = (opened slots store first).arcs ++ a ∷ [] }
-
-pub open_put : {V : Type 0} (slots : List (Slot V)) (store new : List (Arc V ℕ)) (first : ℕ) (a : Arc V ℕ) → IsOpen slots store first → length store < most_arcs → new ≡ store ++ a ∷ [] → OpenPut slots store new first a
-open_put {V} slots store new first a is few grown =
-    let size : length (store ++ a ∷ []) ≡ length store + 1 = length-append store (a ∷ []) in
-    let before : take first (store ++ a ∷ []) ≡ take first store = take-append-le first store (a ∷ []) is.within in
-    let behind : drop first (store ++ a ∷ []) ≡ drop first store ++ a ∷ [] = drop-append-le first store (a ∷ []) is.within in
-    let there : OpenPut slots store (store ++ a ∷ []) first a =
-    record {
-      is = record { within = omega (arith, size, is.within); counted = is.counted ∙ ap (λ (xs : List (Arc V ℕ)). arc_total (kept_states xs [] slots)) (sym before); parts = is.parts; few_arcs = omega (arith, size, few) };
-      gives = ap (λ (xs : List (Arc V ℕ)). record { states = kept_states xs [] slots; arcs = drop first (store ++ a ∷ []) }) before
-          ∙ ap (λ (xs : List (Arc V ℕ)). record { states = kept_states (take first store) [] slots; arcs = xs }) behind;
-    } in
-    subst (λ (xs : List (Arc V ℕ)). OpenPut slots store xs first a) (sym grown) there
 
 -- the slot of the open state
 abbrev pub open_slot : {V : Type 0} → List (Arc V ℕ) → ℕ → V → Slot V

@@ -53,6 +53,10 @@ impl<W: Weight> OpenList<W> {
         ensures ok { OnOk result (self.new ≡ record self.old { arcs = self.old.arcs ++ arc ∷ [] }) }
         ensures err { OnErr result (self.new ≡ self.old) }
     {
+        if self.store.len() < self.store.capacity() {
+            self.store.push_reserved(arc);
+            return Ok(());
+        }
         self.store.push(arc)?;
         Ok(())
     }
