@@ -1,11 +1,11 @@
 -- How entries are found by keys, and how arcs and states are put one after the other.
-use Rattle.std.specs.Prelude.{◌≡◌, ℕ, Bool, true, false, List, [], ◌∷◌, ◌++◌, map, All}
+use Rattle.std.specs.Prelude.{◌≡◌, ℕ, Bool, List, map, All}
 use Rattle.std.specs.List.{AllZip}
 use Rattle.fst_semiring.specs.Cost.{Cost, class_of, first_of, second_of}
 use Rattle.fst_semiring.specs.declared.arc_type.ArcType.{ArcType}
 use Rattle.fst_semiring.specs.Semiring.{InRange}
 use Rattle.fst_machine.specs.Machine.{Arc, State}
-use Rattle.fst_machine.specs.BreadthFirst.{Grows, Has}
+use Rattle.fst_machine.specs.BreadthFirst.{Grows}
 use Rattle.fst_codex.specs.declared.entry_key.EntryKey.{EntryKey}
 use Rattle.fst_codex.specs.Table.{Entry, Table}
 use Rattle.fst_codex.specs.Encoded.{IsEncodedArc, IsEncodedState, arc_entries, entry_of}

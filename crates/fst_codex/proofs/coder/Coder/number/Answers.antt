@@ -1,4 +1,4 @@
-use Rattle.std.proofs.Common.{◌≤◌, ◌+◌, ◌∷◌, [], All, length, map, refl, sym, subst, arith}
+use Rattle.std.proofs.Common.{◌∷◌, [], map, refl, sym, subst}
 use Rattle.fst_machine.specs.BreadthFirst.{Grows}
 use Rattle.fst_codex.specs.EntryKeys.{valued_apart}
 use Rattle.fst_codex.specs.Table.{IsEntry, Table, valued_entry}
