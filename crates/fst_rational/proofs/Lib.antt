@@ -12,3 +12,4 @@ pub mod Concatenating
 pub mod Closing
 pub mod Reversing
 pub mod Backing
+pub mod Counting
