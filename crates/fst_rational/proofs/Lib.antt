@@ -13,3 +13,4 @@ pub mod Concatenating
 pub mod Closing
 pub mod Reversing
 pub mod Backing
+pub mod Counting
