@@ -30,6 +30,7 @@ pub(crate) fn is_shown<W: Weight>(options: &TextOptions, weight: W) -> bool
 }
 
 /// Writes a number so that it ends at `end`. Where it starts.
+#[inline(always)]
 pub(crate) fn write_number(line: &mut [u8; LINE_ROOM], end: usize, number: u32) -> usize
     requires { (10 ≤ end) × (end ≤ 65) }
     ensures start { (end ≤ result + 10) × (result ≤ end) }
@@ -39,6 +40,7 @@ pub(crate) fn write_number(line: &mut [u8; LINE_ROOM], end: usize, number: u32) 
 }
 
 /// Writes a tab and a number so that they end at `end`. Where they start.
+#[inline(always)]
 pub(crate) fn write_field(line: &mut [u8; LINE_ROOM], end: usize, number: u32) -> usize
     requires { (11 ≤ end) × (end ≤ 65) }
     ensures start { (end ≤ result + 11) × (result ≤ end) }
@@ -66,6 +68,7 @@ pub(crate) fn write_last_field(line: &mut [u8; LINE_ROOM], number: u32) -> usize
 }
 
 /// Writes a number with its sign so that it ends at `end`. Where it starts.
+#[inline(always)]
 fn write_signed(line: &mut [u8; LINE_ROOM], end: usize, number: i64) -> usize
     requires { (20 ≤ end) × (end ≤ 65) }
     ensures start { (end ≤ result + 20) × (result ≤ end) }
@@ -80,6 +83,7 @@ fn write_signed(line: &mut [u8; LINE_ROOM], end: usize, number: i64) -> usize
 }
 
 /// Writes a tab and a number with its sign so that they end at `end`. Where they start.
+#[inline(always)]
 fn write_signed_field(line: &mut [u8; LINE_ROOM], end: usize, number: i64) -> usize
     requires { (21 ≤ end) × (end ≤ 65) }
     ensures start { (end ≤ result + 21) × (result ≤ end) }
@@ -92,6 +96,7 @@ fn write_signed_field(line: &mut [u8; LINE_ROOM], end: usize, number: i64) -> us
 
 /// Writes the end of a line whose weight is a single number: the field of the weight, where it is not left out, and a
 /// line feed. Where it starts; `None` where the weight is no single number.
+#[inline(always)]
 pub(crate) fn write_weight<W: Weight>(
     line: &mut [u8; LINE_ROOM],
     options: &TextOptions,
@@ -110,6 +115,7 @@ pub(crate) fn write_weight<W: Weight>(
 }
 
 /// Writes the fields of the labels of an arc, which are numbers, so that they end at `end`. Where they start.
+#[inline(always)]
 fn write_labels<W: Weight>(
     line: &mut [u8; LINE_ROOM],
     end: usize,
@@ -131,6 +137,7 @@ fn write_labels<W: Weight>(
 
 /// Writes the line of an arc whose labels are numbers up to the field of its weight, so that it ends at `end`. Where it
 /// starts.
+#[inline(always)]
 pub(crate) fn write_arc<W: Weight>(
     line: &mut [u8; LINE_ROOM],
     end: usize,
