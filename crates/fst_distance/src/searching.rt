@@ -58,7 +58,7 @@ fn look<W: Weight, V: Copy, M: Widens<W, V>, Q: StateQueue>(
         if !is_open(marks, link.next) {
             continue;
         }
-        let value = M::product(link.weight, so_far);
+        let value = W::wide_times(M::widened(link.weight), so_far);
         let step = Step {
             state,
             place: link.place,

@@ -8,7 +8,7 @@ use fst_trim::AsMachine;
 /// most 10 to the 18, and `WideFst`, of whose weights it has to be known that they are at most 2 to the 70.
 pub trait Widens<W: Weight, V: Copy>: AsMachine<V> {
     ghost use Rattle.std.specs.Prelude.{◌≡◌, ◌≤◌, ℕ};
-    ghost use Rattle.fst_semiring.specs.Semiring.{IsCost, IsWide, Within, times};
+    ghost use Rattle.fst_semiring.specs.Semiring.{Within};
     ghost use Rattle.fst_distance.specs.Searching.{most_number};
 
     /// What has to be known of a weight beforehand.
@@ -22,14 +22,6 @@ pub trait Widens<W: Weight, V: Copy>: AsMachine<V> {
         requires { known weight }
         ensures same { W.wide_value result ≡ Self.value weight }
         ensures range { Within bound (W.wide_value result) };
-
-    /// Times of the weight and a distance, whose numbers have absolute value below 2 to the 120. Takes no memory.
-    fn product(weight: V, distance: W::Wide) -> W::Wide
-        requires known { known weight }
-        requires wide { IsWide (W.wide_value distance) }
-        ensures product { W.wide_value result ≡ times W.KIND (Self.value weight) (W.wide_value distance) }
-        ensures kind { IsCost W.KIND (W.wide_value result) }
-        ensures range { Within bound (Self.value weight) };
 
     // The numbers are few enough.
     ghost few: { bound ≤ most_number };
@@ -47,15 +39,6 @@ impl<W: Weight> Widens<W, W> for Fst<W> {
     fn widened(weight: W) -> W::Wide {
         weight.widen()
     }
-
-    // Mostly the distance is in range, and what is narrow is multiplied faster.
-    fn product(weight: W, distance: W::Wide) -> W::Wide {
-        let wide = weight.widen();
-        match W::narrow(distance) {
-            Some(near) => weight.times(near),
-            None => W::wide_times(wide, distance),
-        }
-    }
 }
 
 impl<W: Weight> Widens<W, W::Wide> for WideFst<W> {
@@ -71,9 +54,5 @@ impl<W: Weight> Widens<W, W::Wide> for WideFst<W> {
 
     fn widened(weight: W::Wide) -> W::Wide {
         weight
-    }
-
-    fn product(weight: W::Wide, distance: W::Wide) -> W::Wide {
-        W::wide_times(weight, distance)
     }
 }
