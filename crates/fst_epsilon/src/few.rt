@@ -91,6 +91,9 @@ fn put_by_place<W: Weight>(
 /// Few arcs no two of which are alike, in the order in which the first of each came.
 #[derive(Drop)]
 pub(crate) struct Few<W: Weight> {
+    /// What stands before the weights of the arcs that are put. It stands beside them, so that nothing is worked out of it
+    /// for each state which no arc of the state needs.
+    pub(crate) distance: W,
     /// Which of 64 spots an arc has.
     pub(crate) spots: [bool; 64],
     /// The arcs.
@@ -101,6 +104,7 @@ impl<W: Weight> Few<W> {
     /// No arcs. Takes no memory.
     pub(crate) fn new(alloc: Global) -> Few<W> {
         Few {
+            distance: W::one(),
             spots: [false; 64],
             arcs: Vec::new(alloc),
         }
@@ -117,7 +121,7 @@ impl<W: Weight> Few<W> {
 
     /// Whether with so many more there are still few.
     pub(crate) fn has_room(&self, count: usize) -> bool {
-        count <= FEW.saturating_sub(self.arcs.len())
+        count <= FEW && self.arcs.len() <= FEW - count
     }
 
     /// Puts an arc after the others, or its weight into the one that is like it, where it is better.
@@ -125,6 +129,7 @@ impl<W: Weight> Few<W> {
         requires marked { AreMarked self.old.spots self.old.arcs.items }
         requires range { All (λ a. InRange (W.value a.weight)) self.old.arcs.items }
         requires own { InRange (W.value arc.weight) }
+        ensures distance { self.new.distance ≡ self.old.distance }
         ensures marked { OnOk result (AreMarked self.new.spots self.new.arcs.items) }
         ensures range { OnOk result (All (λ a. InRange (W.value a.weight)) self.new.arcs.items) }
         ensures arcs { OnOk result (map (valued_arc W.value) self.new.arcs.items ≡ put_arc (map (valued_arc W.value) self.old.arcs.items) (valued_arc W.value arc)) }

@@ -38,11 +38,12 @@ fn put_few<W: Weight>(
     ensures range { OnOk result (All (λ a. InRange (W.value a.weight)) out.new.arcs.items) }
     ensures arcs { IfOk result (λ fits. fits ≡ true → map (valued_arc W.value) out.new.arcs.items ≡ merged (map (valued_arc W.value) out.old.arcs.items) (spoken W.KIND (W.value distance) (map (valued_arc W.value) arcs.now))) }
 {
+    out.distance = distance;
     for arc in arcs {
         if is_epsilon(arc) {
             continue;
         }
-        let Some(weight) = W::narrow(distance.times(arc.weight)) else {
+        let Some(weight) = W::narrow(out.distance.times(arc.weight)) else {
             return Ok(false);
         };
         out.put(FstArc {

@@ -20,6 +20,7 @@ loop-arc-preserved-then-is_epsilon g c =
     let on : spoken kind d (take (i + 1) (map (valued_arc value) arcs)) ≡ spoken kind d (take i (map (valued_arc value) arcs)) =
     ap (spoken kind d) (taken (valued_arc value) arcs i b there) ∙ spoken-silent kind d (take i (map (valued_arc value) arcs)) (valued_arc value b) (ap (λ (a : Arc g.row.W.Denot ℕ). is_silent (valued_arc value a)) c.arc.view_is ∙ (sym c.is_epsilon.ensures ∙ c.if-is_epsilon.true)) in
     record {
+      distance = c.loop-arc.invariant.distance;
       marked = c.loop-arc.invariant.marked;
       range = c.loop-arc.invariant.range;
       arcs = c.loop-arc.invariant.arcs ∙ ap (merged (map (valued_arc value) c.args.out.now.arcs.items)) (sym on);
@@ -39,8 +40,9 @@ loop-arc-preserved g c =
     let loud : is_silent (valued_arc value b) ≡ false = ap (λ (a : Arc g.row.W.Denot ℕ). is_silent (valued_arc value a)) c.arc.view_is ∙ (sym c.is_epsilon.ensures ∙ c.if-is_epsilon.false) in
     let on : spoken kind d (take (i + 1) (map (valued_arc value) arcs)) ≡ so_far ++ behind_arc kind d (valued_arc value b) ∷ [] =
     ap (spoken kind d) (taken (valued_arc value) arcs i b there) ∙ spoken-loud kind d (take i (map (valued_arc value) arcs)) (valued_arc value b) loud in
-    let weight : value c.in-Some.weight ≡ times kind d (value c.arc.inside.weight) = c.in-Some.ensures.found ∙ c.times.ensures.product in
+    let weight : value c.in-Some.weight ≡ times kind d (value c.arc.inside.weight) = c.in-Some.ensures.found ∙ (c.times.ensures.product ∙ ap (λ (e : g.row.W.Denot). times kind (value e) (value c.arc.inside.weight)) c.loop-arc.invariant.distance) in
     record {
+      distance = c.put.ensures.distance ∙ c.loop-arc.invariant.distance;
       marked = c.in_ok-put.ensures.marked;
       range = c.in_ok-put.ensures.range;
       arcs = c.in_ok-put.ensures.arcs

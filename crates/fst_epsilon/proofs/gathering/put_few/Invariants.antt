@@ -9,7 +9,8 @@ abbrev pub invariant-loop-arc : goal.invariant-loop-arc
 invariant-loop-arc g l =
     let value = g.W.Weight.value in
     record {
+      distance : l.out.distance ≡ l.fn.distance;
       marked : AreMarked l.out.spots l.out.arcs.items;
       range : All (λ a. InRange (value a.weight)) l.out.arcs.items;
-      arcs : map (valued_arc value) l.out.arcs.items ≡ merged (map (valued_arc value) l.fn.out.arcs.items) (spoken g.W.Weight.KIND (value l.distance) (take l.arc-index (map (valued_arc value) l.arcs)));
+      arcs : map (valued_arc value) l.out.arcs.items ≡ merged (map (valued_arc value) l.fn.out.arcs.items) (spoken g.W.Weight.KIND (value l.fn.distance) (take l.arc-index (map (valued_arc value) l.arcs)));
     }
