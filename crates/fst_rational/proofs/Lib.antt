@@ -6,6 +6,7 @@ pub mod Reading
 pub mod Blocks
 pub mod Sizes
 pub mod Putting
+pub mod Carrying
 pub mod Uniting
 pub mod Continued
 pub mod Concatenating

@@ -187,7 +187,7 @@ impl<'a, W: Weight> Construction<W> for Reversing<'a, W> {
         (states + 1, arcs)
     }
 
-    fn build(&self, alloc: Global, needed: (u32, u32)) -> Result<Fst<W>, AllocError> {
+    fn build(self, alloc: Global, needed: (u32, u32)) -> Result<Fst<W>, AllocError> {
         build(alloc, self.a, needed)
     }
 }
@@ -203,5 +203,5 @@ pub fn reverse<W: Weight>(alloc: Global, a: &Fst<W>) -> Result<Fst<W>, RationalF
 {
     // What holds of the operand.
     let _states = a.states();
-    construct(alloc, &Reversing { a })
+    construct(alloc, Reversing { a })
 }

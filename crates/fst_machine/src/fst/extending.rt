@@ -1,7 +1,7 @@
 //! The states of a machine that is given away, to which more are put.
 
-ghost use Rattle.std.specs.Prelude.{◌≡◌, ◌≤◌, ◌+◌, ◌∷◌, All, IfErr, IfOk, OnErr, OnOk, length, map};
-ghost use Rattle.fst_machine.specs.Extending.{HasRoom, shifted_state, wrapped};
+ghost use Rattle.std.specs.Prelude.{◌≡◌, ◌≤◌, ◌<◌, ◌+◌, ◌∷◌, ◌++◌, [], All, IfErr, IfOk, OnErr, OnOk, drop, length, map, take};
+ghost use Rattle.fst_machine.specs.Extending.{HasRoom, shifted, shifted_state, wrapped};
 ghost use Rattle.fst_machine.specs.Machine.{arc_total, most_arcs};
 
 use super::{Fst, StateList};
@@ -41,13 +41,31 @@ fn shift_arcs<V: Copy>(store: &mut [FstArc<V>], by: u32)
     }
 }
 
+/// The same from a place on.
+fn shift_behind<V: Copy>(store: &mut [FstArc<V>], first: usize, by: u32)
+    requires { first ≤ length store.old }
+    ensures { store.new ≡ take first store.old ++ map (wrapped by) (drop first store.old) }
+{
+    shift_arcs(&mut store[first..], by);
+}
+
 impl<W: Weight> StateList<W> {
-    /// Takes room for so many more states and arcs.
+    /// The number of states. Takes no memory.
+    #[tactic(auto, using(crate::proofs::Keeping::kept_length))]
+    pub fn len(&self) -> usize
+        ensures { result ≡ length self.now }
+    {
+        self.slots.len()
+    }
+
+    /// Takes room for so many states and arcs in all.
     pub fn reserve(&mut self, states: usize, arcs: usize) -> Result<(), AllocError>
         ensures { self.new ≡ self.old }
     {
-        self.slots.reserve_exact(states)?;
-        self.store.reserve_exact(arcs)
+        let more = states.saturating_sub(self.slots.len());
+        self.slots.reserve_exact(more)?;
+        let more = arcs.saturating_sub(self.store.len());
+        self.store.reserve_exact(more)
     }
 
     /// Each arc leads so many places further on. Takes no memory.
@@ -73,6 +91,32 @@ impl<W: Weight> StateList<W> {
         self.store.reserve(arcs.len())?;
         self.slots.insert(0, Slot { last, first, count })?;
         self.store.extend_from_slice(arcs)?;
+        Ok(())
+    }
+
+    /// Puts a state behind the others whose arcs are these, so many places further on. After an `Err` the list is as
+    /// before.
+    pub fn push_shifted(
+        &mut self,
+        last: W,
+        arcs: &[FstArc<W>],
+        by: u32,
+    ) -> Result<(), AllocError>
+        requires room { arc_total self.old + length arcs.now ≤ most_arcs }
+        requires places { All (λ a. by + a.next < 4294967296) arcs.now }
+        ensures ok { OnOk result (self.new ≡ self.old ++ record { final = last; arcs = map (shifted by) arcs.now } ∷ []) }
+        ensures err { OnErr result (self.new ≡ self.old) }
+    {
+        let first = self.store.len();
+        let count = arcs.len() as u32;
+        self.slots.reserve(1)?;
+        self.store.extend_from_slice(arcs)?;
+        shift_behind(self.store.as_mut_slice(), first, by);
+        self.slots.push_reserved(Slot {
+            last,
+            first: first as u32,
+            count,
+        });
         Ok(())
     }
 }
