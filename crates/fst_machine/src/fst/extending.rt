@@ -13,7 +13,8 @@ use std::alloc::AllocError;
 
 impl<W: Weight> Fst<W> {
     /// The states of a machine that is given away, to which more may be put; the machine as it was where arcs of some of
-    /// its states stand apart from those of the others. Takes no memory.
+    /// its states stand apart from those of the others, or some of the arcs that are kept are not in the place of one
+    /// state alone. Takes no memory.
     pub fn extend(self) -> Result<StateList<W>, Fst<W>>
         ensures states { IfOk result (λ states. states ≡ self.states) }
         ensures given { IfErr result (λ fst. fst ≡ self) }
@@ -96,12 +97,7 @@ impl<W: Weight> StateList<W> {
 
     /// Puts a state behind the others whose arcs are these, so many places further on. After an `Err` the list is as
     /// before.
-    pub fn push_shifted(
-        &mut self,
-        last: W,
-        arcs: &[FstArc<W>],
-        by: u32,
-    ) -> Result<(), AllocError>
+    pub fn push_shifted(&mut self, last: W, arcs: &[FstArc<W>], by: u32) -> Result<(), AllocError>
         requires room { arc_total self.old + length arcs.now ≤ most_arcs }
         requires places { All (λ a. by + a.next < 4294967296) arcs.now }
         ensures ok { OnOk result (self.new ≡ self.old ++ record { final = last; arcs = map (shifted by) arcs.now } ∷ []) }
