@@ -1,8 +1,8 @@
 -- States whose arcs lead further on, and a state in front of others.
-use Rattle.std.proofs.Common.{◌≡◌, ℕ, suc, ◌+◌, ◌<◌, ◌≤◌, List, [], ◌∷◌, ◌++◌, length, map, take, drop, refl, sym, ap, ◌∙◌, subst, append-nil, arith}
+use Rattle.std.proofs.Common.{◌≡◌, ℕ, suc, ◌+◌, ◌<◌, ◌≤◌, List, [], ◌∷◌, ◌++◌, length, map, take, drop, refl, sym, ap, ap₂, ◌∙◌, subst, append-nil, arith}
 use Rattle.std.specs.List.{All, AllByRecursion}
 use Rattle.std.proofs.Math.Nat.{mod-eq_of_lt}
-use Rattle.std.proofs.lemmas.List.{drop-map, drop_all, length-append, length-map, take-append-drop, take-map, take_all}
+use Rattle.std.proofs.lemmas.List.{drop-map, drop_at, take-append-le, drop_all, length-append, length-map, take-append-drop, take-map, take_all}
 use Rattle.std.proofs.lemmas.List.Elements.{All-cons, All-weaker, recursion_from_All}
 use Rattle.std.proofs.lemmas.List.Sums.{sum_by-cons}
 use Rattle.fst_machine.specs.Extending.{HasRoom, shifted, shifted_state, wrapped}
@@ -104,3 +104,22 @@ pub written_each : {V : Type 0} (by len : ℕ) (old lent new : List (Arc V ℕ))
 written_each by len old lent new same count is =
     let all : new ≡ map (wrapped by) old = is ∙ ap (map (wrapped by)) same in
     written_back old new len (sym count ∙ ap length same) (ap length all ∙ length-map old (wrapped by)) ∙ all
+
+-- arcs at the end of a store were changed
+pub written_behind : {V : Type 0} (by len first : ℕ) (store arcs grown lent new : List (Arc V ℕ)) → first ≡ length store → AllByRecursion (λ a. by + a.next < 4294967296) arcs → grown ≡ store ++ arcs → lent ≡ grown → length lent ≡ len → new ≡ take first lent ++ map (wrapped by) (drop first lent) → take len (new ++ drop (length new) grown) ≡ store ++ map (shifted by) arcs
+written_behind {V} by len first store arcs grown lent new behind room grows same count is =
+    let whole : lent ≡ store ++ arcs = same ∙ grows in
+    let front : take first lent ≡ store = ap (take first) whole ∙ (ap (λ (k : ℕ). take k (store ++ arcs)) behind ∙ take_left store arcs) in
+    let back : drop first lent ≡ arcs = ap (drop first) whole ∙ drop_at store arcs first (sym behind) in
+    let all : new ≡ store ++ map (shifted by) arcs = is ∙ (ap₂ (λ (xs ys : List (Arc V ℕ)). xs ++ map (wrapped by) ys) front back ∙ ap (λ ys. store ++ ys) (wrapped_here by arcs room)) in
+    let size : length new ≡ length grown = ap length all ∙ (length-append store (map (shifted by) arcs) ∙ (ap (λ (k : ℕ). length store + k) (length-map arcs (shifted by)) ∙ (sym (length-append store arcs) ∙ ap length (sym grows)))) in
+    written_back grown new len (sym count ∙ ap length same) size ∙ all
+  where
+    take_left : (xs ys : List (Arc V ℕ)) → take (length xs) (xs ++ ys) ≡ xs
+    take_left xs ys = take-append-le (length xs) xs ys (omega arith) ∙ take_all (length xs) xs (omega arith)
+
+-- a slot of arcs that were changed, as many
+pub shifted_slot : {V : Type 0} (by first : ℕ) (store arcs : List (Arc V ℕ)) (slots reserved new : List (Slot V)) (w : V) → first ≡ length store → reserved ≡ slots → new ≡ reserved ++ record { final = w; first = first; count = length arcs } ∷ [] → new ≡ slots ++ slot_behind store w (map (shifted by) arcs) ∷ []
+shifted_slot by first store arcs slots reserved new w behind same put =
+    put ∙ (ap (λ ss. ss ++ record { final = w; first = first; count = length arcs } ∷ []) same
+    ∙ (ap (λ n. slots ++ record { final = w; first = n; count = length arcs } ∷ []) behind ∙ ap (λ n. slots ++ record { final = w; first = length store; count = n } ∷ []) (sym (length-map arcs (shifted by)))))

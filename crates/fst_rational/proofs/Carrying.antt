@@ -1,6 +1,7 @@
 -- The states of an operand, carried over where they stand.
-use Rattle.std.proofs.Common.{◌≡◌, ℕ, ◌+◌, ◌<◌, ◌≤◌, true, List, [], ◌∷◌, None, length, map, refl, sym, ap, ◌∙◌, append-nil, arith}
+use Rattle.std.proofs.Common.{◌≡◌, ℕ, ◌+◌, ◌<◌, ◌≤◌, true, List, [], ◌∷◌, ◌++◌, None, length, map, refl, sym, ap, ◌∙◌, append-nil, arith}
 use Rattle.std.specs.List.{All}
+use Rattle.std.proofs.lemmas.List.{length-map, map-append}
 use Rattle.std.proofs.lemmas.List.Elements.{All-weaker}
 use Rattle.fst_semiring.specs.Cost.{Cost}
 use Rattle.fst_machine.specs.Extending.{HasRoom, shifted, shifted_state}
@@ -24,6 +25,19 @@ module _ {V : Type 0} (value : V → Cost) (by : ℕ) where
   shifted_carried (s ∷ states) =
       ap (λ (zs : List (Arc Cost ℕ)). record { final = value s.final; arcs = zs } ∷ map (valued_state value) (map (shifted_state by) states)) (valued_shifted s.arcs ∙ sym (append-nil (map (renamed (λ p. by + p)) (map (valued_arc value) s.arcs))))
       ∙ ap (λ (ss : List (State Cost)). carried by true None (valued_state value s) ∷ ss) (shifted_carried states)
+
+  -- there is room for those of one state
+  pub has_places : (arcs : List (Arc V ℕ)) → by ≤ most_states → All (IsArc value most_states) arcs → All (λ a. by + a.next < 4294967296) arcs
+  has_places arcs small good = All-weaker (IsArc value most_states) (λ a. by + a.next < 4294967296) (λ a is. omega (arith, small, is.next)) arcs good
+
+  -- and it has as many
+  pub carried_size : (last : V) (arcs : List (Arc V ℕ)) → length (carried by true None (record { final = value last; arcs = map (valued_arc value) arcs })).arcs ≡ length arcs
+  carried_size last arcs = ap length (append-nil (map (renamed (λ p. by + p)) (map (valued_arc value) arcs))) ∙ (length-map (map (valued_arc value) arcs) (renamed {N = ℕ} {M = ℕ} (λ p. by + p)) ∙ length-map arcs (valued_arc value))
+
+  -- a shifted state was put behind others
+  pub carried_put : (old new : List (State V)) (last : V) (arcs : List (Arc V ℕ)) → new ≡ old ++ record { final = last; arcs = map (shifted by) arcs } ∷ [] → map (valued_state value) new ≡ map (valued_state value) old ++ carried by true None (record { final = value last; arcs = map (valued_arc value) arcs }) ∷ []
+  carried_put old new last arcs put =
+      ap (map (valued_state value)) put ∙ (map-append (valued_state value) old (record { final = last; arcs = map (shifted by) arcs } ∷ []) ∙ ap (λ (ss : List (State Cost)). map (valued_state value) old ++ ss) (shifted_carried (record { final = last; arcs = arcs } ∷ [])))
 
 -- the arcs of a machine lead to states of which there may be
 pub low_arcs : {V : Type 0} (value : V → Cost) (m : Machine V) → IsMachine value m → All (λ s. All (IsArc value most_states) s.arcs) m.states

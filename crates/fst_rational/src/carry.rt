@@ -1,10 +1,10 @@
-//! The states of an operand that is given away, carried over where they stand.
+//! The states of operands in the room of one that is given away.
 
-ghost use Rattle.std.specs.Prelude.{◌≡◌, ◌≤◌, ◌+◌, ◌∷◌, None, All, OnOk, length, map, true};
+ghost use Rattle.std.specs.Prelude.{◌≡◌, ◌≤◌, ◌+◌, ◌∷◌, ◌++◌, [], None, All, OnOk, length, map, true};
 ghost use Rattle.fst_machine.specs.Machine.{IsArc, arc_total, most_arcs, most_states, valued_arc, valued_state};
 ghost use Rattle.fst_rational.specs.Constructions.{carried};
 
-use fst_machine::{FstArc, StateList};
+use fst_machine::{Fst, FstArc, StateList};
 use fst_semiring::Weight;
 use std::alloc::AllocError;
 
@@ -27,4 +27,36 @@ pub(crate) fn put_front<W: Weight>(
     ensures { OnOk result (map (valued_state W.value) list.new ≡ record { final = W.value last; arcs = map (valued_arc W.value) own.now } ∷ map (valued_state W.value) list.old) }
 {
     list.push_front(last, own)
+}
+
+/// Puts a state, so many places further on, behind the others.
+fn push_state<W: Weight>(
+    list: &mut StateList<W>,
+    last: W,
+    arcs: &[FstArc<W>],
+    by: u32,
+) -> Result<(), AllocError>
+    requires small { by ≤ most_states }
+    requires good { All (IsArc W.value most_states) arcs.now }
+    requires room { arc_total list.old + length (carried by true None (record { final = W.value last; arcs = map (valued_arc W.value) arcs.now })).arcs ≤ most_arcs }
+    ensures { OnOk result (map (valued_state W.value) list.new ≡ map (valued_state W.value) list.old ++ carried by true None (record { final = W.value last; arcs = map (valued_arc W.value) arcs.now }) ∷ []) }
+{
+    list.push_shifted(last, arcs, by)?;
+    Ok(())
+}
+
+/// Puts the states of a machine, so many places further on, behind the others. Their final weights stay.
+pub(crate) fn push_states<W: Weight>(
+    list: &mut StateList<W>,
+    fst: &Fst<W>,
+    by: u32,
+) -> Result<(), AllocError>
+    requires small { by ≤ most_states }
+    requires room { arc_total list.old + arc_total (map (carried by true None) (map (valued_state W.value) fst.now.states)) ≤ most_arcs }
+    ensures { OnOk result (map (valued_state W.value) list.new ≡ map (valued_state W.value) list.old ++ map (carried by true None) (map (valued_state W.value) fst.now.states)) }
+{
+    for state in 0..fst.states() {
+        push_state(list, fst.final_weight(state), fst.arcs(state), by)?;
+    }
+    Ok(())
 }

@@ -6,7 +6,7 @@ ghost use Rattle.fst_rational.specs.Constructions.{entry, union_of, union_start}
 ghost use Rattle.fst_rational.specs.Limits.{IsLimited, IsSize, IsSmall};
 ghost use Rattle.fst_rational.specs.Relations.{Unites};
 
-use crate::carry::{put_front, shift_states};
+use crate::carry::{push_states, put_front, shift_states};
 use crate::change::{Carrying, put_entry, put_states};
 use crate::construction::{Construction, construct};
 use crate::fault::RationalFault;
@@ -127,14 +127,9 @@ fn build_onto<W: Weight>(
     let _states = b.states();
     list.reserve(needed.0 as usize, needed.1 as usize)?;
     shift_states(&mut list, 1);
-    let mut own = entering(alloc, start, behind, b.start())?;
+    let own = entering(alloc, start, behind, b.start())?;
     put_front(&mut list, W::zero(), &own)?;
-    let second = Carrying {
-        shift: behind,
-        keeps: true,
-        target: None,
-    };
-    put_states(&mut list, &mut own, &second, b)?;
+    push_states(&mut list, b, behind)?;
     Ok(list.into_machine(Some(0)))
 }
 

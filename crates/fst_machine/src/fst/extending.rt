@@ -1,7 +1,7 @@
 //! The states of a machine that is given away, to which more are put.
 
-ghost use Rattle.std.specs.Prelude.{◌≡◌, ◌≤◌, ◌+◌, ◌∷◌, All, IfErr, IfOk, OnErr, OnOk, length, map};
-ghost use Rattle.fst_machine.specs.Extending.{HasRoom, shifted_state, wrapped};
+ghost use Rattle.std.specs.Prelude.{◌≡◌, ◌≤◌, ◌<◌, ◌+◌, ◌∷◌, ◌++◌, [], All, IfErr, IfOk, OnErr, OnOk, drop, length, map, take};
+ghost use Rattle.fst_machine.specs.Extending.{HasRoom, shifted, shifted_state, wrapped};
 ghost use Rattle.fst_machine.specs.Machine.{arc_total, most_arcs};
 
 use super::{Fst, StateList};
@@ -13,7 +13,8 @@ use std::alloc::AllocError;
 
 impl<W: Weight> Fst<W> {
     /// The states of a machine that is given away, to which more may be put; the machine as it was where arcs of some of
-    /// its states stand apart from those of the others. Takes no memory.
+    /// its states stand apart from those of the others, or some of the arcs that are kept are not in the place of one
+    /// state alone. Takes no memory.
     pub fn extend(self) -> Result<StateList<W>, Fst<W>>
         ensures states { IfOk result (λ states. states ≡ self.states) }
         ensures given { IfErr result (λ fst. fst ≡ self) }
@@ -39,6 +40,14 @@ fn shift_arcs<V: Copy>(store: &mut [FstArc<V>], by: u32)
             next: by.wrapping_add(arc.next),
         };
     }
+}
+
+/// The same from a place on.
+fn shift_behind<V: Copy>(store: &mut [FstArc<V>], first: usize, by: u32)
+    requires { first ≤ length store.old }
+    ensures { store.new ≡ take first store.old ++ map (wrapped by) (drop first store.old) }
+{
+    shift_arcs(&mut store[first..], by);
 }
 
 impl<W: Weight> StateList<W> {
@@ -83,6 +92,27 @@ impl<W: Weight> StateList<W> {
         self.store.reserve(arcs.len())?;
         self.slots.insert(0, Slot { last, first, count })?;
         self.store.extend_from_slice(arcs)?;
+        Ok(())
+    }
+
+    /// Puts a state behind the others whose arcs are these, so many places further on. After an `Err` the list is as
+    /// before.
+    pub fn push_shifted(&mut self, last: W, arcs: &[FstArc<W>], by: u32) -> Result<(), AllocError>
+        requires room { arc_total self.old + length arcs.now ≤ most_arcs }
+        requires places { All (λ a. by + a.next < 4294967296) arcs.now }
+        ensures ok { OnOk result (self.new ≡ self.old ++ record { final = last; arcs = map (shifted by) arcs.now } ∷ []) }
+        ensures err { OnErr result (self.new ≡ self.old) }
+    {
+        let first = self.store.len();
+        let count = arcs.len() as u32;
+        self.slots.reserve(1)?;
+        self.store.extend_from_slice(arcs)?;
+        shift_behind(self.store.as_mut_slice(), first, by);
+        self.slots.push_reserved(Slot {
+            last,
+            first: first as u32,
+            count,
+        });
         Ok(())
     }
 }
