@@ -6,7 +6,7 @@ use Rattle.std.proofs.lemmas.List.Elements.{All-cons, All-nil}
 use Rattle.std.proofs.lemmas.List.Sums.{sum_by-cons}
 use Rattle.fst_machine.specs.Machine.{Arc, State, arc_total, bare_state, changed, with_arc}
 use Rattle.fst_machine.specs.Placing.{AreInRooms, ArePlaced, Placed, arc_counts, begin_of, rooms_of}
-use Rattle.fst_machine.specs.Store.{Slot, LiesIn, kept_from, kept_state, kept_states, slot_arcs}
+use Rattle.fst_machine.specs.Store.{Slot, LiesIn, kept_from, kept_states, slot_arcs}
 use Rattle.fst_machine.proofs.Keeping.{kept_from-push, none_apart}
 use Rattle.fst_machine.proofs.Retaining.{arcs_here}
 

@@ -1,6 +1,5 @@
-use Rattle.std.proofs.Common.{◌≡◌, ◌∷◌, ◌++◌, [], ◌+◌, ◌≤◌, length, sym, ap, ◌∙◌, arith}
-use Rattle.fst_machine.specs.Placing.{Placed}
-use Rattle.fst_machine.proofs.Rooms.{ArePlaced-push, placed_of, seen-push, slot_at}
+use Rattle.std.proofs.Common.{◌+◌, length, ap, ◌∙◌, arith}
+use Rattle.fst_machine.proofs.Rooms.{ArePlaced-push, placed_of, seen-push}
 use Rattle.fst_machine.proofs.fst.placing.Placing.push.Goals as goal
 
 pub invariant_of-self-2 : goal.invariant_of-self-2

@@ -1,8 +1,6 @@
 use Rattle.std.proofs.Common.{◌≡◌, length, rules, vec_len, arith}
-use Rattle.fst_machine.specs.Store.{Slot}
 use Rattle.fst_machine.proofs.Changes.{read_as}
-use Rattle.fst_machine.proofs.Rooms.{ArePlaced-put, IsPut, put_seen, seen-put, slot_there}
-use Rattle.fst_machine.proofs.fst.placing.Placing.put.Given as given
+use Rattle.fst_machine.proofs.Rooms.{ArePlaced-put, put_seen, seen-put, slot_there}
 use Rattle.fst_machine.proofs.fst.placing.Placing.put.Goals as goal
 
 pub index_mut-slot-requires : goal.index_mut-slot-requires
