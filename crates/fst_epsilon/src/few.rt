@@ -5,7 +5,7 @@ ghost use Rattle.std.specs.Prelude.{◌≡◌, ◌<◌, [], All, MatchOption, On
 ghost use Rattle.fst_semiring.specs.Semiring.{InRange};
 ghost use Rattle.fst_machine.specs.Machine.{valued_arc};
 ghost use Rattle.fst_epsilon.specs.Construction.{put_arc};
-ghost use Rattle.fst_epsilon.specs.Merging.{AreMarked, Betters, HasNoKey, IsFirstWithKey, key_of, same_key, spot_of};
+ghost use Rattle.fst_epsilon.specs.Merging.{AreMarked, Betters, HasNoKey, IsFirstWithKey, same_key, spot_of};
 
 use crate::merged::{ArcKey, arc_key};
 use fst_machine::FstArc;

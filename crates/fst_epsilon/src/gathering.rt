@@ -27,11 +27,7 @@ fn is_epsilon<V>(arc: &FstArc<V>) -> bool
 
 /// Puts those of these arcs that are not epsilon, each with a distance before its weight, and tells whether all these
 /// weights are in range; where one is not, it stops there.
-fn put_few<W: Weight>(
-    out: &mut Few<W>,
-    arcs: &[FstArc<W>],
-    distance: W,
-) -> Result<bool, AllocError>
+fn put_few<W: Weight>(out: &mut Few<W>, arcs: &[FstArc<W>], distance: W) -> Result<bool, AllocError>
     requires marked { AreMarked out.old.spots out.old.arcs.items }
     requires range { All (λ a. InRange (W.value a.weight)) out.old.arcs.items }
     ensures marked { OnOk result (AreMarked out.new.spots out.new.arcs.items) }
