@@ -4,6 +4,7 @@ ghost use Rattle.std.specs.Prelude.{◌≡◌, ◌≢◌, ◌≤◌, ◌<◌, �
 ghost use Rattle.std.specs.Result.{result_map_both};
 ghost use Rattle.fst_semiring.specs.Cost.{Cost};
 ghost use Rattle.fst_machine.specs.Machine.{Machine, arc_total, most_arcs, most_states, valued, valued_arc, valued_state};
+ghost use Rattle.fst_machine.specs.OpenStates.{none_open};
 ghost use Rattle.fst_binary.specs.Spelling.{HasSpelling, Spells};
 ghost use Rattle.fst_binary.specs.Reading.{Gives, arc_at, arc_type_of_bytes, arcs_at, machine_at, machine_of_bytes, state_at, states_at};
 ghost use Rattle.fst_bytes.specs.Reading.{number_where};
@@ -18,7 +19,7 @@ use fst_bytes::{
     Stopped, expect_end, fault_at, most_that_fit, read_count, read_label, read_non_zero_weight,
     read_weight, read_word,
 };
-use fst_machine::{Fst, FstArc, StateList};
+use fst_machine::{Fst, FstArc, OpenList, StateList};
 use fst_semiring::Weight;
 use std::alloc::{AllocError, Global};
 
@@ -64,25 +65,27 @@ fn read_arc<W: Weight>(
     Ok((arc, behind))
 }
 
-/// Puts the arcs of a state in place of those of a list, and gives the offset after them. A refusal may leave some of
-/// them there.
+/// Puts the arcs of a state behind the states before it, which with them have at most so many, and gives the offset
+/// after them. A refusal may leave some of them there.
 fn read_arcs<W: Weight>(
     bytes: &[u8],
     at: usize,
     states: u32,
     count: usize,
-    arcs: &mut Vec<FstArc<W>>,
+    list: &mut OpenList<W>,
 ) -> Result<usize, BinaryStop>
-    requires { at ≤ length bytes.now }
-    ensures value { Answers (λ behind. (map (valued_arc W.value) arcs.new.items, behind)) result (arcs_at W.KIND states count bytes.now at) }
-    ensures count { OnOk result (length arcs.new.items ≡ count) }
+    requires behind { at ≤ length bytes.now }
+    requires none { list.old.arcs ≡ [] }
+    requires few { arc_total list.old.states + count ≤ most_arcs }
+    ensures value { Answers (λ behind. (map (valued_arc W.value) list.new.arcs, behind)) result (arcs_at W.KIND states count bytes.now at) }
+    ensures count { OnOk result (length list.new.arcs ≡ count) }
+    ensures others { list.new.states ≡ list.old.states }
     ensures behind { IfOk result (λ behind. behind ≤ length bytes.now) }
 {
-    arcs.clear();
     let mut behind = at;
     for _ in 0..count {
         let (arc, after) = read_arc(bytes, behind, states)?;
-        arcs.push(arc)?;
+        list.put_arc(arc)?;
         behind = after;
     }
     Ok(behind)
@@ -106,25 +109,29 @@ fn read_arc_count(
     read_count(bytes, at, u64::from(arcs - before), Short, BadCount)
 }
 
-/// The final weight of a state, and the offset after its arcs, which are put in place of those of a list. The
-/// states before have some of the header's arcs.
+/// The final weight of a state, and the offset after its arcs, which are put behind the states before it. Those have
+/// some of the header's arcs.
 #[tactic(auto, unfolding(crate::specs::Reading::state_at))]
 fn read_state<W: Weight>(
     bytes: &[u8],
     at: usize,
     header: Header,
     before: u32,
-    arcs: &mut Vec<FstArc<W>>,
+    list: &mut OpenList<W>,
 ) -> Result<(W, usize), BinaryStop>
     requires behind { at ≤ length bytes.now }
     requires before { before ≤ header.arcs }
-    ensures value { Answers (λ x. (record { final = W.value x.0; arcs = map (valued_arc W.value) arcs.new.items }, x.1)) result (state_at W.KIND header.states header.arcs before bytes.now at) }
-    ensures most { OnOk result (before + length arcs.new.items ≤ header.arcs) }
+    requires none { list.old.arcs ≡ [] }
+    requires count { arc_total list.old.states ≡ before }
+    requires few_arcs { header.arcs ≤ most_arcs }
+    ensures value { Answers (λ x. (record { final = W.value x.0; arcs = map (valued_arc W.value) list.new.arcs }, x.1)) result (state_at W.KIND header.states header.arcs before bytes.now at) }
+    ensures most { OnOk result (before + length list.new.arcs ≤ header.arcs) }
+    ensures others { list.new.states ≡ list.old.states }
     ensures behind { IfOk result (λ x. x.1 ≤ length bytes.now) }
 {
     let (last, behind) = read_weight(bytes, at, Short, BadWeight)?;
     let (count, behind) = read_arc_count(bytes, behind, header.arcs, before)?;
-    let behind = read_arcs(bytes, behind, header.states, count as usize, arcs)?;
+    let behind = read_arcs(bytes, behind, header.states, count as usize, list)?;
     Ok((last, behind))
 }
 
@@ -135,13 +142,13 @@ fn reserve<W: Weight>(
     left: usize,
     states: usize,
     arcs: usize,
-) -> Result<StateList<W>, AllocError>
+) -> Result<OpenList<W>, AllocError>
     requires few_states { 9 * states ≤ left }
     requires few_arcs { 13 * arcs ≤ left }
-    ensures { IfOk result (λ list. list ≡ []) }
+    ensures { IfOk result (λ list. list ≡ none_open) }
 {
     prove!(9 * states <= left && 13 * arcs <= left);
-    StateList::with_capacity(alloc, states, arcs)
+    OpenList::with_capacity(alloc, states, arcs)
 }
 
 /// The states of a header, and the offset after them. Space is reserved for no more than the bytes can hold.
@@ -159,17 +166,16 @@ fn read_states<W: Weight>(
     let left = bytes.len() - header.behind;
     let room = most_that_fit(header.states as usize, left, 9);
     let arc_room = most_that_fit(header.arcs as usize, left, 13);
-    let mut states = reserve(alloc, left, room, arc_room)?;
-    let mut arcs = Vec::new(alloc);
+    let mut list = reserve(alloc, left, room, arc_room)?;
     let mut before = 0;
     let mut behind = header.behind;
     for _ in 0..header.states {
-        let (last, after) = read_state(bytes, behind, header, before, &mut arcs)?;
-        before += arcs.len() as u32;
-        states.push(last, &arcs)?;
+        let (last, after) = read_state(bytes, behind, header, before, &mut list)?;
+        before = list.arc_count() as u32;
+        list.close(last)?;
         behind = after;
     }
-    Ok((states, behind))
+    Ok((list.into_list(), behind))
 }
 
 /// There have to be as many arcs as the header says.

@@ -1,6 +1,6 @@
 //! Writing the binary form.
 
-ghost use Rattle.std.specs.Prelude.{◌≡◌, ◌≤◌, ◌++◌, ◌∷◌, ◌+◌, ◌*◌, ◌<◌, drop, length, map, take, vec_capacity, All, Contains, IfOk, Ok, OnOk};
+ghost use Rattle.std.specs.Prelude.{◌≡◌, ◌≤◌, ◌++◌, ◌∷◌, ◌+◌, ◌*◌, ◌<◌, drop, length, map, take, vec_capacity, [], All, Contains, IfOk, IsOk, Ok, OnOk};
 ghost use Rattle.std.specs.List.{flat_map};
 ghost use Rattle.fst_machine.specs.Machine.{valued, valued_arc, valued_state};
 ghost use Rattle.fst_semiring.specs.Names.{known, name_of};
@@ -110,23 +110,20 @@ fn append_state<W: Weight>(out: &mut Vec<u8>, last: W, arcs: &[FstArc<W>])
 /// Appends the states of a machine where there is room.
 fn append_states<W: Weight>(out: &mut Vec<u8>, fst: &Fst<W>)
     requires { length out.old.items + length (flat_map (state_fields W.KIND) (map (valued_state W.value) fst.now.states)) ≤ vec_capacity out.old }
-    ensures { out.new.items ≡ out.old.items ++ flat_map (state_fields W.KIND) (map (valued_state W.value) fst.now.states) }
+    ensures items { out.new.items ≡ out.old.items ++ flat_map (state_fields W.KIND) (map (valued_state W.value) fst.now.states) }
+    ensures room { vec_capacity out.old ≤ vec_capacity out.new }
 {
     for state in 0..fst.states() {
         append_state(out, fst.final_weight(state), fst.arcs(state));
     }
 }
 
-/// From so many arcs on, a machine that is given away is written in parts. The room of a smaller one is not worth the time
-/// in which its arcs move.
+/// From so many arcs on, a machine that is given away is written in parts, where room had to be made for its bytes. The
+/// room of a smaller one is not worth the time in which its arcs move.
 const LARGE: u32 = 1 << 20;
 
-/// In how many parts a machine of so many arcs is written.
-fn parts_of(arcs: u32) -> usize
-    ensures { 0 < result }
-{
-    if arcs < LARGE { 1 } else { 4 }
-}
+/// In how many parts.
+const PARTS: usize = 4;
 
 /// Appends the first states where there is room.
 fn append_first<W: Weight>(out: &mut Vec<u8>, leaving: &Leaving<W>, count: usize)
@@ -141,17 +138,13 @@ fn append_first<W: Weight>(out: &mut Vec<u8>, leaving: &Leaving<W>, count: usize
 }
 
 /// Appends the states of a machine that is given away where there is room, part by part, and forgets each part.
-fn append_leaving<W: Weight>(
-    out: &mut Vec<u8>,
-    leaving: Leaving<W>,
-    parts: usize,
-) -> Result<(), AllocError>
-    requires parts { 0 < parts }
+fn append_leaving<W: Weight>(out: &mut Vec<u8>, leaving: Leaving<W>) -> Result<(), AllocError>
     requires room { length out.old.items + length (flat_map (state_fields W.KIND) (map (valued_state W.value) leaving)) ≤ vec_capacity out.old }
-    ensures { OnOk result (out.new.items ≡ out.old.items ++ flat_map (state_fields W.KIND) (map (valued_state W.value) leaving)) }
+    ensures items { OnOk result (out.new.items ≡ out.old.items ++ flat_map (state_fields W.KIND) (map (valued_state W.value) leaving)) }
+    ensures room { vec_capacity out.old ≤ vec_capacity out.new }
 {
     let mut left = leaving;
-    let part = (left.len() / parts).max(1);
+    let part = (left.len() / PARTS).max(1);
     while left.len() > 0 {
         let count = part.min(left.len());
         append_first(out, &left, count);
@@ -203,18 +196,38 @@ fn append_counts<W: Weight>(out: &mut Vec<u8>, fst: &Fst<W>)
     append_long(out, u64::from(fst.arc_count()));
 }
 
-/// The bytes of a machine up to its states, with room for these.
-fn write_header<W: Weight>(alloc: Global, fst: &Fst<W>) -> Result<Vec<u8>, AllocError>
-    ensures items { IfOk result (λ out. out.items ++ flat_map (state_fields W.KIND) (map (valued_state W.value) fst.now.states) ≡ spelling W.KIND (valued W.value fst.now)) }
-    ensures room { IfOk result (λ out. length out.items + length (flat_map (state_fields W.KIND) (map (valued_state W.value) fst.now.states)) ≤ vec_capacity out) }
+/// How many bytes a machine takes.
+fn whole_length<W: Weight>(fst: &Fst<W>) -> usize
+    ensures value { result ≡ length (spelling W.KIND (valued W.value fst.now)) }
     ensures fits { HasSpelling W.KIND (valued W.value fst.now) }
 {
-    let states = states_length(fst);
-    let mut out = Vec::with_capacity(alloc, header_length(W::KIND) + states)?;
-    append_types(&mut out, W::KIND);
-    append_long(&mut out, 3);
-    append_counts(&mut out, fst);
-    Ok(out)
+    header_length(W::KIND) + states_length(fst)
+}
+
+/// A room without its content, for so many bytes or more. It grows by no more than what it lacks.
+fn emptied(room: Vec<u8>, len: usize) -> Result<Vec<u8>, AllocError>
+    ensures items { IfOk result (λ out. out.items ≡ []) }
+    ensures room { IfOk result (λ out. len ≤ vec_capacity out) }
+    ensures kept { IfOk result (λ out. vec_capacity room ≤ vec_capacity out) }
+    ensures succeeds { len ≤ vec_capacity room → IsOk result }
+{
+    let mut room = room;
+    room.clear();
+    room.reserve_exact(len)?;
+    Ok(room)
+}
+
+/// Appends all that stands before the states, where there is room for the whole machine.
+fn append_header<W: Weight>(out: &mut Vec<u8>, fst: &Fst<W>)
+    requires empty { out.old.items ≡ [] }
+    requires room { length (spelling W.KIND (valued W.value fst.now)) ≤ vec_capacity out.old }
+    ensures items { out.new.items ++ flat_map (state_fields W.KIND) (map (valued_state W.value) fst.now.states) ≡ spelling W.KIND (valued W.value fst.now) }
+    ensures left { length out.new.items + length (flat_map (state_fields W.KIND) (map (valued_state W.value) fst.now.states)) ≤ vec_capacity out.new }
+    ensures room { vec_capacity out.old ≤ vec_capacity out.new }
+{
+    append_types(out, W::KIND);
+    append_long(out, 3);
+    append_counts(out, fst);
 }
 
 /// The bytes of a machine, which has a spelling.
@@ -222,21 +235,41 @@ fn write_whole<W: Weight>(alloc: Global, fst: &Fst<W>) -> Result<Vec<u8>, AllocE
     ensures spelled { IfOk result (λ bytes. bytes.items ≡ spelling W.KIND (valued W.value fst.now)) }
     ensures fits { HasSpelling W.KIND (valued W.value fst.now) }
 {
-    let mut out = write_header(alloc, fst)?;
+    let len = whole_length(fst);
+    let mut out = Vec::with_capacity(alloc, len)?;
+    append_header(&mut out, fst);
     append_states(&mut out, fst);
     Ok(out)
 }
 
-/// The bytes of a machine that is given away, whose states are forgotten as they are written.
-fn write_given<W: Weight>(alloc: Global, fst: Fst<W>) -> Result<Vec<u8>, AllocError>
+/// Appends the states of a machine that is given away, which are forgotten as they are written, where there is room.
+fn append_parts<W: Weight>(out: &mut Vec<u8>, fst: Fst<W>) -> Result<(), AllocError>
+    requires { length out.old.items + length (flat_map (state_fields W.KIND) (map (valued_state W.value) fst.states)) ≤ vec_capacity out.old }
+    ensures items { OnOk result (out.new.items ≡ out.old.items ++ flat_map (state_fields W.KIND) (map (valued_state W.value) fst.states)) }
+    ensures room { vec_capacity out.old ≤ vec_capacity out.new }
+{
+    match fst.leave() {
+        Ok(leaving) => append_leaving(out, leaving)?,
+        Err(fst) => append_states(out, &fst),
+    }
+    Ok(())
+}
+
+/// The bytes of a machine that is given away, where the content of a room stood.
+fn write_given<W: Weight>(room: Vec<u8>, fst: Fst<W>) -> Result<Vec<u8>, AllocError>
     ensures spelled { IfOk result (λ bytes. bytes.items ≡ spelling W.KIND (valued W.value fst)) }
+    ensures kept { IfOk result (λ bytes. vec_capacity room ≤ vec_capacity bytes) }
+    ensures succeeds { length (spelling W.KIND (valued W.value fst)) ≤ vec_capacity room → IsOk result }
     ensures fits { HasSpelling W.KIND (valued W.value fst) }
 {
-    let mut out = write_header(alloc, &fst)?;
-    let parts = parts_of(fst.arc_count());
-    match fst.leave() {
-        Ok(leaving) => append_leaving(&mut out, leaving, parts)?,
-        Err(fst) => append_states(&mut out, &fst),
+    let len = whole_length(&fst);
+    let suffices = len <= room.capacity();
+    let mut out = emptied(room, len)?;
+    append_header(&mut out, &fst);
+    if suffices || fst.arc_count() < LARGE {
+        append_states(&mut out, &fst);
+    } else {
+        append_parts(&mut out, fst)?;
     }
     Ok(out)
 }
@@ -255,6 +288,23 @@ pub fn encode<W: Weight>(alloc: Global, fst: &Fst<W>) -> Result<Vec<u8>, AllocEr
     write_whole(alloc, fst)
 }
 
+/// The bytes of a machine that is given away, made where the content of a room stood, which is thrown away. A room that
+/// suffices is used as it is, and then no memory is asked for, and nothing fails. One that does not grows to the exact
+/// number of bytes, as an empty one does, and a machine of 1,048,576 arcs or more gives back the room of its arcs as
+/// `encode_given` says. No room is given back: bytes where a much longer content stood keep all of it.
+pub fn encode_into<W: Weight>(room: Vec<u8>, fst: Fst<W>) -> Result<Vec<u8>, AllocError>
+    // Whatever stood in the room, the bytes are those of `encode`.
+    ensures spelled { IfOk result (λ bytes. bytes.items ≡ spelling W.KIND (valued W.value fst)) }
+    ensures again { IfOk result (λ bytes. machine_of_bytes W.KIND bytes.items ≡ Ok (valued W.value fst)) }
+    ensures named { IfOk result (λ bytes. Contains known W.KIND → arc_type_of_bytes bytes.items ≡ Ok W.KIND) }
+    // The room is kept, and a room that suffices never fails.
+    ensures kept { IfOk result (λ bytes. vec_capacity room ≤ vec_capacity bytes) }
+    ensures succeeds { length (spelling W.KIND (valued W.value fst)) ≤ vec_capacity room → IsOk result }
+    ensures fits { HasSpelling W.KIND (valued W.value fst) }
+{
+    write_given(room, fst)
+}
+
 /// The bytes of a machine that is given away. Where it has 1,048,576 arcs or more, and none of its states has arcs
 /// apart from those of the others, their room is given back in about four parts of as many states as they are written,
 /// so that a machine whose arcs are spread over its states and its bytes do not stand beside each other whole. Memory
@@ -265,5 +315,5 @@ pub fn encode_given<W: Weight>(alloc: Global, fst: Fst<W>) -> Result<Vec<u8>, Al
     ensures named { IfOk result (λ bytes. Contains known W.KIND → arc_type_of_bytes bytes.items ≡ Ok W.KIND) }
     ensures fits { HasSpelling W.KIND (valued W.value fst) }
 {
-    write_given(alloc, fst)
+    encode_into(Vec::new(alloc), fst)
 }

@@ -11,7 +11,7 @@ mod header;
 mod laws;
 
 pub use decoding::decode;
-pub use encoding::{encode, encode_given};
+pub use encoding::{encode, encode_given, encode_into};
 pub use fault::{BinaryFault, BinaryKind};
 pub use fst_bytes::{WeightFieldFault, push_weight_field, read_weight_field, weight_length};
 pub use header::arc_type;

@@ -1,12 +1,12 @@
 -- How entries are found by keys, and how arcs and states are put one after the other.
-use Rattle.std.specs.Prelude.{◌≡◌, ℕ, Bool, true, false, List, [], ◌∷◌, ◌++◌, map, All}
+use Rattle.std.specs.Prelude.{◌≡◌, ℕ, Bool, List, map, All}
 use Rattle.std.specs.List.{AllZip}
 use Rattle.fst_semiring.specs.Cost.{Cost, class_of, first_of, second_of}
 use Rattle.fst_semiring.specs.declared.arc_type.ArcType.{ArcType}
 use Rattle.fst_semiring.specs.Semiring.{InRange}
 use Rattle.fst_machine.specs.Machine.{Arc, State}
-use Rattle.fst_machine.specs.BreadthFirst.{Grows, Has}
-use Rattle.fst_codex.specs.declared.coder.EntryKey.{EntryKey}
+use Rattle.fst_machine.specs.BreadthFirst.{Grows}
+use Rattle.fst_codex.specs.declared.entry_key.EntryKey.{EntryKey}
 use Rattle.fst_codex.specs.Table.{Entry, Table}
 use Rattle.fst_codex.specs.Encoded.{IsEncodedArc, IsEncodedState, arc_entries, entry_of}
 
@@ -28,8 +28,3 @@ pub record PutsStates (kind : ArcType) (weights : Bool) (states : List (State Co
   pub grown : Grows old.entries (arc_entries kind weights states) new.entries
   pub put : AllZip (IsEncodedState kind weights new.entries) states out
   pub range : All (λ s. All (λ a. InRange a.weight) s.arcs) states
-
--- the list grows by an element that is new, or stays where the element is there
-abbrev pub GrowsBy : {K : Type 0} → Bool → List K → K → List K → Type 0
-GrowsBy true old k new = (Has old k → ⊥) × (new ≡ old ++ k ∷ [])
-GrowsBy false old k new = Has old k × (new ≡ old)

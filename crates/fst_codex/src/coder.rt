@@ -4,77 +4,29 @@ ghost use Rattle.std.specs.Prelude.{◌≡◌, ℕ, ◌<◌, ◌≤◌, ◌+◌,
 ghost use Rattle.fst_semiring.specs.Semiring.{InRange};
 ghost use Rattle.fst_machine.specs.Machine.{IsArc, most_states, valued_arc};
 ghost use Rattle.fst_machine.specs.BreadthFirst.{Grows};
-ghost use Rattle.fst_codex.specs.Coding.{GrowsBy, entry_key};
 ghost use Rattle.fst_codex.specs.Encoded.{IsEncodedArc, entry_of};
-ghost use Rattle.fst_codex.specs.EntryKeys.{key_decides, key_number};
 ghost use Rattle.fst_codex.specs.Table.{IsEntry, most_entries, valued_entry};
 
 use crate::codex::{Codex, CodexEntry};
-use fst_keys::{Code, Coded, KeySet, hash_of};
+use fst_keys::KeySet;
 use fst_machine::FstArc;
 use fst_semiring::Weight;
 use std::alloc::{AllocError, Global};
 use std::marker::Model;
 
-/// An entry as a key of a set: its labels, and its weight as plain numbers.
-#[derive(Clone, Copy, PartialEq, Eq, PartialOrd, Ord, Hash)]
-pub(crate) struct EntryKey {
-    ilabel: u32,
-    olabel: u32,
-    class: u8,
-    first: i64,
-    second: i64,
-}
-
-/// A key is found by its hash, and where another key has it, by all its parts.
-impl Coded for EntryKey {
-    type Whole = EntryKey;
-
-    ghost code = { key_number };
-
-    ghost whole = { λ k. k };
-
-    ghost same = { key_decides };
-
-    ghost apart = { λ a b e. e };
-
-    ghost compared = { key_decides };
-
-    fn code(&self) -> Code {
-        Code {
-            number: hash_of(self),
-            is_alone: false,
-        }
-    }
-
-    fn whole(&self, _alloc: Global) -> Result<EntryKey, AllocError> {
-        Ok(*self)
-    }
-}
-
-/// The key of an entry.
-fn key_of<W: Weight>(entry: CodexEntry<W>) -> EntryKey
-    ensures { result ≡ entry_key (valued_entry W.value entry) }
+/// Puts an entry after the others, where it is new, and gives its place.
+fn put_entry<W: Weight>(
+    entries: &mut KeySet<CodexEntry<W>>,
+    entry: CodexEntry<W>,
+) -> Result<usize, AllocError>
+    ensures there { IfOk result (λ place. slice_get entries.new place ≡ Some entry) }
+    ensures within { IfOk result (λ place. place < length entries.new) }
+    ensures grown { OnOk result (Grows entries.old (entry ∷ []) entries.new) }
+    ensures few { OnOk result (length entries.new ≤ length entries.old + 1) }
+    ensures err { OnErr result (entries.new ≡ entries.old) }
 {
-    let key = W::key(entry.weight.widen());
-    EntryKey {
-        ilabel: entry.ilabel,
-        olabel: entry.olabel,
-        class: key.class,
-        first: key.first as i64,
-        second: key.second as i64,
-    }
-}
-
-/// Puts a key after the others, where it is new, and gives its place and whether it was new.
-fn put_key(keys: &mut KeySet<EntryKey>, key: EntryKey) -> Result<(usize, bool), AllocError>
-    ensures there { IfOk result (λ r. slice_get keys.new r.0 ≡ Some key) }
-    ensures within { IfOk result (λ r. r.0 < length keys.new) }
-    ensures grown { IfOk result (λ r. GrowsBy r.1 keys.old key keys.new) }
-    ensures err { OnErr result (keys.new ≡ keys.old) }
-{
-    let found = keys.put(key)?;
-    Ok(found)
+    let (place, _) = entries.put(entry)?;
+    Ok(place)
 }
 
 /// The entries so far, in the order in which they first appeared.
@@ -82,23 +34,19 @@ fn put_key(keys: &mut KeySet<EntryKey>, key: EntryKey) -> Result<(usize, bool), 
 pub(crate) struct Coder<W: Weight> {
     /// Whether weights go into the entries.
     weights: bool,
-    /// The keys of the entries, in their order.
-    keys: KeySet<EntryKey>,
-    /// The entries.
-    list: Vec<CodexEntry<W>>,
+    /// The entries. They stand here alone, and become the codex's own list.
+    entries: KeySet<CodexEntry<W>>,
 }
 
 impl<W: Weight> Model for Coder<W> {
-    ghost use Rattle.std.specs.Prelude.{◌≡◌, map};
-    ghost use Rattle.fst_codex.specs.Coding.{entry_key};
-    ghost use Rattle.fst_codex.specs.Table.{IsEntry, Table, valued_entry};
     ghost use Rattle.std.specs.Prelude.{All};
+    ghost use Rattle.fst_codex.specs.Table.{IsEntry, Table};
 
     ghost Value = { Table W };
 
-    ghost view = { λ c. record { weights = c.weights; entries = c.list.items } };
+    ghost view = { λ c. record { weights = c.weights; entries = c.entries } };
 
-    ghost invariant = { λ c. (c.keys ≡ map entry_key (map (valued_entry W.value) c.list.items)) × All (IsEntry W.KIND W.value c.weights) c.list.items };
+    ghost invariant = { λ c. All (IsEntry W.KIND W.value c.weights) c.entries };
 }
 
 impl<W: Weight> Coder<W> {
@@ -108,8 +56,7 @@ impl<W: Weight> Coder<W> {
     {
         Coder {
             weights,
-            keys: KeySet::new(alloc),
-            list: Vec::new(alloc),
+            entries: KeySet::new(alloc),
         }
     }
 
@@ -122,14 +69,8 @@ impl<W: Weight> Coder<W> {
         ensures few { IfOk result (λ n. (n ≤ length self.new.entries) × (length self.new.entries ≤ length self.old.entries + 1)) }
         ensures flag { self.new.weights ≡ self.old.weights }
     {
-        self.list.reserve(1)?;
-        let (place, new) = put_key(&mut self.keys, key_of(entry))?;
-        let number = place as u32 + 1;
-        if !new {
-            return Ok(number);
-        }
-        self.list.push_reserved(entry);
-        Ok(number)
+        let place = put_entry(&mut self.entries, entry)?;
+        Ok(place as u32 + 1)
     }
 
     /// The arc with the number of its entry on both sides.
@@ -167,6 +108,6 @@ impl<W: Weight> Coder<W> {
         requires { length self.entries ≤ most_entries }
         ensures { result ≡ self }
     {
-        Codex::new(self.weights, self.list)
+        Codex::new(self.weights, self.entries.into_keys())
     }
 }

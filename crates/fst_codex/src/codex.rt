@@ -10,7 +10,7 @@ use std::marker::Model;
 pub const MOST_ENTRIES: u32 = 33_554_432;
 
 /// What a number stands for.
-#[derive(Clone, Copy, Debug, PartialEq, Eq)]
+#[derive(Clone, Copy, Debug)]
 pub struct CodexEntry<W> {
     /// The input label, at most 2,147,483,647.
     pub ilabel: u32,

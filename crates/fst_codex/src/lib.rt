@@ -10,6 +10,7 @@ mod coder;
 mod codex;
 mod decoding;
 mod encoding;
+mod entry_key;
 mod fault;
 mod laws;
 mod reading;

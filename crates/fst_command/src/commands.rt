@@ -37,6 +37,16 @@ use fst_words::{Plan, Verb};
 use std::alloc::Global;
 use std::thread::Threads;
 
+/// Whether a command reads one machine, and makes its machine of that one in place with no long list beside it. The
+/// content that was read may stay then until the bytes of the output are made where it stands: they stood beside the
+/// machine in any case.
+pub(crate) fn changes_in_place(command: Verb) -> bool {
+    match command {
+        Verb::Compile | Verb::Invert | Verb::Project | Verb::Relabel | Verb::Arcsort => true,
+        _ => false,
+    }
+}
+
 /// What a command makes of what it is given, or why it makes nothing.
 pub(crate) fn made<R: Threads + Sync, W: Weight + Send + Sync, M: Meter>(
     rt: &R,

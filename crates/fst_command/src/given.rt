@@ -38,6 +38,8 @@ pub(crate) struct Held {
     pub(crate) machines: Vec<AnyFst>,
     /// The codex.
     pub(crate) codex: Option<AnyCodex>,
+    /// Where the bytes of the output may be made: the content of the machine that a command changes in place.
+    pub(crate) room: Vec<u8>,
 }
 
 /// What a command is given: the files of its options, and what it works on, all of one arc type.
@@ -82,6 +84,7 @@ impl Held {
             lines: Vec::new(alloc),
             machines: Vec::new(alloc),
             codex: None,
+            room: Vec::new(alloc),
         }
     }
 
@@ -120,7 +123,7 @@ fn alike_codex<W: Kinded>(alloc: Global, any: Option<AnyCodex>) -> Result<Option
     }
 }
 
-/// What was read, all of the arc type of the weights. The first machine of another arc type, or else a codex of another,
+/// What was read, all of the arc type of the weights; the room is freed. The first machine of another arc type, or else a codex of another,
 /// is a refusal.
 #[tactic(auto, unfolding(crate::specs::Given::given_at))]
 pub(crate) fn alike<W: Kinded>(alloc: Global, held: Held) -> Result<Given<W>, Refusal>

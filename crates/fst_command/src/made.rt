@@ -4,7 +4,7 @@ ghost use Rattle.std.specs.Prelude.{◌≡◌, IfOk};
 ghost use Rattle.fst_command.specs.Meaning.{bytes_of};
 ghost use Rattle.fst_command.specs.Seeing.{bytes_seen, made_seen};
 
-use fst_binary::encode_given;
+use fst_binary::encode_into;
 use fst_codex::{Codex, write_codex};
 use fst_machine::Fst;
 use fst_semiring::Weight;
@@ -32,18 +32,22 @@ pub(crate) enum Bytes {
     Two(Vec<u8>, Vec<u8>),
 }
 
-/// The bytes of what a command makes. A codex is freed before the machine beside it is written, and the room of a machine
-/// as it is written.
-pub(crate) fn bytes_of<W: Weight>(alloc: Global, made: Made<W>) -> Result<Bytes, AllocError>
+/// The bytes of what a command makes, those of a machine where the content of a room stood. A codex is freed before the
+/// machine beside it is written, and the room of a machine as it is written, where the bytes did not stand beside it before.
+pub(crate) fn bytes_of<W: Weight>(
+    alloc: Global,
+    room: Vec<u8>,
+    made: Made<W>,
+) -> Result<Bytes, AllocError>
     ensures { IfOk result (λ bytes. bytes_seen bytes ≡ bytes_of (made_seen W.KIND W.value made)) }
 {
     match made {
-        Made::Machine(machine) => Ok(Bytes::One(encode_given(alloc, machine)?)),
+        Made::Machine(machine) => Ok(Bytes::One(encode_into(room, machine)?)),
         Made::Text(text) | Made::Answered(text, _) => Ok(Bytes::One(text)),
         Made::Coded(codex, machine) => {
             let first = write_codex(alloc, &codex)?;
             drop(codex);
-            Ok(Bytes::Two(first, encode_given(alloc, machine)?))
+            Ok(Bytes::Two(first, encode_into(room, machine)?))
         }
     }
 }

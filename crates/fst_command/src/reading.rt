@@ -15,6 +15,7 @@ ghost use Rattle.fst_command.specs.Seeing.{held_seen};
 ghost use Rattle.fst_command.specs.Steps.{ReadsAll, StepAnswer};
 ghost use Rattle.fst_command.specs.Told.{IsMade, Judges};
 
+use crate::commands::changes_in_place;
 use crate::files::read_input;
 use crate::given::{Held, arc_type_of};
 use crate::refusal::{Refusal, misread};
@@ -201,23 +202,44 @@ fn put(
     Ok(())
 }
 
-/// Fetches an input, and puts what it stands for beside what stands there.
+/// Whether an input has a machine.
+fn has_machine(role: Role) -> bool {
+    match role {
+        Role::Text | Role::Machine => true,
+        _ => false,
+    }
+}
+
+/// Fetches an input, and puts what it stands for beside what stands there. The content of a machine that is changed in
+/// place stays as a room; any other is freed.
 fn read_one<D: Desk>(
     alloc: Global,
     desk: &mut D,
-    options: &Options,
+    plan: &Plan,
     input: Input,
     held: &mut Held,
 ) -> Result<(), Refusal>
-    ensures { StepAnswer (input_seen input.entry) options.now (held_seen held.old) (held_seen held.new) (D.seen desk.old) (D.seen desk.new) result }
+    ensures { StepAnswer (input_seen input.entry) plan.now.options (held_seen held.old) (held_seen held.new) (D.seen desk.old) (D.seen desk.new) result }
 {
     let name = input.name.text();
     let content = read_input(alloc, desk, name)?;
-    put(alloc, options, input.role, name, content.as_slice(), held)
+    put(
+        alloc,
+        &plan.options,
+        input.role,
+        name,
+        content.as_slice(),
+        held,
+    )?;
+    if has_machine(input.role) && changes_in_place(plan.command) {
+        held.room = content;
+    }
+    Ok(())
 }
 
 /// Reads all inputs of a command, the files of its options first. Each is fetched once, and judged and freed before the
-/// next is fetched; the first that is too long or has a fault is the refusal.
+/// next is fetched, but for the content of the one machine of a command that changes it in place; the first that is too
+/// long or has a fault is the refusal.
 pub(crate) fn read_all<D: Desk>(alloc: Global, desk: &mut D, plan: &Plan) -> Result<Held, Refusal>
     ensures { ReadsAll plan.now (D.seen desk.old) (D.seen desk.new) (result_map_both held_seen (λ e. e) result) }
 {
@@ -227,7 +249,7 @@ pub(crate) fn read_all<D: Desk>(alloc: Global, desk: &mut D, plan: &Plan) -> Res
     };
     let mut held = Held::new(alloc);
     for place in 0..inputs.len() {
-        match read_one(alloc, desk, &plan.options, inputs[place], &mut held) {
+        match read_one(alloc, desk, plan, inputs[place], &mut held) {
             Ok(()) => {}
             Err(refusal) => return Err(refusal),
         }

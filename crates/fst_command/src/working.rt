@@ -20,6 +20,7 @@ use fst_delayed::Meter;
 use fst_semiring::{ArcType, Boolean, Lexicographic, MinMax, Tropical};
 use fst_words::Plan;
 use std::alloc::Global;
+use std::mem::replace;
 use std::thread::Threads;
 
 /// The bytes of what a command makes of what was read, whose arc type is that of the weights.
@@ -42,6 +43,8 @@ where
     ensures decides { Decides plan.now (held_seen held) (result_map_both bytes_seen (λ e. e) result) }
     ensures meter { MetersWork plan.now (held_seen held) (meter_seen M.count M.parts_out M.is_part meter.old) (meter_seen M.count M.parts_out M.is_part meter.new) (result_map_both bytes_seen (λ e. e) result) }
 {
+    let mut held = held;
+    let room = replace(&mut held.room, Vec::new(alloc));
     let given: Given<W> = match alike(alloc, held) {
         Ok(given) => given,
         Err(refusal) => return Err(refusal),
@@ -50,7 +53,7 @@ where
         Ok(made) => made,
         Err(refusal) => return Err(refusal),
     };
-    match bytes_of(alloc, made) {
+    match bytes_of(alloc, room, made) {
         Ok(bytes) => Ok(bytes),
         Err(_) => Err(Refusal::Memory),
     }

@@ -1,8 +1,6 @@
 -- Arcs and final weights that are gathered one after the other.
-use Rattle.std.proofs.Common.{◌≡◌, ◌⊎◌, inl, inr, ℕ, Bool, true, false, cond, zero, suc, List, [], ◌∷◌, ◌++◌, Option, None, Some, map, get_or, slice_get, eqb-true, eq-eqb, refl, sym, ap, ◌∙◌, append_assoc, append-nil}
+use Rattle.std.proofs.Common.{◌≡◌, ℕ, Bool, true, false, cond, zero, suc, List, [], ◌∷◌, ◌++◌, Option, None, Some, map, get_or, slice_get, refl, sym, ap, ◌∙◌, append_assoc, append-nil}
 use Rattle.std.specs.Option.{option_map}
-use Rattle.std.specs.Prelude.{nat_eq}
-use Rattle.std.proofs.lemmas.Bool.{and_from, and_parts, cases_Bool}
 use Rattle.std.proofs.lemmas.Option.{same_Some}
 use Rattle.fst_semiring.specs.Cost.{Cost, infinite, plus}
 use Rattle.fst_semiring.specs.declared.arc_type.ArcType.{ArcType}
@@ -21,24 +19,6 @@ arcs_read value (s ∷ states) (suc q) arcs is = arcs_read value states q arcs i
 pub merged-append : (done xs ys : List (Arc Cost ℕ)) → merged done (xs ++ ys) ≡ merged (merged done xs) ys
 merged-append done [] ys = refl
 merged-append done (x ∷ xs) ys = merged-append (put_arc done x) xs ys
-
--- an arc with a label that is not 0
-pub loud_input : (a : Arc Cost ℕ) → (a.ilabel ≡ 0 → ⊥) → is_silent a ≡ false
-loud_input a other = by (cases_Bool (is_silent a))
-  where
-    by : (is_silent a ≡ true) ⊎ (is_silent a ≡ false) → is_silent a ≡ false
-    by (inl e) = absurd (other (eqb-true a.ilabel 0 (and_parts (nat_eq a.ilabel 0) (nat_eq a.olabel 0) e).0))
-    by (inr e) = e
-
-pub loud_output : (a : Arc Cost ℕ) → (a.olabel ≡ 0 → ⊥) → is_silent a ≡ false
-loud_output a other = by (cases_Bool (is_silent a))
-  where
-    by : (is_silent a ≡ true) ⊎ (is_silent a ≡ false) → is_silent a ≡ false
-    by (inl e) = absurd (other (eqb-true a.olabel 0 (and_parts (nat_eq a.ilabel 0) (nat_eq a.olabel 0) e).1))
-    by (inr e) = e
-
-pub silent_labels : (a : Arc Cost ℕ) → a.ilabel ≡ 0 → a.olabel ≡ 0 → is_silent a ≡ true
-silent_labels a one two = and_from (nat_eq a.ilabel 0) (nat_eq a.olabel 0) (eq-eqb a.ilabel 0 one) (eq-eqb a.olabel 0 two)
 
 module _ (kind : ArcType) (c : Cost) where
   -- an epsilon arc more changes nothing

@@ -1,14 +1,16 @@
 -- The result grows by a state.
 use Rattle.std.proofs.Common.{◌≡◌, ◌⊎◌, inl, inr, ℕ, ◌+◌, ◌<◌, ◌≤◌, min, zero, suc, List, [], ◌∷◌, ◌++◌, Option, None, Some, true, false, true≢false, is_some, length, take, slice_get, refl, sym, ap, ◌∙◌, subst, arith}
 use Rattle.std.specs.List.{All}
+use Rattle.std.specs.Prelude.{IfSome}
 use Rattle.std.proofs.lemmas.Bool.{cases_lt}
-use Rattle.std.proofs.lemmas.List.Elements.{All-nil, All-push}
+use Rattle.std.proofs.lemmas.List.Elements.{All-map, All-nil, All-push}
 use Rattle.std.proofs.lemmas.List.Sums.{sum_by-append}
 use Rattle.std.proofs.lemmas.Option.{same_Some, slice_get_within}
 use Rattle.fst_semiring.specs.Cost.{Cost}
 use Rattle.fst_semiring.specs.declared.arc_type.ArcType.{ArcType}
+use Rattle.fst_semiring.specs.Semiring.{InRange}
 use Rattle.fst_machine.specs.Graph.{Graph}
-use Rattle.fst_machine.specs.Machine.{State, arc_total, most_arcs}
+use Rattle.fst_machine.specs.Machine.{Arc, State, arc_total, most_arcs, valued_arc, valued_state}
 use Rattle.fst_machine.specs.Narrowing.{IsFirstPast, IsInRange}
 use Rattle.fst_machine.proofs.Arcs.{append_at, at_append_left, at_append_right}
 use Rattle.fst_epsilon.specs.Answers.{AreRemoved, IsRemovedState}
@@ -121,3 +123,9 @@ removed_more kind g all s before here q x at = by (append_at all (s ∷ []) q x 
     by : (slice_get all q ≡ Some x) ⊎ ((j : ℕ) × (slice_get (s ∷ []) j ≡ Some x) × (q ≡ length all + j)) → IsRemovedState kind g q x
     by (inl there) = before q x there
     by (inr last) = own last.0 last.1 last.2
+
+-- a state of arcs in range, where the final weight is in range too
+pub near_state : {V : Type 0} (value : V → Cost) (last : Option V) (arcs : List (Arc V ℕ)) → IfSome last (λ w. InRange (value w)) → All (λ a. InRange (value a.weight)) arcs
+    → IfSome last (λ w. IsInRange (valued_state value (record { final = w; arcs = arcs })))
+near_state value None arcs ends all = tt
+near_state value (Some w) arcs ends all = record { final = ends; arcs = All-map (λ (a : Arc Cost ℕ). InRange a.weight) (valued_arc value) arcs all }

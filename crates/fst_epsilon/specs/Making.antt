@@ -1,11 +1,12 @@
 -- The result while it is made.
-use Rattle.std.specs.Prelude.{◌≡◌, ◌≤◌, ◌<◌, ℕ, List, All, MatchOption, None, Option, length}
+use Rattle.std.specs.Prelude.{◌≡◌, ◌≤◌, ◌<◌, ℕ, List, [], All, MatchOption, None, Option, length}
 use Rattle.fst_semiring.specs.Cost.{Cost}
 use Rattle.fst_semiring.specs.declared.arc_type.ArcType.{ArcType}
 use Rattle.fst_machine.specs.Graph.{Graph}
 use Rattle.fst_machine.specs.Machine.{State, arc_total, most_arcs}
 use Rattle.fst_machine.specs.Narrowing.{IsFirstPast, IsInRange}
 use Rattle.fst_epsilon.specs.Answers.{AreRemoved}
+use Rattle.fst_epsilon.specs.Construction.{best_final, collected, merged}
 
 -- Of all states that were made: how many arcs they have, or more than the limit; and where these are not too many, the
 -- first that has a weight out of range, or that all of them are kept.
@@ -21,3 +22,7 @@ pub record IsRemoving (kind : ArcType) (g : Graph ℕ) (states : ℕ) (kept : Li
   pub size : length all ≡ states
   pub removed : AreRemoved kind g all
   pub made : IsMade all kept total overflow
+
+-- the state that a closure makes
+abbrev pub gathered : ArcType → Graph ℕ → List (ℕ × Cost) → State Cost
+gathered kind g closure = record { final = best_final kind g closure; arcs = merged [] (collected kind g closure) }

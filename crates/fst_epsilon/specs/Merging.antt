@@ -25,11 +25,6 @@ spot_of key = (key.ilabel + 5 * key.olabel + 9 * key.next) % 64
 abbrev pub AreMarked : {V : Type 0} → List Bool → List (Arc V ℕ) → Type 0
 AreMarked spots arcs = All (λ a. get_or spots (spot_of (key_of a)) false ≡ true) arcs
 
--- Few arcs have their spots marked, and others their keys beside them.
-pub record AreHeld {V : Type 0} (few : Bool) (spots : List Bool) (keys : List ArcKey) (arcs : List (Arc V ℕ)) : Type 0 where
-  pub marked : few ≡ true → AreMarked spots arcs
-  pub paired : few ≡ false → ArePaired keys arcs
-
 -- what `==` answers of keys
 abbrev pub same_key : ArcKey → ArcKey → Bool
 same_key a b = nat_eq a.ilabel b.ilabel && (nat_eq a.olabel b.olabel && nat_eq a.next b.next)

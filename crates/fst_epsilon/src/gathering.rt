@@ -1,20 +1,56 @@
 //! What a state gets from those that epsilon arcs reach from it.
 
-ghost use Rattle.std.specs.Prelude.{◌≡◌, ◌<◌, [], All, IfOk, OnOk, length, map};
+ghost use Rattle.std.specs.Prelude.{◌≡◌, ◌<◌, ◌&&◌, [], nat_eq, true, All, IfOk, IfSome, OnOk, length, map};
 ghost use Rattle.fst_semiring.specs.Cost.{plus};
-ghost use Rattle.fst_semiring.specs.Semiring.{times, IsWide};
+ghost use Rattle.fst_semiring.specs.Semiring.{times, InRange, IsWide};
 ghost use Rattle.fst_machine.specs.Graph.{graph_of};
-ghost use Rattle.fst_machine.specs.Machine.{valued, valued_arc};
+ghost use Rattle.fst_machine.specs.Machine.{valued, valued_arc, valued_state};
+ghost use Rattle.fst_machine.specs.Narrowing.{IsInRange};
 ghost use Rattle.fst_distance.specs.Closure.{Reached as ReachedValue};
 ghost use Rattle.fst_epsilon.specs.Construction.{best_final, collected, merged, spoken};
 ghost use Rattle.fst_epsilon.specs.Gathering.{pairs_of};
-ghost use Rattle.fst_epsilon.specs.Merging.{AreHeld};
+ghost use Rattle.fst_epsilon.specs.Merging.{AreMarked, ArePaired};
 
+use crate::few::Few;
 use crate::merged::Merged;
 use fst_distance::Reached;
 use fst_machine::{Fst, FstArc, WideArc};
 use fst_semiring::{Weight, is_zero};
 use std::alloc::AllocError;
+
+/// Whether both labels of an arc are 0.
+fn is_epsilon<V>(arc: &FstArc<V>) -> bool
+    ensures { result ≡ (nat_eq arc.now.ilabel 0 && nat_eq arc.now.olabel 0) }
+{
+    arc.ilabel == 0 && arc.olabel == 0
+}
+
+/// Puts those of these arcs that are not epsilon, each with a distance before its weight, and tells whether all these
+/// weights are in range; where one is not, it stops there.
+fn put_few<W: Weight>(out: &mut Few<W>, arcs: &[FstArc<W>], distance: W) -> Result<bool, AllocError>
+    requires marked { AreMarked out.old.spots out.old.arcs.items }
+    requires range { All (λ a. InRange (W.value a.weight)) out.old.arcs.items }
+    ensures marked { OnOk result (AreMarked out.new.spots out.new.arcs.items) }
+    ensures range { OnOk result (All (λ a. InRange (W.value a.weight)) out.new.arcs.items) }
+    ensures arcs { IfOk result (λ fits. fits ≡ true → map (valued_arc W.value) out.new.arcs.items ≡ merged (map (valued_arc W.value) out.old.arcs.items) (spoken W.KIND (W.value distance) (map (valued_arc W.value) arcs.now))) }
+{
+    out.distance = distance;
+    for arc in arcs {
+        if is_epsilon(arc) {
+            continue;
+        }
+        let Some(weight) = W::narrow(out.distance.times(arc.weight)) else {
+            return Ok(false);
+        };
+        out.put(FstArc {
+            ilabel: arc.ilabel,
+            olabel: arc.olabel,
+            weight,
+            next: arc.next,
+        })?;
+    }
+    Ok(true)
+}
 
 /// Puts those of these arcs that are not epsilon, each with a distance before its weight.
 fn put_arcs<W: Weight>(
@@ -23,12 +59,12 @@ fn put_arcs<W: Weight>(
     distance: W::Wide,
 ) -> Result<(), AllocError>
     requires wide { IsWide (W.wide_value distance) }
-    requires held { AreHeld out.old.few out.old.spots out.old.keys out.old.arcs.items }
-    ensures held { OnOk result (AreHeld out.new.few out.new.spots out.new.keys out.new.arcs.items) }
+    requires paired { ArePaired out.old.keys out.old.arcs.items }
+    ensures paired { OnOk result (ArePaired out.new.keys out.new.arcs.items) }
     ensures arcs { OnOk result (map (valued_arc W.wide_value) out.new.arcs.items ≡ merged (map (valued_arc W.wide_value) out.old.arcs.items) (spoken W.KIND (W.wide_value distance) (map (valued_arc W.value) arcs.now))) }
 {
     for arc in arcs {
-        if arc.ilabel == 0 && arc.olabel == 0 {
+        if is_epsilon(arc) {
             continue;
         }
         out.put(WideArc::<W> {
@@ -39,27 +75,6 @@ fn put_arcs<W: Weight>(
         })?;
     }
     Ok(())
-}
-
-/// How many of these arcs are not epsilon.
-fn count_arcs<V>(arcs: &[FstArc<V>]) -> usize {
-    let mut count = 0usize;
-    for arc in arcs {
-        count = count.saturating_add(usize::from((arc.ilabel | arc.olabel) != 0));
-    }
-    count
-}
-
-/// How many arcs the states of a closure have that are not epsilon. It reads what is then gone through, so that
-/// the memory of one state is waited for while that of the next is on its way.
-fn count_all<W: Weight>(fst: &Fst<W>, closure: &[Reached<W::Wide>]) -> usize
-    requires { All (λ (r : ReachedValue W.Wide). r.state < length fst.now.states) closure.now }
-{
-    let mut count = 0usize;
-    for item in closure {
-        count = count.saturating_add(count_arcs(fst.arcs(item.state)));
-    }
-    count
 }
 
 /// The better of a weight and a final weight with a distance before it. Most states are not final, and change nothing.
@@ -84,11 +99,42 @@ pub(crate) fn gather<W: Weight>(
     ensures arcs { OnOk result (map (valued_arc W.wide_value) out.new.arcs.items ≡ merged [] (collected W.KIND (graph_of (valued W.value fst.now)) (pairs_of W.wide_value closure.now))) }
     ensures ends { IfOk result (λ last. W.wide_value last ≡ best_final W.KIND (graph_of (valued W.value fst.now)) (pairs_of W.wide_value closure.now)) }
 {
-    out.clear(count_all(fst, closure));
+    out.clear();
     let mut last = W::zero().widen();
     for item in closure {
         put_arcs(out, fst.arcs(item.state), item.distance)?;
         last = better_end(last, item.distance, fst.final_weight(item.state));
     }
     Ok(last)
+}
+
+/// The same where the arcs are few and all weights are in range; `None` where they are not. No weight of an arc has the wide
+/// form here.
+pub(crate) fn gather_few<W: Weight>(
+    out: &mut Few<W>,
+    fst: &Fst<W>,
+    closure: &[Reached<W::Wide>],
+) -> Result<Option<W>, AllocError>
+    requires states { All (λ (r : ReachedValue W.Wide). r.state < length fst.now.states) closure.now }
+    requires wide { All (λ (r : ReachedValue W.Wide). IsWide (W.wide_value r.distance)) closure.now }
+    ensures range { IfOk result (λ o. IfSome o (λ last. IsInRange (valued_state W.value (record { final = last; arcs = out.new.arcs.items })))) }
+    ensures arcs { IfOk result (λ o. IfSome o (λ last. map (valued_arc W.value) out.new.arcs.items ≡ merged [] (collected W.KIND (graph_of (valued W.value fst.now)) (pairs_of W.wide_value closure.now)))) }
+    ensures ends { IfOk result (λ o. IfSome o (λ last. W.value last ≡ best_final W.KIND (graph_of (valued W.value fst.now)) (pairs_of W.wide_value closure.now))) }
+{
+    out.clear();
+    let mut ends = W::zero().widen();
+    for item in closure {
+        let arcs = fst.arcs(item.state);
+        if !out.has_room(arcs.len()) {
+            return Ok(None);
+        }
+        let Some(distance) = W::narrow(item.distance) else {
+            return Ok(None);
+        };
+        if !put_few(out, arcs, distance)? {
+            return Ok(None);
+        }
+        ends = better_end(ends, item.distance, fst.final_weight(item.state));
+    }
+    Ok(W::narrow(ends))
 }

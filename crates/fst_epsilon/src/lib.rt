@@ -8,6 +8,7 @@
 
 mod closing;
 mod fault;
+mod few;
 mod gathering;
 pub mod laws;
 mod making;

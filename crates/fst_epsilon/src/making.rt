@@ -58,3 +58,21 @@ pub(crate) fn put_state<W: Weight>(
     }
     Ok(())
 }
+
+/// Puts a state whose weights are in range after the others, if those before it are and the arcs are not too many.
+pub(crate) fn put_near<W: Weight>(
+    output: &mut Output<W>,
+    last: W,
+    arcs: &[FstArc<W>],
+) -> Result<(), AllocError>
+    requires range { IsInRange (valued_state W.value (record { final = last; arcs = arcs.now })) }
+    requires made { (all : List (State Cost)) × IsMade all (map (valued_state W.value) output.old.states) output.old.total output.old.overflow }
+    ensures { OnOk result ((all : List (State Cost)) → IsMade all (map (valued_state W.value) output.old.states) output.old.total output.old.overflow → IsMade (all ++ valued_state W.value (record { final = last; arcs = arcs.now }) ∷ []) (map (valued_state W.value) output.new.states) output.new.total output.new.overflow) }
+{
+    output.total = output.total.saturating_add(arcs.len());
+    if output.total > MOST_ARCS as usize || output.overflow.is_some() {
+        return Ok(());
+    }
+    output.states.push(last, arcs)?;
+    Ok(())
+}

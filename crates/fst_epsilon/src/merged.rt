@@ -1,17 +1,14 @@
 //! Arcs in the order in which they come, where arcs with equal labels and next states are one.
 
-ghost use Rattle.std.specs.Prelude.{◌≡◌, ◌<◌, [], MatchOption, OnOk, length, map};
+ghost use Rattle.std.specs.Prelude.{◌≡◌, ◌<◌, [], OnOk, length, map};
 ghost use Rattle.fst_machine.specs.Machine.{valued_arc};
 ghost use Rattle.fst_epsilon.specs.Construction.{put_arc};
-ghost use Rattle.fst_epsilon.specs.Merging.{AreHeld, AreMarked, ArePaired, Betters, HasNoKey, IsFirstWithKey, key_decides, key_number, key_of, same_key, spot_of};
+ghost use Rattle.fst_epsilon.specs.Merging.{ArePaired, Betters, key_decides, key_number, key_of};
 
 use fst_keys::{Code, Coded, KeySet};
 use fst_machine::{FstArc, WideArc};
 use fst_semiring::Weight;
 use std::alloc::{AllocError, Global};
-
-/// Up to so many arcs are looked through one by one; with more they have a table.
-const FEW: usize = 32;
 
 /// An odd number whose bits look random.
 const FACTOR: u64 = 0x9E3779B97F4A7C15;
@@ -19,9 +16,9 @@ const FACTOR: u64 = 0x9E3779B97F4A7C15;
 /// What makes arcs alike: their labels and their next states.
 #[derive(Clone, Copy, PartialEq, Eq, PartialOrd, Ord)]
 pub(crate) struct ArcKey {
-    ilabel: u32,
-    olabel: u32,
-    next: u32,
+    pub(crate) ilabel: u32,
+    pub(crate) olabel: u32,
+    pub(crate) next: u32,
 }
 
 /// A number of a key, which others may have: both labels side by side, and a product of the next state.
@@ -74,7 +71,7 @@ fn better<W: Weight>(arcs: &mut Vec<WideArc<W>>, place: usize, weight: W::Wide)
 }
 
 /// What makes an arc alike to others.
-fn arc_key<V: Copy>(arc: &FstArc<V>) -> ArcKey
+pub(crate) fn arc_key<V: Copy>(arc: &FstArc<V>) -> ArcKey
     ensures { result ≡ key_of arc.now }
 {
     ArcKey {
@@ -82,59 +79,6 @@ fn arc_key<V: Copy>(arc: &FstArc<V>) -> ArcKey
         olabel: arc.olabel,
         next: arc.next,
     }
-}
-
-/// The spot of a key.
-fn spot_of(key: ArcKey) -> usize
-    ensures spot { result ≡ spot_of key }
-    ensures low { result < 64 }
-{
-    let sum = u64::from(key.ilabel) + 5 * u64::from(key.olabel) + 9 * u64::from(key.next);
-    (sum % 64) as usize
-}
-
-/// Whether two keys are one.
-fn is_same(a: ArcKey, b: ArcKey) -> bool
-    ensures { result ≡ same_key a b }
-{
-    a.ilabel == b.ilabel && a.olabel == b.olabel && a.next == b.next
-}
-
-/// The place of the first of these arcs that has a key.
-fn place_of<V: Copy>(arcs: &[FstArc<V>], key: ArcKey) -> Option<usize>
-    ensures { MatchOption result (HasNoKey key arcs.now) (IsFirstWithKey key arcs.now) }
-{
-    for (place, arc) in arcs.iter().enumerate() {
-        if is_same(key, arc_key(arc)) {
-            return Some(place);
-        }
-    }
-    None
-}
-
-/// Puts an arc after the others, or its weight into the one that is like it, where it is better. Where the spot of its key
-/// is marked, the others are looked through one by one; where it is not, none is like it.
-fn put_by_place<W: Weight>(
-    spots: &mut [bool; 64],
-    arcs: &mut Vec<WideArc<W>>,
-    arc: WideArc<W>,
-) -> Result<(), AllocError>
-    requires marked { AreMarked spots.old arcs.old.items }
-    ensures marked { OnOk result (AreMarked spots.new arcs.new.items) }
-    ensures arcs { OnOk result (map (valued_arc W.wide_value) arcs.new.items ≡ put_arc (map (valued_arc W.wide_value) arcs.old.items) (valued_arc W.wide_value arc)) }
-{
-    let key = arc_key(&arc);
-    let spot = spot_of(key);
-    if !spots[spot] {
-        spots[spot] = true;
-        arcs.push(arc)?;
-        return Ok(());
-    }
-    match place_of(arcs.as_slice(), key) {
-        Some(place) => better::<W>(arcs, place, arc.weight),
-        None => arcs.push(arc)?,
-    }
-    Ok(())
 }
 
 /// Puts an arc after the others, or its weight into the one that is like it, where it is better. It is looked up by its key.
@@ -159,11 +103,7 @@ fn put_by_key<W: Weight>(
 /// Arcs no two of which are alike, in the order in which the first of each came.
 #[derive(Drop)]
 pub(crate) struct Merged<W: Weight> {
-    /// Whether they are few, and looked through one by one.
-    pub(crate) few: bool,
-    /// Which of 64 spots an arc has, where they are few.
-    pub(crate) spots: [bool; 64],
-    /// What makes them alike, arc for arc, where they are not few.
+    /// What makes them alike, arc for arc.
     pub(crate) keys: KeySet<ArcKey>,
     /// The arcs.
     pub(crate) arcs: Vec<WideArc<W>>,
@@ -173,39 +113,29 @@ impl<W: Weight> Merged<W> {
     /// No arcs. Takes no memory.
     pub(crate) fn new(alloc: Global) -> Merged<W> {
         Merged {
-            few: true,
-            spots: [false; 64],
             keys: KeySet::new(alloc),
             arcs: Vec::new(alloc),
         }
     }
 
-    /// Drops all arcs. So many are to come, or somewhat fewer: whether they are looked up in a table goes by this number.
+    /// Drops all arcs.
     ///
     /// A table is made anew and not cleared, since clearing takes the time of its greatest length.
-    pub(crate) fn clear(&mut self, count: usize)
+    pub(crate) fn clear(&mut self)
         ensures arcs { self.new.arcs.items ≡ [] }
-        ensures held { AreHeld self.new.few self.new.spots self.new.keys self.new.arcs.items }
+        ensures paired { ArePaired self.new.keys self.new.arcs.items }
     {
         let alloc = *self.arcs.allocator();
         self.arcs.clear();
-        self.few = count <= FEW;
-        self.spots = [false; 64];
-        if !self.few {
-            self.keys = KeySet::new(alloc);
-        }
+        self.keys = KeySet::new(alloc);
     }
 
     /// Puts an arc after the others, or its weight into the one that is like it, where it is better.
     pub(crate) fn put(&mut self, arc: WideArc<W>) -> Result<(), AllocError>
-        requires held { AreHeld self.old.few self.old.spots self.old.keys self.old.arcs.items }
-        ensures held { OnOk result (AreHeld self.new.few self.new.spots self.new.keys self.new.arcs.items) }
+        requires paired { ArePaired self.old.keys self.old.arcs.items }
+        ensures paired { OnOk result (ArePaired self.new.keys self.new.arcs.items) }
         ensures arcs { OnOk result (map (valued_arc W.wide_value) self.new.arcs.items ≡ put_arc (map (valued_arc W.wide_value) self.old.arcs.items) (valued_arc W.wide_value arc)) }
     {
-        if self.few {
-            put_by_place::<W>(&mut self.spots, &mut self.arcs, arc)
-        } else {
-            put_by_key::<W>(&mut self.keys, &mut self.arcs, arc)
-        }
+        put_by_key::<W>(&mut self.keys, &mut self.arcs, arc)
     }
 }

@@ -1,27 +1,63 @@
 //! Machines without epsilon arcs.
 
-ghost use Rattle.std.specs.Prelude.{◌≡◌, ◌⊎◌, ◌<◌, ◌+◌, [], ℕ, false, IfErr, IfOk, OnOk, get_or, length, map};
+ghost use Rattle.std.specs.Prelude.{◌≡◌, ◌⊎◌, ◌<◌, ◌+◌, ◌++◌, ◌∷◌, [], ℕ, List, false, All, IfErr, IfOk, OnOk, get_or, length, map};
 ghost use Rattle.std.specs.Bool.{Decides};
+ghost use Rattle.fst_semiring.specs.Cost.{Cost};
+ghost use Rattle.fst_semiring.specs.Semiring.{IsWide};
 ghost use Rattle.fst_machine.specs.Cycles.{IsAccessible};
 ghost use Rattle.fst_machine.specs.Graph.{graph_of};
-ghost use Rattle.fst_machine.specs.Machine.{valued, valued_state};
+ghost use Rattle.fst_machine.specs.Machine.{State, valued, valued_state};
 ghost use Rattle.fst_trim.specs.Links.{epsilon_links};
+ghost use Rattle.fst_distance.specs.Closure.{Reached as ReachedValue};
 ghost use Rattle.fst_distance.specs.Trying.{AreBelow};
 ghost use Rattle.fst_epsilon.specs.Answers.{IsFine, IsImprovingSilently, IsRemovedMachine, KeepsWeights, Stops};
 ghost use Rattle.fst_epsilon.specs.Construction.{IsRemoved};
-ghost use Rattle.fst_epsilon.specs.Making.{IsRemoving};
+ghost use Rattle.fst_epsilon.specs.Gathering.{pairs_of};
+ghost use Rattle.fst_epsilon.specs.Making.{IsMade, IsRemoving, gathered};
 
 use crate::closing::sort_closure;
 use crate::fault::EpsilonFault;
-use crate::gathering::gather;
-use crate::making::{Output, put_state};
+use crate::few::Few;
+use crate::gathering::{gather, gather_few};
+use crate::making::{Output, put_near, put_state};
 use crate::merged::Merged;
-use fst_distance::Closures;
+use fst_distance::{Closures, Reached};
 use fst_machine::{Fst, MOST_ARCS, Path};
 use fst_queue::StateQueue;
 use fst_semiring::Weight;
 use fst_trim::accessible;
 use std::alloc::{AllocError, Global};
+
+/// Room for the arcs of one state while they are gathered.
+#[derive(Drop)]
+struct Room<W: Weight> {
+    /// Where they are few and in range.
+    few: Few<W>,
+    /// Where they are not.
+    many: Merged<W>,
+}
+
+/// Puts the state that its closure makes after the others.
+fn put_gathered<W: Weight>(
+    fst: &Fst<W>,
+    room: &mut Room<W>,
+    output: &mut Output<W>,
+    state: u32,
+    closure: &[Reached<W::Wide>],
+) -> Result<(), AllocError>
+    requires states { All (λ (r : ReachedValue W.Wide). r.state < length fst.now.states) closure.now }
+    requires wide { All (λ (r : ReachedValue W.Wide). IsWide (W.wide_value r.distance)) closure.now }
+    requires made { (all : List (State Cost)) × (length all ≡ state) × IsMade all (map (valued_state W.value) output.old.states) output.old.total output.old.overflow }
+    ensures { OnOk result ((all : List (State Cost)) → length all ≡ state → IsMade all (map (valued_state W.value) output.old.states) output.old.total output.old.overflow → IsMade (all ++ gathered W.KIND (graph_of (valued W.value fst.now)) (pairs_of W.wide_value closure.now) ∷ []) (map (valued_state W.value) output.new.states) output.new.total output.new.overflow) }
+{
+    if let Some(last) = gather_few(&mut room.few, fst, closure)? {
+        put_near(output, last, room.few.arcs.as_slice())?;
+        return Ok(());
+    }
+    let last = gather(&mut room.many, fst, closure)?;
+    put_state(output, state, last, room.many.arcs.as_slice())?;
+    Ok(())
+}
 
 /// Makes the state of the result that stands for a state which the start reaches, and gives back the search; or a cycle
 /// of epsilon arcs on what such arcs reach from it that is better than One.
@@ -30,7 +66,7 @@ fn put_closure<W: Weight, Q: StateQueue>(
     fst: &Fst<W>,
     closures: Closures<W>,
     queue: &mut Q,
-    merged: &mut Merged<W>,
+    room: &mut Room<W>,
     output: &mut Output<W>,
     state: u32,
 ) -> Result<Result<Closures<W>, Path>, AllocError>
@@ -51,8 +87,7 @@ fn put_closure<W: Weight, Q: StateQueue>(
         Err(cycle) => return Ok(Err(cycle)),
     };
     sort_closure(&mut closed.reached, state);
-    let last = gather(merged, fst, closed.reached.as_slice())?;
-    put_state(output, state, last, merged.arcs.as_slice())?;
+    put_gathered(fst, room, output, state, closed.reached.as_slice())?;
     Ok(Ok(closed.closures))
 }
 
@@ -73,15 +108,18 @@ fn put_all<W: Weight, Q: StateQueue>(
     ensures empty { IfOk result (λ r. OnOk r (Q.members queue.new ≡ [])) }
     ensures below { AreBelow (length fst.now.states) (Q.members queue.new) }
 {
-    let mut merged = Merged::new(alloc);
+    let mut room = Room {
+        few: Few::new(alloc),
+        many: Merged::new(alloc),
+    };
     let mut closures = Closures::new(alloc, fst)?;
     for state in 0..fst.states() {
         if !marks[state as usize] {
-            merged.clear(0);
-            put_state(output, state, W::zero().widen(), merged.arcs.as_slice())?;
+            room.many.clear();
+            put_state(output, state, W::zero().widen(), room.many.arcs.as_slice())?;
             continue;
         }
-        match put_closure(alloc, fst, closures, queue, &mut merged, output, state)? {
+        match put_closure(alloc, fst, closures, queue, &mut room, output, state)? {
             Ok(kept) => closures = kept,
             Err(cycle) => return Ok(Err(cycle)),
         }

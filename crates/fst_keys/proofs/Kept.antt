@@ -1,12 +1,11 @@
 -- The table and the map of a set of keys.
 use Rattle.std.proofs.Common.{◌≡◌, ◌≢◌, ◌⊎◌, inl, inr, ℕ, Bool, true, false, true≢false, List, [], ◌∷◌, ◌++◌, Option, None, Some, cond, if◌then◌else◌, length, slice_get, refl, sym, ap, subst, ◌∙◌}
-use Rattle.std.specs.Prelude.{IfSome}
 use Rattle.std.specs.Bool.{Decides}
 use Rattle.std.specs.Ordering.{is_eq}
 use Rattle.std.specs.declared.cmp.Ordering.{Ordering}
 use Rattle.std.proofs.lemmas.Bool.{cases_eq, eq-eqb, ne_eqb}
 use Rattle.fst_table.specs.Slots.{with_place}
-use Rattle.fst_keys.specs.Keys.{AreKept, IsApart, IsPut, IsUnnumbered, with_whole}
+use Rattle.fst_keys.specs.Keys.{AreKept, IsApart, IsUnnumbered, with_whole}
 use Rattle.fst_keys.proofs.Putting.{at_either, at_front, at_last}
 
 -- what a table tells of a number after one was added
@@ -65,24 +64,24 @@ module _ {K W : Type 0} (code : K → ℕ) (whole : K → W) where
       still i k p (inl own) = inl own
       still i k p (inr map) = inr (twos (whole k) ∙ map)
 
-  module _ (keys new : List K) (first : ℕ → Option ℕ) (other : W → Option ℕ) (h : AreKept code whole keys first other) (key : K) (limit : ℕ) where
+  module _ (keys new : List K) (first : ℕ → Option ℕ) (other : W → Option ℕ) (h : AreKept code whole keys first other) (key : K) (place : ℕ) (put : new ≡ keys ++ key ∷ []) (there : place ≡ length keys) where
     -- the key is the first with its number
-    kept_first : (firsts : ℕ → Option ℕ) (number : ℕ) (r : ℕ × Bool) → IsUnnumbered code keys first key number → IsPut keys new key limit r → ((n : ℕ) → firsts n ≡ with_place first number r.0 n) → AreKept code whole new firsts other
-    kept_first firsts number r alone put added = subst (λ (ks : List K). AreKept code whole ks firsts other) (sym put.keys) (record { coded = coded; told = told; found = found })
+    pub first_kept : (firsts : ℕ → Option ℕ) (number : ℕ) → IsUnnumbered code keys first key number → ((n : ℕ) → firsts n ≡ with_place first number place n) → AreKept code whole new firsts other
+    first_kept firsts number alone added = subst (λ (ks : List K). AreKept code whole ks firsts other) (sym put) (record { coded = coded; told = told; found = found })
       where
         all : List K
         all = keys ++ key ∷ []
 
-        last : slice_get all r.0 ≡ Some key
-        last = ap (slice_get all) put.there ∙ at_last keys key
+        last : slice_get all place ≡ Some key
+        last = ap (slice_get all) there ∙ at_last keys key
 
         still : (n p : ℕ) → first n ≡ Some p → firsts n ≡ Some p
-        still = added_still first firsts number r.0 alone.absent (with_place first number r.0) (place_at first number r.0) added
+        still = added_still first firsts number place alone.absent (with_place first number place) (place_at first number place) added
 
         coded : (c p : ℕ) → firsts c ≡ Some p → (k : K) × (slice_get all p ≡ Some k) × (code k ≡ c)
-        coded c p e = by (added_back first firsts number r.0 alone.absent (with_place first number r.0) (place_at first number r.0) added c p e)
+        coded c p e = by (added_back first firsts number place alone.absent (with_place first number place) (place_at first number place) added c p e)
           where
-            by : ((c ≡ number) × (p ≡ r.0)) ⊎ (first c ≡ Some p) → (k : K) × (slice_get all p ≡ Some k) × (code k ≡ c)
+            by : ((c ≡ number) × (p ≡ place)) ⊎ (first c ≡ Some p) → (k : K) × (slice_get all p ≡ Some k) × (code k ≡ c)
             by (inl own) = (key, ap (slice_get all) own.1 ∙ last, sym alone.is_code ∙ sym own.0)
             by (inr old) = let o = h.coded c p old in (o.0, at_front keys (key ∷ []) p o.0 o.1, o.2)
 
@@ -95,27 +94,26 @@ module _ {K W : Type 0} (code : K → ℕ) (whole : K → W) where
             by : (slice_get keys i ≡ Some k) ⊎ ((i ≡ length keys) × (k ≡ key)) → (f : ℕ) × (firsts (code k) ≡ Some f) × ((f ≡ i) ⊎ (other (whole k) ≡ Some i))
             by (inl old) = let f = h.found i k old in (f.0, still (code k) f.0 f.1, f.2)
             by (inr own) =
-                let there : firsts number ≡ Some r.0 = added_there first firsts number r.0 alone.absent (with_place first number r.0) (place_at first number r.0) added in
-                (r.0, ap firsts (ap code own.1 ∙ sym alone.is_code) ∙ there, inl (put.there ∙ sym own.0))
+                let told-there : firsts number ≡ Some place = added_there first firsts number place alone.absent (with_place first number place) (place_at first number place) added in
+                (place, ap firsts (ap code own.1 ∙ sym alone.is_code) ∙ told-there, inl (there ∙ sym own.0))
 
     -- another key has its number
-    kept_apart : (cmp : W → W → Ordering) (one : (a b : W) → Decides (is_eq (cmp a b)) (a ≡ b)) (others : W → Option ℕ) (w : W) (r : ℕ × Bool)
-        → IsApart code whole keys first other key w → IsPut keys new key limit r → ((x : W) → others x ≡ with_whole cmp other w r.0 x) → AreKept code whole new first others
-    kept_apart cmp one others w r apart put added = subst (λ (ks : List K). AreKept code whole ks first others) (sym put.keys) (record { coded = coded; told = told; found = found })
+    pub apart_kept : (cmp : W → W → Ordering) (one : (a b : W) → Decides (is_eq (cmp a b)) (a ≡ b)) (others : W → Option ℕ) (w : W) → IsApart code whole keys first other key w → ((x : W) → others x ≡ with_whole cmp other w place x) → AreKept code whole new first others
+    apart_kept cmp one others w apart added = subst (λ (ks : List K). AreKept code whole ks first others) (sym put) (record { coded = coded; told = told; found = found })
       where
         all : List K
         all = keys ++ key ∷ []
 
-        last : slice_get all r.0 ≡ Some key
-        last = ap (slice_get all) put.there ∙ at_last keys key
+        last : slice_get all place ≡ Some key
+        last = ap (slice_get all) there ∙ at_last keys key
 
         coded : (c p : ℕ) → first c ≡ Some p → (k : K) × (slice_get all p ≡ Some k) × (code k ≡ c)
         coded c p e = let o = h.coded c p e in (o.0, at_front keys (key ∷ []) p o.0 o.1, o.2)
 
         told : (x : W) (p : ℕ) → others x ≡ Some p → (k : K) × (slice_get all p ≡ Some k) × (whole k ≡ x)
-        told x p e = by (added_back other others w r.0 apart.absent (with_whole cmp other w r.0) (whole_at cmp one other w r.0) added x p e)
+        told x p e = by (added_back other others w place apart.absent (with_whole cmp other w place) (whole_at cmp one other w place) added x p e)
           where
-            by : ((x ≡ w) × (p ≡ r.0)) ⊎ (other x ≡ Some p) → (k : K) × (slice_get all p ≡ Some k) × (whole k ≡ x)
+            by : ((x ≡ w) × (p ≡ place)) ⊎ (other x ≡ Some p) → (k : K) × (slice_get all p ≡ Some k) × (whole k ≡ x)
             by (inl own) = (key, ap (slice_get all) own.1 ∙ last, sym apart.is_whole ∙ sym own.0)
             by (inr old) = let o = h.told x p old in (o.0, at_front keys (key ∷ []) p o.0 o.1, o.2)
 
@@ -124,26 +122,14 @@ module _ {K W : Type 0} (code : K → ℕ) (whole : K → W) where
           where
             still : (f : ℕ) → (f ≡ i) ⊎ (other (whole k) ≡ Some i) → (f ≡ i) ⊎ (others (whole k) ≡ Some i)
             still f (inl own) = inl own
-            still f (inr map) = inr (added_still other others w r.0 apart.absent (with_whole cmp other w r.0) (whole_at cmp one other w r.0) added (whole k) i map)
+            still f (inr map) = inr (added_still other others w place apart.absent (with_whole cmp other w place) (whole_at cmp one other w place) added (whole k) i map)
 
             by : (slice_get keys i ≡ Some k) ⊎ ((i ≡ length keys) × (k ≡ key)) → (f : ℕ) × (first (code k) ≡ Some f) × ((f ≡ i) ⊎ (others (whole k) ≡ Some i))
             by (inl old) = let f = h.found i k old in (f.0, f.1, still f.0 f.2)
             by (inr own) =
-                let there : others w ≡ Some r.0 = added_there other others w r.0 apart.absent (with_whole cmp other w r.0) (whole_at cmp one other w r.0) added in
+                let told-there : others w ≡ Some place = added_there other others w place apart.absent (with_whole cmp other w place) (whole_at cmp one other w place) added in
                 let n = apart.numbered in
-                (n.0, ap first (ap code own.1) ∙ n.1, inr (ap others (ap whole own.1 ∙ sym apart.is_whole) ∙ (there ∙ ap Some (put.there ∙ sym own.0))))
-
-    -- the table after a key was put, or not, whose number no other has
-    pub first_kept : (firsts : ℕ → Option ℕ) (number : ℕ) (o : Option (ℕ × Bool)) → IsUnnumbered code keys first key number → IfSome o (IsPut keys new key limit) → IfSome o (λ r. (n : ℕ) → firsts n ≡ with_place first number r.0 n)
-        → (o ≡ None → new ≡ keys) → (o ≡ None → (n : ℕ) → firsts n ≡ first n) → AreKept code whole new firsts other
-    first_kept firsts number None alone put added none untold = kept_same keys new first firsts other other (none refl) (untold refl) (λ w. refl) h
-    first_kept firsts number (Some r) alone put added none untold = kept_first firsts number r alone put added
-
-    -- and the map, where another has it
-    pub apart_kept : (cmp : W → W → Ordering) (one : (a b : W) → Decides (is_eq (cmp a b)) (a ≡ b)) (others : W → Option ℕ) (w : W) (o : Option (ℕ × Bool)) → IsApart code whole keys first other key w → IfSome o (IsPut keys new key limit)
-        → IfSome o (λ r. (x : W) → others x ≡ with_whole cmp other w r.0 x) → (o ≡ None → new ≡ keys) → (o ≡ None → (x : W) → others x ≡ other x) → AreKept code whole new first others
-    apart_kept cmp one others w None apart put added none untold = kept_same keys new first first other others (none refl) (λ n. refl) (untold refl) h
-    apart_kept cmp one others w (Some r) apart put added none untold = kept_apart cmp one others w r apart put added
+                (n.0, ap first (ap code own.1) ∙ n.1, inr (ap others (ap whole own.1 ∙ sym apart.is_whole) ∙ (told-there ∙ ap Some (there ∙ sym own.0))))
 
 -- what the order of a map tells as equal is one
 pub one_whole : {W : Type 0} (eq : W → W → Bool) (cmp : W → W → Ordering) → ((a b : W) → Decides (eq a b) (a ≡ b)) → ((a b : W) → eq a b ≡ is_eq (cmp a b)) → (a b : W) → Decides (is_eq (cmp a b)) (a ≡ b)

@@ -1,10 +1,8 @@
 -- A key that is put after others, or is one of them.
-use Rattle.std.proofs.Common.{◌≡◌, ◌⊎◌, inl, inr, ℕ, ◌<◌, ◌≤◌, zero, suc, Bool, true, false, not, List, [], ◌∷◌, ◌++◌, Option, None, Some, if◌then◌else◌, length, slice_get, refl, sym, ap, ◌∙◌, ◌||◌, arith}
-use Rattle.std.specs.Prelude.{IfSome}
+use Rattle.std.proofs.Common.{◌≡◌, ◌⊎◌, inl, inr, ℕ, zero, suc, Bool, true, false, not, List, [], ◌∷◌, ◌++◌, Some, if◌then◌else◌, length, slice_get, refl, sym, ap, ◌∙◌, ◌||◌}
 use Rattle.std.specs.Bool.{Decides}
 use Rattle.std.specs.List.{list_any}
-use Rattle.std.proofs.lemmas.List.{length-append}
-use Rattle.fst_keys.specs.Keys.{IsNew, IsPut, with_key}
+use Rattle.fst_keys.specs.Keys.{IsNew, with_key}
 
 -- an element of the first of two lists keeps its place
 pub at_front : {X : Type 0} (xs ys : List X) (k : ℕ) (x : X) → slice_get xs k ≡ Some x → slice_get (xs ++ ys) k ≡ Some x
@@ -57,27 +55,12 @@ module _ {K : Type 0} (eq : K → K → Bool) (same : (a b : K) → Decides (eq 
     there_added = sym (ap not (there_any old key p there))
 
   -- one that is new stands last
-  module _ (old new : List K) (key : K) (limit : ℕ) (fresh : IsNew old key) where
-    pub put_keys : (o : Option (ℕ × Bool)) → IfSome o (IsPut old new key limit) → IfSome o (λ r. new ≡ with_key eq old key)
-    put_keys None h = tt
-    put_keys (Some r) h = h.keys ∙ sym (ap (λ b. if b then old else old ++ key ∷ []) (new_any old key fresh))
+  module _ (old new : List K) (key : K) (fresh : IsNew old key) where
+    pub put_keys : new ≡ old ++ key ∷ [] → new ≡ with_key eq old key
+    put_keys put = put ∙ sym (ap (λ b. if b then old else old ++ key ∷ []) (new_any old key fresh))
 
-    pub put_added : (o : Option (ℕ × Bool)) → IfSome o (IsPut old new key limit) → IfSome o (λ r. r.1 ≡ not (list_any (eq key) old))
-    put_added None h = tt
-    put_added (Some r) h = h.added ∙ sym (ap not (new_any old key fresh))
+    pub put_added : true ≡ not (list_any (eq key) old)
+    put_added = sym (ap not (new_any old key fresh))
 
-    pub put_full : (o : Option (ℕ × Bool)) → (o ≡ None → limit ≤ length old) → o ≡ None → (limit ≤ length old) × (list_any (eq key) old ≡ false)
-    put_full o full none = (full none, new_any old key fresh)
-
-module _ {K : Type 0} (old new : List K) (key : K) (limit : ℕ) where
-  pub put_there : (o : Option (ℕ × Bool)) → IfSome o (IsPut old new key limit) → IfSome o (λ r. slice_get new r.0 ≡ Some key)
-  put_there None h = tt
-  put_there (Some r) h = ap (λ ks. slice_get ks r.0) h.keys ∙ (ap (slice_get (old ++ key ∷ [])) h.there ∙ at_last old key)
-
-  pub put_within : (o : Option (ℕ × Bool)) → IfSome o (IsPut old new key limit) → IfSome o (λ r. r.0 < length new)
-  put_within None h = tt
-  put_within (Some r) h = omega (arith, ap length h.keys, length-append old (key ∷ []), h.there)
-
-  pub put_last : (o : Option (ℕ × Bool)) → IfSome o (IsPut old new key limit) → IfSome o (λ r. r.1 ≡ true → (r.0 ≡ length old) × (r.0 < limit))
-  put_last None h = tt
-  put_last (Some r) h = λ told. (h.there, h.few)
+pub put_there : {K : Type 0} (old new : List K) (key : K) (place : ℕ) → new ≡ old ++ key ∷ [] → place ≡ length old → slice_get new place ≡ Some key
+put_there old new key place put there = ap (λ ks. slice_get ks place) put ∙ (ap (slice_get (old ++ key ∷ [])) there ∙ at_last old key)

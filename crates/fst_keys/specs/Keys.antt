@@ -1,5 +1,5 @@
 -- Keys that are found by numbers, and where others have their numbers, by all that they are.
-use Rattle.std.specs.Prelude.{◌≡◌, ◌⊎◌, ◌<◌, ◌++◌, ◌∷◌, ℕ, Bool, true, List, [], Option, None, Some, length, slice_get, if◌then◌else◌}
+use Rattle.std.specs.Prelude.{◌≡◌, ◌⊎◌, ◌++◌, ◌∷◌, ℕ, Bool, List, [], Option, None, Some, slice_get, if◌then◌else◌}
 use Rattle.std.specs.BTreeMap.{is_at}
 use Rattle.std.specs.List.{list_any}
 use Rattle.std.specs.declared.cmp.Ordering.{Ordering}
@@ -31,13 +31,6 @@ pub record IsApart {K W : Type 0} (code : K → ℕ) (whole : K → W) (keys : L
   pub numbered : (h : ℕ) × (first (code key) ≡ Some h)
   pub absent : other all ≡ None
   pub new : IsNew keys key
-
--- the key is put after the others, in this place below the limit, and is said to be new
-pub record IsPut {K : Type 0} (old new : List K) (key : K) (limit : ℕ) (told : ℕ × Bool) : Type 0 where
-  pub keys : new ≡ old ++ key ∷ []
-  pub there : told.0 ≡ length old
-  pub few : told.0 < limit
-  pub added : told.1 ≡ true
 
 -- one more place by all that a key is
 abbrev pub with_whole : {W : Type 0} → (W → W → Ordering) → (W → Option ℕ) → W → ℕ → W → Option ℕ

@@ -1,12 +1,12 @@
 //! Sets of keys, in the order in which they were put in.
 
-ghost use Rattle.std.specs.Prelude.{◌≡◌, ◌<◌, ◌≤◌, ℕ, [], true, false, not, IfOk, IfSome, MatchOption, None, OnErr, Some, length, slice_get};
+ghost use Rattle.std.specs.Prelude.{◌≡◌, ◌<◌, ◌≤◌, ◌++◌, ◌∷◌, ℕ, [], true, false, not, IfOk, IfSome, MatchOption, None, OnErr, OnOk, Option, Some, length, slice_get};
 ghost use Rattle.std.specs.BTreeMap.{get};
 ghost use Rattle.std.specs.List.{list_any};
 ghost use Rattle.fst_table.specs.Found.{found_in};
-ghost use Rattle.fst_table.specs.Slots.{with_place};
-ghost use Rattle.fst_keys.specs.Keys.{AreKept, IsPut, with_key, with_whole};
-ghost use Rattle.fst_keys.specs.Sought.{IsSought};
+ghost use Rattle.std.specs.Vec.{vec_capacity, vec_len};
+ghost use Rattle.fst_keys.specs.Keys.{AreKept, with_key, with_whole};
+ghost use Rattle.fst_keys.specs.Sought.{IsNumbered, IsSought};
 
 use crate::coded::Coded;
 use fst_table::Places;
@@ -25,6 +25,33 @@ pub(crate) enum Sought<W: Drop> {
     Apart(W),
 }
 
+/// Looks up a key whose number an earlier key has: the first of those stands in this place.
+#[inline]
+fn seek_behind<K: Coded>(
+    keys: &[K],
+    others: &BTreeMap<K::Whole, u32>,
+    key: &K,
+    is_alone: bool,
+    first: u32,
+    alloc: Global,
+) -> Result<Sought<K::Whole>, AllocError>
+    requires within { first < length keys.now }
+    requires alone { is_alone ≡ true → (other : K) → K.code other ≡ K.code key.now → other ≡ key.now }
+    ensures { IfOk result (λ s. (firsts : ℕ → Option ℕ) → AreKept K.code K.whole keys.now firsts (get K.Whole.cmp others.now) → firsts (K.code key.now) ≡ Some first → IsSought K.code K.whole keys.now firsts (get K.Whole.cmp others.now) key.now s) }
+{
+    if is_alone {
+        return Ok(Sought::There(first as usize));
+    }
+    if keys[first as usize] == *key {
+        return Ok(Sought::There(first as usize));
+    }
+    let whole = key.whole(alloc)?;
+    match others.get(&whole) {
+        Some(place) => Ok(Sought::There(*place as usize)),
+        None => Ok(Sought::Apart(whole)),
+    }
+}
+
 /// Looks a key up by its number, and where another key has that number, by all that it is.
 #[inline]
 fn seek<K: Coded>(
@@ -41,72 +68,49 @@ fn seek<K: Coded>(
     let Some(first) = firsts.find(code.number) else {
         return Ok(Sought::Unnumbered(code.number));
     };
-    if code.is_alone {
-        return Ok(Sought::There(first as usize));
-    }
-    if keys[first as usize] == *key {
-        return Ok(Sought::There(first as usize));
-    }
-    let whole = key.whole(alloc)?;
-    match others.get(&whole) {
-        Some(place) => Ok(Sought::There(*place as usize)),
-        None => Ok(Sought::Apart(whole)),
-    }
+    seek_behind(keys, others, key, code.is_alone, first, alloc)
 }
 
-/// Puts a key after the others, and its place into a table for its number, which none of them has; `None` where there are
-/// as many keys as the limit.
-fn put_first<K: Coded>(
-    keys: &mut Vec<K>,
+/// Looks a key up in the same way, and where no key has its number, writes the place that it is to have into the table.
+#[inline]
+fn seek_or_number<K: Coded>(
+    keys: &[K],
     firsts: &mut Places,
-    key: K,
-    number: u64,
-    limit: u32,
-) -> Result<Option<(usize, bool)>, AllocError>
-    requires absent { found_in firsts.old number ≡ None }
-    ensures put { IfOk result (λ o. IfSome o (IsPut keys.old.items keys.new.items key limit)) }
-    ensures added { IfOk result (λ o. IfSome o (λ r. (n : ℕ) → found_in firsts.new n ≡ with_place (found_in firsts.old) number r.0 n)) }
-    ensures full { IfOk result (λ o. o ≡ None → limit ≤ length keys.old.items) }
-    ensures none { IfOk result (λ o. o ≡ None → keys.new.items ≡ keys.old.items) }
-    ensures untold { IfOk result (λ o. o ≡ None → (n : ℕ) → found_in firsts.new n ≡ found_in firsts.old n) }
-    ensures err { OnErr result (keys.new.items ≡ keys.old.items) }
-    ensures stays { OnErr result ((n : ℕ) → found_in firsts.new n ≡ found_in firsts.old n) }
+    others: &BTreeMap<K::Whole, u32>,
+    key: &K,
+    place: u32,
+    alloc: Global,
+) -> Result<Sought<K::Whole>, AllocError>
+    requires kept { AreKept K.code K.whole keys.now (found_in firsts.old) (get K.Whole.cmp others.now) }
+    requires place { place < 4294967295 }
+    ensures sought { IfOk result (IsSought K.code K.whole keys.now (found_in firsts.old) (get K.Whole.cmp others.now) key.now) }
+    ensures numbered { IfOk result (IsNumbered (found_in firsts.old) (found_in firsts.new) place) }
+    ensures err { OnErr result ((n : ℕ) → found_in firsts.new n ≡ found_in firsts.old n) }
 {
-    let place = keys.len();
-    if place >= limit as usize {
-        return Ok(None);
-    }
-    keys.reserve(1)?;
-    firsts.add(number, place as u32)?;
-    keys.push_reserved(key);
-    Ok(Some((place, true)))
+    let code = key.code();
+    let Some(first) = firsts.find_or_add(code.number, place)? else {
+        return Ok(Sought::Unnumbered(code.number));
+    };
+    seek_behind(keys, others, key, code.is_alone, first, alloc)
 }
 
-/// Puts a key after the others, and its place into a map for all that it is, since another has its number; `None` where
-/// there are as many keys as the limit.
+/// Puts a key after the others, and its place into a map for all that it is, since another has its number.
 fn put_apart<K: Coded>(
     keys: &mut Vec<K>,
     others: &mut BTreeMap<K::Whole, u32>,
     key: K,
     whole: K::Whole,
-    limit: u32,
-) -> Result<Option<(usize, bool)>, AllocError>
-    ensures put { IfOk result (λ o. IfSome o (IsPut keys.old.items keys.new.items key limit)) }
-    ensures added { IfOk result (λ o. IfSome o (λ r. (w : K.Whole) → get K.Whole.cmp others.new w ≡ with_whole K.Whole.cmp (get K.Whole.cmp others.old) whole r.0 w)) }
-    ensures full { IfOk result (λ o. o ≡ None → limit ≤ length keys.old.items) }
-    ensures none { IfOk result (λ o. o ≡ None → keys.new.items ≡ keys.old.items) }
-    ensures untold { IfOk result (λ o. o ≡ None → (w : K.Whole) → get K.Whole.cmp others.new w ≡ get K.Whole.cmp others.old w) }
+) -> Result<(), AllocError>
+    requires room { vec_len keys.old < vec_capacity keys.old }
+    requires few { length keys.old.items < 4294967295 }
+    ensures put { OnOk result (keys.new.items ≡ keys.old.items ++ key ∷ []) }
+    ensures added { OnOk result ((w : K.Whole) → get K.Whole.cmp others.new w ≡ with_whole K.Whole.cmp (get K.Whole.cmp others.old) whole (length keys.old.items) w) }
     ensures err { OnErr result (keys.new.items ≡ keys.old.items) }
     ensures stays { OnErr result ((w : K.Whole) → get K.Whole.cmp others.new w ≡ get K.Whole.cmp others.old w) }
 {
-    let place = keys.len();
-    if place >= limit as usize {
-        return Ok(None);
-    }
-    keys.reserve(1)?;
-    others.insert(whole, place as u32)?;
+    others.insert(whole, keys.len() as u32)?;
     keys.push_reserved(key);
-    Ok(Some((place, true)))
+    Ok(())
 }
 
 /// Keys, each once, in the order in which they were put in. A key is looked up by its number, and where an earlier key
@@ -166,21 +170,31 @@ impl<K: Coded> KeySet<K> {
         ensures err { OnErr result (self.new ≡ self.old) }
     {
         let alloc = *self.keys.allocator();
-        match seek(
+        let place = self.keys.len();
+        if place >= limit as usize {
+            let Some(place) = self.place(&key)? else {
+                return Ok(None);
+            };
+            return Ok(Some((place, false)));
+        }
+        // Room first, so that nothing can fail once the place stands in the table.
+        self.keys.reserve(1)?;
+        match seek_or_number(
             self.keys.as_slice(),
-            &self.firsts,
+            &mut self.firsts,
             &self.others,
             &key,
+            place as u32,
             alloc,
         )? {
             Sought::There(place) => Ok(Some((place, false))),
-            Sought::Unnumbered(number) => {
-                let found = put_first(&mut self.keys, &mut self.firsts, key, number, limit)?;
-                Ok(found)
+            Sought::Unnumbered(_) => {
+                self.keys.push_reserved(key);
+                Ok(Some((place, true)))
             }
             Sought::Apart(whole) => {
-                let found = put_apart(&mut self.keys, &mut self.others, key, whole, limit)?;
-                Ok(found)
+                put_apart(&mut self.keys, &mut self.others, key, whole)?;
+                Ok(Some((place, true)))
             }
         }
     }
@@ -212,6 +226,13 @@ impl<K: Coded> KeySet<K> {
             Sought::Unnumbered(_) => Ok(None),
             Sought::Apart(_) => Ok(None),
         }
+    }
+
+    /// The keys in their order, as a list of their own. Takes no memory.
+    pub fn into_keys(self) -> Vec<K>
+        ensures { result.items ≡ self }
+    {
+        self.keys
     }
 
     /// The number of keys. Takes no memory.

@@ -47,7 +47,7 @@ kept_state-append store more apart new_apart state s same lies =
     (ap (part_or s.count (take s.count (drop s.first (store ++ more)))) same ∙ part-append store more (arcs_apart apart s.first state) s.first s.count lies)
 
 -- so are the states of which each has the same arcs apart
-kept_from-append : {V : Type 0} (store more : List (Arc V ℕ)) (apart new_apart : List (Apart V)) (from : ℕ) (slots : List (Slot V)) → ((first other : ℕ) → from ≤ other → arcs_apart new_apart first other ≡ arcs_apart apart first other) → AllByRecursion (LiesIn (length store)) slots → kept_from (store ++ more) new_apart from slots ≡ kept_from store apart from slots
+pub kept_from-append : {V : Type 0} (store more : List (Arc V ℕ)) (apart new_apart : List (Apart V)) (from : ℕ) (slots : List (Slot V)) → ((first other : ℕ) → from ≤ other → arcs_apart new_apart first other ≡ arcs_apart apart first other) → AllByRecursion (LiesIn (length store)) slots → kept_from (store ++ more) new_apart from slots ≡ kept_from store apart from slots
 kept_from-append store more apart new_apart from [] same inside = refl
 kept_from-append store more apart new_apart from (s ∷ slots) same inside =
     ap (λ t. t ∷ kept_from (store ++ more) new_apart (suc from) slots) (kept_state-append store more apart new_apart from s (same s.first from (omega arith)) inside.0)
@@ -129,7 +129,7 @@ IsKept-final {V} slots store apart total i w s kept within read =
     }
 
 -- a state was added whose arcs are these, wherever it is kept
-kept_from-push : {V : Type 0} (store arcs : List (Arc V ℕ)) (apart : List (Apart V)) (from : ℕ) (slots : List (Slot V)) (s : Slot V) → ((state : ℕ) → slot_arcs store apart state s ≡ arcs) → kept_from store apart from (slots ++ s ∷ []) ≡ kept_from store apart from slots ++ record { final = s.final; arcs = arcs } ∷ []
+pub kept_from-push : {V : Type 0} (store arcs : List (Arc V ℕ)) (apart : List (Apart V)) (from : ℕ) (slots : List (Slot V)) (s : Slot V) → ((state : ℕ) → slot_arcs store apart state s ≡ arcs) → kept_from store apart from (slots ++ s ∷ []) ≡ kept_from store apart from slots ++ record { final = s.final; arcs = arcs } ∷ []
 kept_from-push store arcs apart from [] s are = ap (λ own. record { final = s.final; arcs = own } ∷ []) (are from)
 kept_from-push store arcs apart from (x ∷ slots) s are = ap (λ ss. kept_state store apart from x ∷ ss) (kept_from-push store arcs apart (suc from) slots s are)
 
@@ -158,12 +158,12 @@ abbrev pub slot_behind : {V : Type 0} → List (Arc V ℕ) → V → List (Arc V
 slot_behind store w arcs = record { final = w; first = length store; count = length arcs }
 
 -- no list stands apart
-none_apart : (V : Type 0) (first state : ℕ) → arcs_apart {V = V} [] first state ≡ []
+pub none_apart : (V : Type 0) (first state : ℕ) → arcs_apart {V = V} [] first state ≡ []
 none_apart V zero state = refl
 none_apart V (suc place) state = refl
 
 -- the arcs of that slot
-arcs_behind : {V : Type 0} (store arcs : List (Arc V ℕ)) (w : V) (state : ℕ) → slot_arcs (store ++ arcs) [] state (slot_behind store w arcs) ≡ arcs
+pub arcs_behind : {V : Type 0} (store arcs : List (Arc V ℕ)) (w : V) (state : ℕ) → slot_arcs (store ++ arcs) [] state (slot_behind store w arcs) ≡ arcs
 arcs_behind {V} store [] w state = none_apart V (length store) state
 arcs_behind store (a ∷ arcs) w state = ap (take (length (a ∷ arcs))) (drop_at store (a ∷ arcs) (length store) refl) ∙ take_all (length (a ∷ arcs)) (a ∷ arcs) (omega arith)
 

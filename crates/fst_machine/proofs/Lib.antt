@@ -24,10 +24,13 @@ pub mod Connected
 pub mod Walking
 pub mod Arriving
 pub mod Keeping
+pub mod Opening
 pub mod Retaining
+pub mod Rooms
 pub mod Forgetting
 pub mod ArcsChanged
 pub mod ArcsReplaced
 pub mod Valued
 pub mod Narrowing
 pub mod OneMachine
+pub mod Extending

@@ -24,7 +24,9 @@ pub mod Steps
 pub mod Marks
 pub mod Walking
 pub mod Store
+pub mod OpenStates
 pub mod SideBySide
+pub mod Placing
 pub mod Renumbered
 pub mod Retaining
 pub mod Forgetting
@@ -32,3 +34,4 @@ pub mod ArcsChanged
 pub mod Putting
 pub mod KeptMachine
 pub mod Narrowing
+pub mod Extending

@@ -19,7 +19,6 @@ use Rattle.fst_rational.specs.Changing.{goings, onward}
 use Rattle.fst_rational.specs.Backing.{back, put_all, put_back, turned_bare}
 use Rattle.fst_rational.specs.Limits.{IsSmall}
 use Rattle.fst_rational.proofs.Blocks.{onward-good}
-use Rattle.fst_rational.proofs.Putting.{head_put}
 use Rattle.fst_rational.proofs.Reversing.{turned_at}
 use Rattle.fst_rational.specs.Constructions.{arcs_back, final_arcs, reverse_of, start_weight, turned_arcs, turned_state}
 
@@ -103,7 +102,7 @@ arc_total-put_back q (a ∷ arcs) states n size good =
 
 -- ---- the arcs of all states
 
-length-put_all : (q : ℕ) (rest states : List (State Cost)) → length (put_all q rest states) ≡ length states
+pub length-put_all : (q : ℕ) (rest states : List (State Cost)) → length (put_all q rest states) ≡ length states
 length-put_all q [] states = refl
 length-put_all q (s ∷ rest) states = length-put_all (suc q) rest (put_back q s.arcs states) ∙ length-put_back q s.arcs states
 
@@ -136,7 +135,7 @@ leaving_count best q = refl
 leaving_count (finite x y) q = refl
 leaving_count infinite q = refl
 
-final_count : (q : ℕ) (states : List (State Cost)) → length (final_arcs q states) ≡ goings (Some 0) states
+pub final_count : (q : ℕ) (states : List (State Cost)) → length (final_arcs q states) ≡ goings (Some 0) states
 final_count q [] = refl
 final_count q (s ∷ states) =
     let all = sum_by-cons (λ (t : State Cost). length (onward t.final (Some 0))) s states in
@@ -181,16 +180,10 @@ module _ (kind : ArcType) (a : Machine Cost) (good : IsMachine (λ v. v) a) wher
   base_at : (r : ℕ) → r < length a.states → get_or base (1 + r) no_state ≡ turned_bare kind a r
   base_at r low = get_or-append-add (record { final = infinite; arcs = final_arcs 1 a.states } ∷ []) (map (turned_bare kind a) (range_with_len 0 (length a.states))) r no_state ∙ get_or-map-range_with_len (turned_bare kind a) 0 (length a.states) r r no_state low (omega arith)
 
-  length-reverse : length (reverse_of kind a).states ≡ length a.states + 1
+  pub length-reverse : length (reverse_of kind a).states ≡ length a.states + 1
   length-reverse = omega (arith, length-map-range_with_len (turned_state kind a) 0 (length a.states))
 
-  -- the states without arcs, as they are put
-  pub base_made : {V : Type 0} (value : V → Cost) (z : V) (fresh finals : List (Arc V ℕ)) (none first made : List (State V)) (n : ℕ) → fresh ≡ [] → map (valued_arc value) finals ≡ map (valued_arc value) fresh ++ final_arcs 1 a.states → none ≡ [] → value z ≡ infinite → first ≡ none ++ record { final = z; arcs = finals } ∷ [] → n ≡ length a.states → map (valued_state value) made ≡ map (valued_state value) first ++ map (turned_bare kind a) (range_with_len 0 n) → map (valued_state value) made ≡ base
-  base_made {V} value z fresh finals none first made n clear enters empty last put count more =
-      let head : State Cost = record { final = infinite; arcs = final_arcs 1 a.states } in
-      let own : map (valued_arc value) finals ≡ head.arcs = enters ∙ ap (λ (zs : List (Arc V ℕ)). map (valued_arc value) zs ++ final_arcs 1 a.states) clear in
-      more ∙ ap₂ (λ (ss : List (State Cost)) (k : ℕ). ss ++ map (turned_bare kind a) (range_with_len 0 k)) (head_put value head none first z finals finals empty last refl own put) count
-
+  -- the states before arcs are put back
   pub base_count : {V : Type 0} (value : V → Cost) (made : List (State V)) → map (valued_state value) made ≡ base → length made ≡ length a.states + 1
   base_count value made are = omega (arith, length-map made (valued_state value), ap length are, length-base)
 
@@ -284,15 +277,6 @@ module _ {V : Type 0} (value : V → Cost) where
       let next : suc (i + 1) ≡ i + 1 + 1 = omega arith in
       let same : new ≡ put_back (i + 1) (map (valued_arc value) s.0.arcs) old = put ∙ ap (λ (zs : List (Arc V ℕ)). put_back (i + 1) (map (valued_arc value) zs) old) (sym s.2) in
       ap₂ (λ (k : ℕ) (ss : List (State Cost)). put_all k rest ss) (sym next) same ∙ (ap (λ ss. put_all (i + 1) ss old) (sym (left (valued_state value) states i s.0 s.1)) ∙ so_far)
-
-  -- one more state is entered, or not
-  pub finals_step : (states : List (State V)) (i : ℕ) (last : V) → option_map (λ s. s.final) (slice_get states i) ≡ Some last → (old new whole : List (Arc Cost ℕ)) → old ++ final_arcs (i + 1) (drop i (map (valued_state value) states)) ≡ whole → new ≡ old ++ onward (value last) (Some (i + 1)) → new ++ final_arcs (i + 1 + 1) (drop (i + 1) (map (valued_state value) states)) ≡ whole
-  finals_step states i last e old new whole so_far put =
-      let s = mapped_some (λ (t : State V). t.final) (slice_get states i) last e in
-      let rest = drop (i + 1) (map (valued_state value) states) in
-      let next : suc (i + 1) ≡ i + 1 + 1 = omega arith in
-      let same : new ≡ old ++ leaving (value s.0.final) (i + 1) = put ∙ ap (λ (v : V). old ++ leaving (value v) (i + 1)) (sym s.2) in
-      ap₂ (λ (zs : List (Arc Cost ℕ)) (k : ℕ). zs ++ final_arcs k rest) same (sym next) ∙ (append_assoc old (leaving (value s.0.final) (i + 1)) (final_arcs (suc (i + 1)) rest) ∙ (ap (λ ss. old ++ final_arcs (i + 1) ss) (sym (left (valued_state value) states i s.0 s.1)) ∙ so_far))
 
   -- one more state is put without arcs
   pub bare_step : (kind : ArcType) (a : Machine Cost) (i : ℕ) (start : Option ℕ) (w : V) (arcs : List (Arc V ℕ)) (front : List (State Cost)) (old new : List (State V)) → map (valued_state value) old ≡ front ++ map (turned_bare kind a) (range_with_len 0 i) → new ≡ old ++ record { final = w; arcs = arcs } ∷ [] → arcs ≡ [] → value w ≡ start_weight kind start i → start ≡ a.start → map (valued_state value) new ≡ front ++ map (turned_bare kind a) (range_with_len 0 (i + 1))

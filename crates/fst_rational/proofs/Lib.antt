@@ -6,9 +6,11 @@ pub mod Reading
 pub mod Blocks
 pub mod Sizes
 pub mod Putting
+pub mod Carrying
 pub mod Uniting
 pub mod Continued
 pub mod Concatenating
 pub mod Closing
 pub mod Reversing
 pub mod Backing
+pub mod Counting

@@ -97,7 +97,7 @@ impl<'a, W: Weight> Construction<W> for Starring<'a, W> {
         (states + 1, own + entries(self.a.start()))
     }
 
-    fn build(&self, alloc: Global, needed: (u32, u32)) -> Result<Fst<W>, AllocError> {
+    fn build(self, alloc: Global, needed: (u32, u32)) -> Result<Fst<W>, AllocError> {
         build_star(alloc, self.a, needed)
     }
 }
@@ -117,7 +117,7 @@ impl<'a, W: Weight> Construction<W> for Repeating<'a, W> {
         (states, arcs)
     }
 
-    fn build(&self, alloc: Global, needed: (u32, u32)) -> Result<Fst<W>, AllocError> {
+    fn build(self, alloc: Global, needed: (u32, u32)) -> Result<Fst<W>, AllocError> {
         build_plus(alloc, self.a, needed)
     }
 }
@@ -134,8 +134,8 @@ pub fn closure<W: Weight>(alloc: Global, a: &Fst<W>, plus: bool) -> Result<Fst<W
     // What holds of the operand.
     let _states = a.states();
     if plus {
-        construct(alloc, &Repeating { a })
+        construct(alloc, Repeating { a })
     } else {
-        construct(alloc, &Starring { a })
+        construct(alloc, Starring { a })
     }
 }

@@ -72,7 +72,7 @@ impl<'a, W: Weight> Construction<W> for Joining<'a, W> {
         (front + back, arcs)
     }
 
-    fn build(&self, alloc: Global, needed: (u32, u32)) -> Result<Fst<W>, AllocError> {
+    fn build(self, alloc: Global, needed: (u32, u32)) -> Result<Fst<W>, AllocError> {
         build(alloc, self.a, self.b, needed)
     }
 }
@@ -87,5 +87,5 @@ pub fn concat<W: Weight>(alloc: Global, a: &Fst<W>, b: &Fst<W>) -> Result<Fst<W>
 {
     // What holds of the operands.
     let _states = (a.states(), b.states());
-    construct(alloc, &Joining { a, b })
+    construct(alloc, Joining { a, b })
 }

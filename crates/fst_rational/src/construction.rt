@@ -23,18 +23,18 @@ pub(crate) trait Construction<W: Weight> {
         ensures { IsSize (machine self.now) result };
 
     /// The machine, which is not too big; what it needs is reserved at once.
-    fn build(&self, alloc: Global, needed: (u32, u32)) -> Result<Fst<W>, AllocError>
-        requires { IsSmall (machine self.now) }
-        ensures { IfOk result (λ m. valued W.value m ≡ machine self.now) };
+    fn build(self, alloc: Global, needed: (u32, u32)) -> Result<Fst<W>, AllocError>
+        requires { IsSmall (machine self) }
+        ensures { IfOk result (λ m. valued W.value m ≡ machine self) };
 }
 
 /// The machine of a construction. One that is too big is refused before anything of it is made.
-pub(crate) fn construct<W: Weight, C: Construction<W>>(
+pub(crate) fn construct<W: Weight, C: Construction<W> + Drop>(
     alloc: Global,
-    construction: &C,
+    construction: C,
 ) -> Result<Fst<W>, RationalFault>
-    ensures limits { IsLimited (C.machine construction.now) result }
-    ensures machine { IfOk result (λ m. valued W.value m ≡ C.machine construction.now) }
+    ensures limits { IsLimited (C.machine construction) result }
+    ensures machine { IfOk result (λ m. valued W.value m ≡ C.machine construction) }
 {
     let needed = construction.size();
     if let Some(fault) = check_size(needed) {

@@ -4,6 +4,7 @@
 //! relation it makes of those of the operands. (Mohri 2009, section 3.1.)
 #![tactic(auto)]
 
+mod carry;
 mod change;
 mod close;
 mod concatenate;
@@ -23,4 +24,4 @@ pub use labels::{into_inverted, into_projected, into_relabelled, invert, project
 pub use pairs::{Pairs, PairsFault, read_pairs};
 pub use reversal::reverse;
 pub use size::entries;
-pub use unite::union;
+pub use unite::{into_union, union};

@@ -1,30 +1,21 @@
 //! Reversal.
 
-ghost use Rattle.std.specs.Prelude.{◌≡◌, ◌<◌, ◌≤◌, ◌+◌, ◌-◌, ◌++◌, All, IfOk, OnOk, Some, length, map};
+ghost use Rattle.std.specs.Prelude.{◌≡◌, ◌<◌, ◌≤◌, ◌+◌, ◌-◌, ◌∷◌, ◌++◌, ℕ, [], All, IfOk, OnOk, Some, drop, get_or, length, map, take};
 ghost use Rattle.std.specs.List.{range_with_len};
-ghost use Rattle.fst_machine.specs.Machine.{IsArc, IsMachine, arc_total, most_arcs, most_states, valued, valued_arc, valued_state};
-ghost use Rattle.fst_rational.specs.Backing.{put_all, put_back, turned_bare};
+ghost use Rattle.fst_machine.specs.Machine.{IsArc, IsMachine, arc_total, changed, most_arcs, most_states, valued, valued_arc, valued_state};
+ghost use Rattle.fst_machine.specs.Placing.{arc_counts};
+ghost use Rattle.fst_rational.specs.Backing.{bare_states, counted_back, put_all, put_back, turned_bare, with_more};
+ghost use Rattle.fst_rational.specs.Changing.{onward};
 ghost use Rattle.fst_rational.specs.Constructions.{final_arcs, reverse_of, start_weight};
 ghost use Rattle.fst_rational.specs.Limits.{IsLimited, IsSize, IsSmall};
 ghost use Rattle.fst_rational.specs.Relations.{Reverses};
 
-use crate::change::{count_onward, put_onward};
+use crate::change::count_onward;
 use crate::construction::{Construction, construct};
 use crate::fault::RationalFault;
-use fst_machine::{Fst, FstArc, StateList};
-use fst_semiring::Weight;
+use fst_machine::{Fst, FstArc, Placing};
+use fst_semiring::{Weight, is_zero};
 use std::alloc::{AllocError, Global};
-use std::marker::Model;
-
-/// Puts the epsilon arcs to the final states, one place further on, behind those of a list.
-fn put_finals<W: Weight>(own: &mut Vec<FstArc<W>>, a: &Fst<W>) -> Result<(), AllocError>
-    ensures { OnOk result (map (valued_arc W.value) own.new.items ≡ map (valued_arc W.value) own.old.items ++ final_arcs 1 (map (valued_state W.value) a.now.states)) }
-{
-    for state in 0..a.states() {
-        put_onward(own, a.final_weight(state), Some(state + 1))?;
-    }
-    Ok(())
-}
 
 /// The final weight of what becomes of a state: One at the start, and Zero elsewhere.
 fn weight_at<W: Weight>(start: Option<u32>, state: u32) -> W
@@ -36,72 +27,110 @@ fn weight_at<W: Weight>(start: Option<u32>, state: u32) -> W
     }
 }
 
-/// Counts arcs by the states to which they lead. The counts serve to take the room for these arcs once, and
-/// nothing else depends on them.
+/// Counts arcs by the places where they are put back, one place beyond where they lead.
 fn count_arcs<W>(counts: &mut Vec<u32>, arcs: &[FstArc<W>])
-    requires within { All (λ a. a.next < length counts.old.items) arcs.now }
-    ensures size { length counts.new.items ≡ length counts.old.items }
+    requires within { All (λ a. 1 + a.next < length counts.old.items) arcs.now }
+    requires few { (i : ℕ) → get_or (counted_back arcs.now counts.old.items) i 0 ≤ most_arcs }
+    ensures { counts.new.items ≡ counted_back arcs.now counts.old.items }
 {
     for arc in arcs {
-        let next = arc.next as usize;
-        counts[next] = counts[next].saturating_add(1);
+        counts[1 + arc.next as usize] += 1;
     }
 }
 
-/// For each state how many arcs lead to it.
+/// How many arcs each state of the reversal has.
 fn count_all<W: Weight>(alloc: Global, a: &Fst<W>) -> Result<Vec<u32>, AllocError>
-    ensures { IfOk result (λ counts. length counts.items ≡ length a.now.states) }
+    requires { IsSmall (reverse_of W.KIND (valued W.value a.now)) }
+    ensures { IfOk result (λ counts. counts.items ≡ arc_counts (reverse_of W.KIND (valued W.value a.now)).states) }
 {
     let states = a.states();
-    let mut counts = vec![in alloc; 0u32; states as usize]?;
+    let mut counts = vec![in alloc; 0u32; states as usize + 1]?;
+    counts[0] = count_onward(a, Some(0));
     for state in 0..states {
         count_arcs(&mut counts, a.arcs(state));
     }
     Ok(counts)
 }
 
-/// A state of a reversal that is made, with a list of its own for the arcs that are put one by one.
-#[derive(Drop)]
-struct Turned<W> {
-    last: W,
-    arcs: Vec<FstArc<W>>,
-}
-
-impl<W> Model for Turned<W> {
-    ghost use Rattle.fst_machine.specs.Machine.{State};
-
-    ghost Value = { State W };
-
-    ghost view = { λ s. record { final = s.last; arcs = s.arcs.items } };
-}
-
-/// Puts what becomes of each state, without its arcs but with room for them, behind the others.
+/// Puts what becomes of each state, without its arcs but with room for them, behind the first.
 fn put_bare<W: Weight>(
-    alloc: Global,
-    states: &mut Vec<Turned<W>>,
+    states: &mut Placing<W>,
     a: &Fst<W>,
     counts: &[u32],
 ) -> Result<(), AllocError>
-    requires { length counts.now ≡ length a.now.states }
-    ensures { OnOk result (map (valued_state W.value) states.new.items ≡ map (valued_state W.value) states.old.items ++ map (turned_bare W.KIND (valued W.value a.now)) (range_with_len 0 (length a.now.states))) }
+    requires counts { counts.now ≡ arc_counts (reverse_of W.KIND (valued W.value a.now)).states }
+    requires left { states.old.left ≡ arc_total (drop 1 (reverse_of W.KIND (valued W.value a.now)).states) }
+    requires rooms { states.old.rooms ≡ take 1 counts.now }
+    ensures states { OnOk result (map (valued_state W.value) states.new.states ≡ map (valued_state W.value) states.old.states ++ map (turned_bare W.KIND (valued W.value a.now)) (range_with_len 0 (length a.now.states))) }
+    ensures rooms { OnOk result (states.new.rooms ≡ counts.now) }
+    ensures left { OnOk result (states.new.left ≡ 0) }
 {
     for state in 0..a.states() {
-        let arcs = Vec::with_capacity(alloc, counts[state as usize] as usize)?;
-        let last = weight_at(a.start(), state);
-        states.push(Turned { last, arcs })?;
+        let room = counts[1 + state as usize] as usize;
+        states.push(weight_at(a.start(), state), room)?;
     }
     Ok(())
 }
 
+/// The states of the reversal without their arcs, each with room for so many as it is to have.
+fn make_room<W: Weight>(alloc: Global, a: &Fst<W>, counts: &[u32]) -> Result<Placing<W>, AllocError>
+    requires small { IsSmall (reverse_of W.KIND (valued W.value a.now)) }
+    requires counts { counts.now ≡ arc_counts (reverse_of W.KIND (valued W.value a.now)).states }
+    ensures states { IfOk result (λ p. map (valued_state W.value) p.states ≡ bare_states W.KIND (valued W.value a.now)) }
+    ensures rooms { IfOk result (λ p. p.rooms ≡ counts.now) }
+    ensures left { IfOk result (λ p. p.left ≡ 0) }
+{
+    let _states = a.states();
+    let entered = counts[0] as usize;
+    let arcs = a.arc_count() as usize + entered;
+    let mut states = Placing::with_capacity(alloc, counts.len(), arcs)?;
+    states.push(W::zero(), entered)?;
+    put_bare(&mut states, a, counts)?;
+    Ok(states)
+}
+
+/// Puts the epsilon arc to the place `next` with this final weight, unless it is Zero, behind those of the first state.
+fn put_final<W: Weight>(states: &mut Placing<W>, last: W, next: u32)
+    requires { get_or (arc_counts states.old.states) 0 0 + length (onward (W.value last) (Some next)) ≤ get_or states.old.rooms 0 0 }
+    ensures states { map (valued_state W.value) states.new.states ≡ changed (with_more (onward (W.value last) (Some next))) (map (valued_state W.value) states.old.states) 0 }
+    ensures rooms { states.new.rooms ≡ states.old.rooms }
+    ensures left { states.new.left ≡ states.old.left }
+{
+    if is_zero(last) {
+        return;
+    }
+    states.put(
+        0,
+        FstArc {
+            ilabel: 0,
+            olabel: 0,
+            weight: last,
+            next,
+        },
+    );
+}
+
+/// Puts the epsilon arcs to the final states, one place further on, behind those of the first state.
+fn put_finals<W: Weight>(states: &mut Placing<W>, a: &Fst<W>)
+    requires { get_or (arc_counts states.old.states) 0 0 + length (final_arcs 1 (map (valued_state W.value) a.now.states)) ≤ get_or states.old.rooms 0 0 }
+    ensures states { map (valued_state W.value) states.new.states ≡ changed (with_more (final_arcs 1 (map (valued_state W.value) a.now.states))) (map (valued_state W.value) states.old.states) 0 }
+    ensures rooms { states.new.rooms ≡ states.old.rooms }
+    ensures left { states.new.left ≡ states.old.left }
+{
+    for state in 0..a.states() {
+        put_final(states, a.final_weight(state), state + 1);
+    }
+}
+
 /// Puts each of these arcs, back to `place`, behind those of the state one place beyond where it leads.
-fn put_arcs_back<W: Weight>(
-    states: &mut Vec<Turned<W>>,
-    arcs: &[FstArc<W>],
-    place: u32,
-) -> Result<(), AllocError>
-    requires good { All (IsArc W.value (length states.old.items - 1)) arcs.now }
-    ensures states { OnOk result (map (valued_state W.value) states.new.items ≡ put_back place (map (valued_arc W.value) arcs.now) (map (valued_state W.value) states.old.items)) }
-    ensures size { OnOk result (length states.new.items ≡ length states.old.items) }
+fn put_arcs_back<W: Weight>(states: &mut Placing<W>, arcs: &[FstArc<W>], place: u32)
+    requires few { length states.old.states ≤ most_states }
+    requires good { All (IsArc W.value (length states.old.states - 1)) arcs.now }
+    requires room { (i : ℕ) → get_or (arc_counts (put_back place (map (valued_arc W.value) arcs.now) (map (valued_state W.value) states.old.states))) i 0 ≤ get_or states.old.rooms i 0 }
+    ensures states { map (valued_state W.value) states.new.states ≡ put_back place (map (valued_arc W.value) arcs.now) (map (valued_state W.value) states.old.states) }
+    ensures size { length states.new.states ≡ length states.old.states }
+    ensures rooms { states.new.rooms ≡ states.old.rooms }
+    ensures left { states.new.left ≡ states.old.left }
 {
     for arc in arcs {
         let turned = FstArc {
@@ -110,66 +139,35 @@ fn put_arcs_back<W: Weight>(
             weight: arc.weight,
             next: place,
         };
-        let state = &mut states[1 + arc.next as usize];
-        state.arcs.push(turned)?;
+        states.put(1 + arc.next, turned);
     }
-    Ok(())
 }
 
 /// Puts the arcs of each state, back to where it stands one place further on, where they led.
-fn put_all_back<W: Weight>(states: &mut Vec<Turned<W>>, a: &Fst<W>) -> Result<(), AllocError>
-    requires { length states.old.items ≡ length a.now.states + 1 }
-    ensures { OnOk result (map (valued_state W.value) states.new.items ≡ put_all 1 (map (valued_state W.value) a.now.states) (map (valued_state W.value) states.old.items)) }
+fn put_all_back<W: Weight>(states: &mut Placing<W>, a: &Fst<W>)
+    requires size { length states.old.states ≡ length a.now.states + 1 }
+    requires few { length states.old.states ≤ most_states }
+    requires room { (i : ℕ) → get_or (arc_counts (put_all 1 (map (valued_state W.value) a.now.states) (map (valued_state W.value) states.old.states))) i 0 ≤ get_or states.old.rooms i 0 }
+    ensures states { map (valued_state W.value) states.new.states ≡ put_all 1 (map (valued_state W.value) a.now.states) (map (valued_state W.value) states.old.states) }
+    ensures rooms { states.new.rooms ≡ states.old.rooms }
+    ensures left { states.new.left ≡ states.old.left }
 {
     for state in 0..a.states() {
-        put_arcs_back(states, a.arcs(state), state + 1)?;
+        put_arcs_back(states, a.arcs(state), state + 1);
     }
-    Ok(())
 }
 
-/// The states, whose arcs are that many, side by side.
-fn gather<W: Weight>(
-    alloc: Global,
-    turned: &[Turned<W>],
-    arcs: u32,
-) -> Result<StateList<W>, AllocError>
-    requires { arc_total turned.now ≤ most_arcs }
-    ensures { IfOk result (λ states. states ≡ turned.now) }
-{
-    let mut states = StateList::with_capacity(alloc, turned.len(), arcs as usize)?;
-    for state in turned {
-        states.push(state.last, &state.arcs)?;
-    }
-    Ok(states)
-}
-
-/// The states of a reversal, each with a list of its own for its arcs. Room is taken for `states` of them.
-fn turn<W: Weight>(alloc: Global, a: &Fst<W>, states: u32) -> Result<Vec<Turned<W>>, AllocError>
-    ensures { IfOk result (λ turned. map (valued_state W.value) turned.items ≡ (reverse_of W.KIND (valued W.value a.now)).states) }
-{
-    let _states = a.states();
-    let counts = count_all(alloc, a)?;
-    let mut own = Vec::new(alloc);
-    put_finals(&mut own, a)?;
-    let mut turned = Vec::with_capacity(alloc, states as usize)?;
-    turned.push(Turned {
-        last: W::zero(),
-        arcs: own,
-    })?;
-    put_bare(alloc, &mut turned, a, counts.as_slice())?;
-    put_all_back(&mut turned, a)?;
-    Ok(turned)
-}
-
-/// The reversal, which is not too big; what it needs is reserved at once.
-fn build<W: Weight>(alloc: Global, a: &Fst<W>, needed: (u32, u32)) -> Result<Fst<W>, AllocError>
+/// The reversal, which is not too big. Its arcs are counted by the states that get them, and then each goes to its place.
+fn build<W: Weight>(alloc: Global, a: &Fst<W>) -> Result<Fst<W>, AllocError>
     requires { IsSmall (reverse_of W.KIND (valued W.value a.now)) }
     ensures { IfOk result (λ m. valued W.value m ≡ reverse_of W.KIND (valued W.value a.now)) }
 {
     let _states = a.states();
-    let turned = turn(alloc, a, needed.0)?;
-    let list = gather(alloc, turned.as_slice(), needed.1)?;
-    Ok(list.into_machine(Some(0)))
+    let counts = count_all(alloc, a)?;
+    let mut states = make_room(alloc, a, counts.as_slice())?;
+    put_finals(&mut states, a);
+    put_all_back(&mut states, a);
+    Ok(states.into_machine(Some(0)))
 }
 
 /// The reversal of a machine.
@@ -187,8 +185,8 @@ impl<'a, W: Weight> Construction<W> for Reversing<'a, W> {
         (states + 1, arcs)
     }
 
-    fn build(&self, alloc: Global, needed: (u32, u32)) -> Result<Fst<W>, AllocError> {
-        build(alloc, self.a, needed)
+    fn build(self, alloc: Global, _needed: (u32, u32)) -> Result<Fst<W>, AllocError> {
+        build(alloc, self.a)
     }
 }
 
@@ -203,5 +201,5 @@ pub fn reverse<W: Weight>(alloc: Global, a: &Fst<W>) -> Result<Fst<W>, RationalF
 {
     // What holds of the operand.
     let _states = a.states();
-    construct(alloc, &Reversing { a })
+    construct(alloc, Reversing { a })
 }

@@ -6,7 +6,7 @@ use Rattle.std.specs.List.Sorted.{IsStrictlySortedBy}
 use Rattle.std.specs.Map.{keys_of, lookup}
 use Rattle.std.specs.Option.{option_or, unwrap_or}
 use Rattle.std.specs.Ordering.{nat_cmp}
-use Rattle.std.specs.Prelude.{Err, Ok, OnErr, OnOk}
+use Rattle.std.specs.Prelude.{Err, IfOk, IsSome, Ok, OnErr, OnOk}
 use Rattle.std.specs.declared.result.Result.{Result}
 use Rattle.std.proofs.lemmas.List.{get_or-drop}
 use Rattle.std.proofs.lemmas.List.Sums.{fails_before_first}
@@ -68,6 +68,17 @@ told-in-map overflow more n p updates m = updates.0 m ∙ ap (λ b. cond b (Some
 pub insert-overflow : {A B : Type 0} (r : Result A B) (xs : List Slot) (overflow more : BTreeMap ℕ ℕ) (n p : ℕ) → p < 4294967295 → IsNear xs → length xs ≤ probed_slot xs n → OnOk r (Updates nat_cmp overflow more n (Some p)) → OnErr r (IsUnchanged overflow more) → IsOverflow xs overflow → IsOverflow xs more
 insert-overflow (Ok _) xs overflow more n p small near past ok _ = map-overflow xs overflow more n p small near past (told-in-map overflow more n p ok)
 insert-overflow (Err _) xs overflow more n p small near past _ err = λ overflows m q is. overflows m q (ap (lookup (is_at (nat_cmp m))) (sym err) ∙ is)
+
+-- a map that tells the same
+same-overflow : (xs : List Slot) (overflow more : BTreeMap ℕ ℕ) → ((m : ℕ) → get nat_cmp more m ≡ get nat_cmp overflow m) → IsOverflow xs overflow → IsOverflow xs more
+same-overflow xs overflow more told overflows m q is = overflows m q (sym (told m) ∙ is)
+
+-- and where a number is looked up in it, and written if it is not there
+pub found-overflow : {E : Type 0} (r : Result (Option ℕ) E) (xs : List Slot) (overflow more : BTreeMap ℕ ℕ) (n p : ℕ) → p < 4294967295 → IsNear xs → length xs ≤ probed_slot xs n → IfOk r (λ o. IsSome o → (m : ℕ) → get nat_cmp more m ≡ get nat_cmp overflow m)
+    → IfOk r (λ o. o ≡ None → (m : ℕ) → get nat_cmp more m ≡ with_place (get nat_cmp overflow) n p m) → OnErr r ((m : ℕ) → get nat_cmp more m ≡ get nat_cmp overflow m) → IsOverflow xs overflow → IsOverflow xs more
+found-overflow (Ok None) xs overflow more n p small near past known added err = map-overflow xs overflow more n p small near past (added refl)
+found-overflow (Ok (Some q)) xs overflow more n p small near past known added err = same-overflow xs overflow more (known refl)
+found-overflow (Err e) xs overflow more n p small near past known added err = same-overflow xs overflow more err
 
 -- a number that is not known is in no slot, and not in the map
 pub absent-both : (a b : Option ℕ) → option_or a b ≡ None → (a ≡ None) × (b ≡ None)

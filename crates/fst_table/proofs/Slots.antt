@@ -161,7 +161,7 @@ module _ (xs : List Slot) (n p : ℕ) (small : p < 4294967295) (within : probe_e
         ap (λ (s : Slot). probe_end ys (number_of s)) before ∙ other-ends (number_at xs k) (λ e. apart (sym there ∙ e)) ∙ there
 
   window-same : (m : ℕ) → window_end ys m ≡ window_end xs m
-  window-same m = ap (λ (len : ℕ). min (first_slot len m + 128) len) (length-set xs end written)
+  window-same m = ap (λ (len : ℕ). min (first_slot len m + 32) len) (length-set xs end written)
 
   still-taken : (k : ℕ) → place_at xs k ≢ 4294967295 → place_at ys k ≢ 4294967295
   still-taken k taken = go (cases_eq k end) where

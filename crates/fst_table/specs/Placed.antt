@@ -9,7 +9,7 @@ placed_in table n = placed_among table.slots.items table.overflow n
 
 -- how many numbers go into the slots before a table grows
 abbrev pub room_in : FlatTable → ℕ
-room_in table = length table.slots.items / 5 * 4 - table.used
+room_in table = length table.slots.items / 3 * 2 - table.used
 
 -- numbers below the bound stand in the list by number, and others in the table
 abbrev pub found_among : ℕ → List ℕ → FlatTable → ℕ → Option ℕ

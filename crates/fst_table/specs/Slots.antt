@@ -50,7 +50,7 @@ unfoldable pub first_slot : ℕ → ℕ → ℕ
 first_slot len n =
     let once = n * 11400714819323198485 % 2 ^ 64 in
     let twice = (once + once / 2 ^ 32) % 2 ^ 64 * 15485907386658061715 % 2 ^ 64 in
-    twice / 2 ^ 32 * (len - len / 16) % 2 ^ 64 / 2 ^ 32
+    twice / 2 ^ 32 * (len - min (len / 16) 32) % 2 ^ 64 / 2 ^ 32
 
 -- the probe for a number ends where a slot is empty or holds it
 abbrev pub ends_probe : ℕ → Slot → Bool
@@ -64,9 +64,9 @@ probe_from slots n at = at + position_or_len (ends_probe n) (drop at slots)
 abbrev pub probe_end : List Slot → ℕ → ℕ
 probe_end slots n = probe_from slots n (first_slot (length slots) n)
 
--- a probe looks at 128 slots at most, at those before this one
+-- a probe looks at 32 slots at most, at those before this one
 abbrev pub window_end : List Slot → ℕ → ℕ
-window_end slots n = min (first_slot (length slots) n + 128) (length slots)
+window_end slots n = min (first_slot (length slots) n + 32) (length slots)
 
 -- the slot at which it ends among these; the number of slots where it ends at none of them
 abbrev pub probed_slot : List Slot → ℕ → ℕ

@@ -3,11 +3,14 @@
 //! a bounded number of slots and at most a search in the map, whatever the numbers are, also where
 //! they are chosen so that all their probes begin at one slot.
 
-ghost use Rattle.std.specs.Prelude.{◌≡◌, ◌+◌, ◌*◌, ◌<◌, ◌≤◌, ℕ, length, None, IfOk, OnErr, OnOk};
-ghost use Rattle.fst_table.specs.Slots.{IsNear, IsOverflow, IsProbed, first_slot, number_of, placed_in_slots, probed_slot, slot_of};
+ghost use Rattle.std.specs.Prelude.{◌≡◌, ◌+◌, ◌*◌, ◌<◌, ◌≤◌, ℕ, length, None, IfOk, IsSome, OnErr, OnOk};
+ghost use Rattle.fst_table.specs.Slots.{IsNear, IsOverflow, IsProbed, first_slot, number_of, placed_in_slots, probed_slot, slot_of, with_place};
+ghost use Rattle.std.specs.BTreeMap.{get};
+ghost use Rattle.std.specs.Ordering.{nat_cmp};
 
 use std::alloc::{AllocError, Global};
 use std::collections::BTreeMap;
+use std::collections::btree_map::Entry;
 
 /// The place in an empty slot.
 const ABSENT: u32 = u32::MAX;
@@ -17,9 +20,10 @@ const FIRST_FACTOR: u64 = 0x9E3779B97F4A7C15;
 
 const SECOND_FACTOR: u64 = 0xD6E8FEB86659FD93;
 
-/// A probe looks at so many slots at most. Of numbers that are spread evenly one in a thousand finds none of them empty,
-/// when the table is as full as it may be; and to read so many slots takes about the time of a search in a large map.
-const PROBE_LIMIT: usize = 128;
+/// A probe looks at so many slots at most. Of numbers that are spread evenly six in ten thousand find none of them empty
+/// while a table fills, and a look-up of one that is not known ends in the map nine times in a thousand at worst, when
+/// the table is as full as it may be (by trial with four million slots).
+const PROBE_LIMIT: usize = 32;
 
 /// A number is its low half and so many times its high half.
 const HALF: u64 = 1 << 32;
@@ -78,8 +82,9 @@ fn first_slot(len: usize, number: u64) -> usize
 {
     let once = number.wrapping_mul(FIRST_FACTOR);
     let twice = once.wrapping_add(once >> 32).wrapping_mul(SECOND_FACTOR);
-    // The last sixteenth of the slots is left for the probes that begin before it.
-    let firsts = (len - len / 16) as u64;
+    // The last slots are left for the probes that begin before them: as many as a probe looks at, and fewer where the
+    // slots are few.
+    let firsts = (len - (len / 16).min(PROBE_LIMIT)) as u64;
     ((twice >> 32).wrapping_mul(firsts) >> 32) as usize
 }
 
@@ -100,10 +105,31 @@ fn probe(slots: &[Slot], number: u64) -> usize
     slots.len()
 }
 
+/// The place of a number in a map; one that is not there is written with the place that is given, by one search. Where
+/// memory runs out, the map stays.
+fn find_or_insert(
+    map: &mut BTreeMap<u64, u32>,
+    number: u64,
+    place: u32,
+) -> Result<Option<u32>, AllocError>
+    ensures place { IfOk result (λ o. o ≡ get nat_cmp map.old number) }
+    ensures known { IfOk result (λ o. IsSome o → (n : ℕ) → get nat_cmp map.new n ≡ get nat_cmp map.old n) }
+    ensures added { IfOk result (λ o. o ≡ None → (n : ℕ) → get nat_cmp map.new n ≡ with_place (get nat_cmp map.old) number place n) }
+    ensures err { OnErr result ((n : ℕ) → get nat_cmp map.new n ≡ get nat_cmp map.old n) }
+    ensures absent { OnErr result (get nat_cmp map.old number ≡ None) }
+{
+    match map.entry(number)? {
+        Entry::Occupied(known) => Ok(Some(*known.get())),
+        Entry::Vacant(free) => {
+            free.insert(place);
+            Ok(None)
+        }
+    }
+}
+
 #[tactic(auto, unfolding(crate::specs::Placed::placed_in))]
 impl FlatTable {
     ghost use Rattle.fst_table.specs.Placed.{placed_in, room_in};
-    ghost use Rattle.fst_table.specs.Slots.{with_place};
 
     /// No number is known. Takes no memory.
     pub fn new(alloc: Global) -> FlatTable
@@ -152,7 +178,20 @@ impl FlatTable {
         if numbers > usize::MAX / 8 {
             return Err(AllocError);
         }
-        Self::with_slots(alloc, (numbers / 4 + 1) * 5)
+        Self::with_slots(alloc, (numbers / 2 + 1) * 3)
+    }
+
+    /// Writes a number with its place in the slot where its probe ends.
+    fn write(&mut self, at: usize, number: u64, place: u32)
+        requires place { place < 4294967295 }
+        requires ends { at ≡ probed_slot self.old.slots.items number }
+        requires within { at < length self.old.slots.items }
+        requires absent { placed_in self.old number ≡ None }
+        ensures written { (n : ℕ) → placed_in self.new n ≡ with_place (placed_in self.old) number place n }
+        ensures len { length self.new.slots.items ≡ length self.old.slots.items }
+    {
+        self.slots[at] = Slot::new(number, place);
+        self.used = self.used.saturating_add(1);
     }
 
     /// Writes a number with its place in the slot where its probe ends, or in the map where it meets no empty slot.
@@ -166,8 +205,7 @@ impl FlatTable {
     {
         let at = probe(&self.slots, number);
         if at < self.slots.len() {
-            self.slots[at] = Slot::new(number, place);
-            self.used = self.used.saturating_add(1);
+            self.write(at, number, place);
             return Ok(());
         }
         self.overflow.insert(number, place)?;
@@ -203,29 +241,76 @@ impl FlatTable {
     /// The same numbers in more than twice as many slots.
     fn grown(&self) -> Result<FlatTable, AllocError>
         ensures same { IfOk result (λ t. (n : ℕ) → placed_in t n ≡ placed_in self.now n) }
-        ensures longer { IfOk result (λ t. length t.slots.items ≡ 2 * length self.now.slots.items + 64) }
+        ensures longer { IfOk result (λ t. length t.slots.items ≡ 2 * length self.now.slots.items + 80) }
     {
         let len = self.slots.len();
         if len > usize::MAX / 4 {
             return Err(AllocError);
         }
-        let mut more = Self::with_slots(*self.slots.allocator(), 2 * len + 64)?;
+        let mut more = Self::with_slots(*self.slots.allocator(), 2 * len + 80)?;
         more.fill_from_slots(self)?;
         more.fill_from_overflow(self)?;
         Ok(more)
+    }
+
+    /// Whether the table is as full as it may be before it grows, which is two thirds.
+    fn is_full(&self) -> bool {
+        // Fuller, probes get long, and more numbers go into the map; emptier, the slots take more memory. The table grows for
+        // no other reason: numbers that are chosen to meet in one slot stand in the map, and do not make it grow.
+        self.used >= self.slots.len() / 3 * 2
     }
 
     /// Makes the table larger where it is as full as it may be. Where memory runs out, what is known stays.
     fn make_room(&mut self) -> Result<(), AllocError>
         ensures { (n : ℕ) → placed_in self.new n ≡ placed_in self.old n }
     {
-        // Fuller, probes get long; emptier, the slots take more memory, which costs a look-up more than a short probe.
-        // The table grows for no other reason: numbers that are chosen to meet in one slot stand in the map, and do not make
-        // it grow.
-        if self.used >= self.slots.len() / 5 * 4 {
+        if self.is_full() {
             *self = self.grown()?;
         }
         Ok(())
+    }
+
+    /// The place of a number that is known. One that is not is written with the place that is given, however full the
+    /// table is. Where memory runs out, what is known stays.
+    fn find_or_put(&mut self, number: u64, place: u32) -> Result<Option<u32>, AllocError>
+        requires place { place < 4294967295 }
+        ensures place { IfOk result (λ o. o ≡ placed_in self.old number) }
+        ensures known { IfOk result (λ o. IsSome o → (n : ℕ) → placed_in self.new n ≡ placed_in self.old n) }
+        ensures added { IfOk result (λ o. o ≡ None → (n : ℕ) → placed_in self.new n ≡ with_place (placed_in self.old) number place n) }
+        ensures err { OnErr result ((n : ℕ) → placed_in self.new n ≡ placed_in self.old n) }
+        ensures absent { OnErr result (placed_in self.old number ≡ None) }
+    {
+        let at = probe(&self.slots, number);
+        if at >= self.slots.len() {
+            return find_or_insert(&mut self.overflow, number, place);
+        }
+        let known = self.slots[at].place;
+        if known != ABSENT {
+            return Ok(Some(known));
+        }
+        self.write(at, number, place);
+        Ok(None)
+    }
+
+    /// The place of a number that is known; `None` exactly where it is not, and then it is added with the place that is
+    /// given. The slots are mostly looked through once, where `find` and `add` would look twice. Only a number that is
+    /// not known takes memory; where that runs out, what is known stays.
+    pub fn find_or_add(&mut self, number: u64, place: u32) -> Result<Option<u32>, AllocError>
+        requires place { place < 4294967295 }
+        ensures place { IfOk result (λ o. o ≡ placed_in self.old number) }
+        ensures known { IfOk result (λ o. IsSome o → (n : ℕ) → placed_in self.new n ≡ placed_in self.old n) }
+        ensures added { IfOk result (λ o. o ≡ None → (n : ℕ) → placed_in self.new n ≡ with_place (placed_in self.old) number place n) }
+        ensures err { OnErr result ((n : ℕ) → placed_in self.new n ≡ placed_in self.old n) }
+        ensures absent { OnErr result (placed_in self.old number ≡ None) }
+    {
+        if !self.is_full() {
+            return self.find_or_put(number, place);
+        }
+        let known = self.find(number);
+        if known.is_none() {
+            self.add(number, place)?;
+        }
+        Ok(known)
     }
 
     /// Adds a number with its place. Where memory runs out, what is known stays.

@@ -1,6 +1,6 @@
 //! A table from numbers to places, where the lesser numbers stand in a list by number.
 
-ghost use Rattle.std.specs.Prelude.{◌≡◌, ◌<◌, ◌≤◌, ℕ, None, Some, OnErr, OnOk, length};
+ghost use Rattle.std.specs.Prelude.{◌≡◌, ◌<◌, ◌≤◌, ℕ, None, Some, IfOk, IsSome, OnErr, OnOk, length};
 ghost use Rattle.std.specs.Option.{ForSome};
 ghost use Rattle.fst_table.specs.Placed.{found_among};
 
@@ -74,6 +74,7 @@ impl Places {
     fn grow(&mut self, slot: usize) -> Result<(), AllocError>
         requires { slot < self.old.bound }
         ensures ok { OnOk result (slot < length self.new.dense.items) }
+        ensures short { OnErr result (length self.old.dense.items ≤ slot) }
         ensures bound { self.new.bound ≡ self.old.bound }
         ensures same { (n : ℕ) → found_in self.new n ≡ found_in self.old n }
     {
@@ -84,6 +85,29 @@ impl Places {
             self.dense.resize(wanted, ABSENT)?;
         }
         Ok(())
+    }
+
+    /// The place of a number that is known; `None` exactly where it is not, and then it is added with the place that is
+    /// given. It is looked for once, where `find` and `add` would look twice. Only a number that is not known takes
+    /// memory; where that runs out, what is known stays.
+    pub fn find_or_add(&mut self, number: u64, place: u32) -> Result<Option<u32>, AllocError>
+        requires place { place < 4294967295 }
+        ensures place { IfOk result (λ o. o ≡ found_in self.old number) }
+        ensures known { IfOk result (λ o. IsSome o → (n : ℕ) → found_in self.new n ≡ found_in self.old n) }
+        ensures added { IfOk result (λ o. o ≡ None → (n : ℕ) → found_in self.new n ≡ with_place (found_in self.old) number place n) }
+        ensures err { OnErr result ((n : ℕ) → found_in self.new n ≡ found_in self.old n) }
+        ensures absent { OnErr result (found_in self.old number ≡ None) }
+    {
+        if number >= self.bound as u64 {
+            return self.sparse.find_or_add(number, place);
+        }
+        self.grow(number as usize)?;
+        let known = self.dense[number as usize];
+        if known != ABSENT {
+            return Ok(Some(known));
+        }
+        self.dense[number as usize] = place;
+        Ok(None)
     }
 
     /// Adds a number with its place. Where memory runs out, what is known stays.

@@ -1,6 +1,7 @@
 pub mod Added
 pub mod Counted
 pub mod Describing
+pub mod Digits
 pub mod EntryTexts
 pub mod Growth
 pub mod Held

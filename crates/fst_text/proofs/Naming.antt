@@ -1,13 +1,14 @@
 -- Labels that are printed, and the first of them without a name.
-use Rattle.std.proofs.Common.{◌≡◌, ℕ, List, [], ◌∷◌, ◌++◌, Option, Some, None, refl, sym, ap, ◌∙◌}
+use Rattle.std.proofs.Common.{◌≡◌, ℕ, Bool, true, false, cond, ◌&&◌, ◌||◌, List, [], ◌∷◌, ◌++◌, Option, Some, None, refl, sym, ap, ◌∙◌, true≢false}
 use Rattle.std.specs.List.{AllByRecursion, flat_map}
-use Rattle.std.specs.Option.{option_map}
+use Rattle.std.specs.Option.{is_none, option_map}
 use Rattle.std.proofs.lemmas.Grind.{flat_map-append}
 use Rattle.fst_text.specs.declared.fault.PrintFault.{PrintFault}
 use Rattle.fst_text.specs.declared.fault.PrintFault.TheVariants.{UnknownSymbol}
 use Rattle.fst_text.specs.Options.{Options}
-use Rattle.fst_text.specs.Entries.{Entry}
-use Rattle.fst_text.specs.Printed.{Label, first_unnamed, labels_of_entry, text_of_label, unnamed_label}
+use Rattle.fst_symbols.specs.Symbols.{Symbol}
+use Rattle.fst_text.specs.Entries.{Entry, arc_entry, final_entry}
+use Rattle.fst_text.specs.Printed.{Label, first_unnamed, is_numbered, labels_of_entry, text_of_label, unnamed_label}
 
 -- where all of the first labels have names, the others are asked
 pub unnamed-behind : (xs ys : List Label) → first_unnamed xs ≡ None → first_unnamed (xs ++ ys) ≡ first_unnamed ys
@@ -64,3 +65,18 @@ all-named options [] h = tt
 all-named options (e ∷ es) h =
     let both = unnamed-both (labels_of_entry options e) (flat_map (labels_of_entry options) es) h in
     (both.0, all-named options es both.1)
+
+-- where labels are printed as numbers, none is without a name
+number-named : (options : Options) → is_numbered options ≡ true → (e : Entry) → first_unnamed (labels_of_entry options e) ≡ None
+number-named options h (final_entry q w) = refl
+number-named options h (arc_entry q a) = go options.acceptor options.isymbols options.osymbols h where
+  go : (acceptor : Bool) (input output : Option (List Symbol)) → is_none input && (acceptor || is_none output) ≡ true → first_unnamed (cond acceptor (record { symbols = input; number = a.ilabel } ∷ []) (record { symbols = input; number = a.ilabel } ∷ record { symbols = output; number = a.olabel } ∷ [])) ≡ None
+  go true None output h = refl
+  go true (Some symbols) output h = absurd (true≢false (sym h))
+  go false None None h = refl
+  go false None (Some symbols) h = absurd (true≢false (sym h))
+  go false (Some symbols) output h = absurd (true≢false (sym h))
+
+pub numbers-named : (options : Options) → is_numbered options ≡ true → (es : List Entry) → unnamed_label options es ≡ None
+numbers-named options h [] = refl
+numbers-named options h (e ∷ es) = unnamed-behind (labels_of_entry options e) (flat_map (labels_of_entry options) es) (number-named options h e) ∙ numbers-named options h es

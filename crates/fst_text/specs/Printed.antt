@@ -1,6 +1,6 @@
 -- The printed text of a machine. (OpenFst manual, `fstprint`.)
-use Rattle.std.specs.Prelude.{◌≡◌, ℕ, ◌+◌, ◌==◌, Bool, List, [], ◌∷◌, ◌++◌, map, slice_get, Option, Some, None, Result, Ok, Err, if◌then◌else◌}
-use Rattle.std.specs.Option.{option_map}
+use Rattle.std.specs.Prelude.{◌≡◌, ℕ, ◌+◌, ◌==◌, Bool, List, [], ◌∷◌, ◌++◌, map, slice_get, Option, Some, None, Result, Ok, Err, ◌&&◌, ◌||◌, if◌then◌else◌}
+use Rattle.std.specs.Option.{is_none, option_map}
 use Rattle.std.specs.List.{flat_map}
 use Rattle.std.specs.Fmt.{decimal}
 use Rattle.std.specs.Ordering.{is_eq}
@@ -46,6 +46,10 @@ text_of_label label = elim label.symbols [ None ↦ Some (decimal label.number) 
 abbrev pub labels_of_arc : Options → Arc Cost ℕ → List Label
 labels_of_arc options a = if options.acceptor then record { symbols = options.isymbols; number = a.ilabel } ∷ []
     else record { symbols = options.isymbols; number = a.ilabel } ∷ record { symbols = options.osymbols; number = a.olabel } ∷ []
+
+-- every label that is printed is printed as its number
+abbrev pub is_numbered : Options → Bool
+is_numbered options = is_none options.isymbols && (options.acceptor || is_none options.osymbols)
 
 -- the field of a label; one without a name is not printed
 abbrev pub field_of_label : Label → List ℕ

@@ -28,6 +28,7 @@ pub struct Builder<W: Weight> {
 }
 
 /// The label of a field: the number of a name where its side has a symbol table, else a label number.
+#[inline(always)]
 fn read_label(symbols: Option<&SymbolTable>, line: u64, field: &[u8]) -> Result<u32, TextFault>
     ensures read { IsRead (λ n. n) result (label_of_field (option_map (λ t. t.now) symbols.entry) line field.now) }
     ensures small { IfOk result (λ n. n ≤ greatest_label) }
@@ -45,6 +46,7 @@ fn read_label(symbols: Option<&SymbolTable>, line: u64, field: &[u8]) -> Result<
 }
 
 /// The output label of an arc with this input label, which is both labels where there is no other field.
+#[inline(always)]
 fn read_output_label(
     symbols: Option<&SymbolTable>,
     line: u64,
@@ -62,6 +64,7 @@ fn read_output_label(
 }
 
 /// The weight of a weight field, One where it is missing.
+#[inline(always)]
 fn read_weight<W: Weight>(line: u64, field: Option<&[u8]>) -> Result<W, TextFault>
     ensures { IsRead W.value result (weight_of_field W.KIND line (option_map (λ f. f.now) field.entry)) }
 {
@@ -75,6 +78,7 @@ fn read_weight<W: Weight>(line: u64, field: Option<&[u8]>) -> Result<W, TextFaul
 }
 
 /// The weight of an arc's weight field, which is not Zero; One where it is missing.
+#[inline(always)]
 fn read_arc_weight<W: Weight>(line: u64, field: Option<&[u8]>) -> Result<W, TextFault>
     ensures read { IsRead W.value result (arc_weight_of_field W.KIND line (option_map (λ f. f.now) field.entry)) }
     ensures finite { IfOk result (λ w. W.value w ≢ infinite) }
@@ -143,6 +147,7 @@ impl<W: Weight> Builder<W> {
     }
 
     /// The number of a line's first state field.
+    #[inline(always)]
     fn read_first(&self, kept: bool, line: u64, field: &[u8]) -> Result<u64, TextFault>
         ensures read { IsRead (λ n. n) result (state_of_field line (room_of kept (built W.value self.now)).state field.now) }
         ensures room { IfOk result (λ n. (room_of kept (built W.value self.now)).state n ≡ true) }
@@ -158,6 +163,7 @@ impl<W: Weight> Builder<W> {
     }
 
     /// The number of a line's second state field.
+    #[inline(always)]
     fn read_second(&self, kept: bool, line: u64, first: u64, field: &[u8]) -> Result<u64, TextFault>
         requires { (room_of kept (built W.value self.now)).state first ≡ true }
         ensures read { IsRead (λ n. n) result (state_of_field line ((room_of kept (built W.value self.now)).states first) field.now) }
@@ -186,6 +192,7 @@ impl<W: Weight> Builder<W> {
     }
 
     /// The state of a number for which there is room; it is added where it is not known.
+    #[inline(always)]
     fn state(&mut self, kept: bool, number: u64, again: bool) -> Result<u32, AllocError>
         requires placed { IsPlaced (built W.value self.old) }
         requires room { (room_of kept (built W.value self.old)).state number ≡ true }
@@ -346,6 +353,7 @@ impl<W: Weight> Builder<W> {
 
     /// What an arc line says. Takes no memory.
     #[tactic(auto, unfolding(crate::specs::Grammar::arc_line))]
+    #[inline(always)]
     fn read_arc(
         &self,
         options: &TextOptions,

@@ -1,7 +1,7 @@
 //! The text form of a machine, both ways.
 //!
 //! A line of a text is an arc or a final state. `compile` reads a text, with each fault at its line;
-//! `print` writes one.
+//! `print` writes one, and `print_into` writes it into a room that is given.
 #![tactic(auto)]
 
 mod builder;
@@ -9,6 +9,7 @@ mod compiling;
 mod entry;
 mod fault;
 mod laws;
+mod line;
 mod options;
 mod printing;
 
@@ -16,4 +17,4 @@ pub use compiling::compile;
 pub use fault::{PrintFault, TextFault};
 pub use laws::printed_machine_compiles_back;
 pub use options::TextOptions;
-pub use printing::print;
+pub use printing::{print, print_into};

@@ -1,18 +1,21 @@
 //! The text of a machine.
 
-ghost use Rattle.std.specs.Prelude.{◌≡◌, ◌<◌, ◌≤◌, ◌+◌, ◌*◌, ◌==◌, ◌∷◌, ◌++◌, if◌then◌else◌, [], length, map, None, Some, IfOk, OnOk};
+ghost use Rattle.std.specs.Prelude.{◌≡◌, ◌<◌, ◌≤◌, ◌+◌, ◌*◌, ◌==◌, ◌∷◌, ◌++◌, if◌then◌else◌, [], length, map, true, None, Some, IfOk, OnOk};
 ghost use Rattle.std.specs.Fmt.{decimal};
 ghost use Rattle.std.specs.Option.{option_map};
 ghost use Rattle.fst_machine.specs.Machine.{arc_total, most_arcs, valued, valued_arc, valued_state};
 ghost use Rattle.fst_text.specs.Entries.{arc_entry};
-ghost use Rattle.fst_text.specs.Printed.{Names, Prints, behind_tabs, entries_at, field_of_label, final_entries, first_unnamed, is_one, label_fields, labels_of_arc, other_entries, split_arc, split_state, text_of_entries, text_of_machine, unnamed_label, weight_fields};
+ghost use Rattle.fst_text.specs.Printed.{Names, Prints, behind_tabs, entries_at, field_of_label, final_entries, first_unnamed, is_numbered, label_fields, labels_of_arc, other_entries, split_arc, split_state, text_of_entries, text_of_machine, unnamed_label, weight_fields};
 
 use crate::fault::PrintFault;
+use crate::line::{
+    LINE_ROOM, is_shown, write_arc, write_last_arc, write_last_field, write_last_number,
+    write_number, write_weight,
+};
 use crate::options::TextOptions;
 use fst_machine::{Fst, FstArc};
 use fst_semiring::{Weight, is_zero};
 use fst_symbols::SymbolTable;
-use itoa::Buffer;
 use std::alloc::{AllocError, Global};
 
 /// The bytes that are reserved for the line of an arc, and for the final line of a state.
@@ -20,29 +23,23 @@ const ARC_ROOM: usize = 32;
 
 const STATE_ROOM: usize = 16;
 
-/// Whether a weight is One.
-fn is_one<W: Weight>(weight: W) -> bool
-    ensures { result ≡ is_one W.KIND (W.value weight) }
+/// Whether the labels that are printed are printed as their numbers.
+fn is_numbered(options: &TextOptions) -> bool
+    ensures { result ≡ is_numbered options.now }
 {
-    W::key(weight.widen())
-        .cmp(&W::key(W::one().widen()))
-        .is_eq()
-}
-
-/// Appends a number.
-fn push_number(out: &mut Vec<u8>, number: u32) -> Result<(), AllocError>
-    ensures { OnOk result (out.new.items ≡ out.old.items ++ decimal number) }
-{
-    let mut buffer = Buffer::new();
-    out.extend_from_slice(buffer.format(number).as_bytes())
+    options.isymbols.is_none() && (options.acceptor || options.osymbols.is_none())
 }
 
 /// Appends a field that is a number.
-fn push_number_field(out: &mut Vec<u8>, number: u32) -> Result<(), AllocError>
+fn push_number_field(
+    out: &mut Vec<u8>,
+    line: &mut [u8; LINE_ROOM],
+    number: u32,
+) -> Result<(), AllocError>
     ensures { OnOk result (out.new.items ≡ out.old.items ++ behind_tabs (decimal number ∷ [])) }
 {
-    out.push(b'\t')?;
-    push_number(out, number)
+    let start = write_last_field(line, number);
+    out.extend_from_slice(&line[start..])
 }
 
 /// Appends a field that is a name.
@@ -56,12 +53,16 @@ fn push_name_field(out: &mut Vec<u8>, name: &[u8]) -> Result<(), AllocError>
 /// Appends the field of a weight, where it is not left out, and the end of its line.
 fn push_weight<W: Weight>(
     out: &mut Vec<u8>,
+    line: &mut [u8; LINE_ROOM],
     options: &TextOptions,
     weight: W,
 ) -> Result<(), AllocError>
     ensures { OnOk result (out.new.items ≡ out.old.items ++ behind_tabs (weight_fields W.KIND options.now (W.value weight)) ++ 10 ∷ []) }
 {
-    if options.show_weight_one || !is_one::<W>(weight) {
+    if let Some(start) = write_weight::<W>(line, options, weight) {
+        return out.extend_from_slice(&line[start..]);
+    }
+    if is_shown::<W>(options, weight) {
         out.push(b'\t')?;
         weight.push_text(out)?;
     }
@@ -73,6 +74,7 @@ fn push_weight<W: Weight>(
 /// label has no name.
 fn push_label(
     out: &mut Vec<u8>,
+    line: &mut [u8; LINE_ROOM],
     symbols: Option<&SymbolTable>,
     label: u32,
 ) -> Result<Result<(), PrintFault>, AllocError>
@@ -80,7 +82,7 @@ fn push_label(
     ensures named { IfOk result (λ r. Names r (first_unnamed (record { symbols = option_map (λ t. t.now) symbols.entry; number = label } ∷ []))) }
 {
     let Some(symbols) = symbols else {
-        push_number_field(out, label)?;
+        push_number_field(out, line, label)?;
         return Ok(Ok(()));
     };
     let Some(name) = symbols.name(label) else {
@@ -93,24 +95,26 @@ fn push_label(
 /// Appends the fields of the labels of an arc.
 fn push_labels<W: Weight>(
     out: &mut Vec<u8>,
+    line: &mut [u8; LINE_ROOM],
     options: &TextOptions,
     arc: &FstArc<W>,
 ) -> Result<Result<(), PrintFault>, AllocError>
     ensures text { IfOk result (λ r. OnOk r (out.new.items ≡ out.old.items ++ behind_tabs (label_fields options.now (valued_arc W.value arc.now)))) }
     ensures named { IfOk result (λ r. Names r (first_unnamed (labels_of_arc options.now (valued_arc W.value arc.now)))) }
 {
-    if let Err(fault) = push_label(out, options.isymbols, arc.ilabel)? {
+    if let Err(fault) = push_label(out, line, options.isymbols, arc.ilabel)? {
         return Ok(Err(fault));
     }
     if options.acceptor {
         return Ok(Ok(()));
     }
-    push_label(out, options.osymbols, arc.olabel)
+    push_label(out, line, options.osymbols, arc.olabel)
 }
 
 /// Appends the line of an arc.
 fn push_arc<W: Weight>(
     out: &mut Vec<u8>,
+    line: &mut [u8; LINE_ROOM],
     options: &TextOptions,
     state: u32,
     arc: &FstArc<W>,
@@ -118,18 +122,57 @@ fn push_arc<W: Weight>(
     ensures text { IfOk result (λ r. OnOk r (out.new.items ≡ out.old.items ++ text_of_entries W.KIND options.now (arc_entry state (valued_arc W.value arc.now) ∷ []))) }
     ensures named { IfOk result (λ r. Names r (first_unnamed (labels_of_arc options.now (valued_arc W.value arc.now)))) }
 {
-    push_number(out, state)?;
-    push_number_field(out, arc.next)?;
-    if let Err(fault) = push_labels::<W>(out, options, arc)? {
+    let next = write_last_field(line, arc.next);
+    let start = write_number(line, next, state);
+    out.extend_from_slice(&line[start..])?;
+    if let Err(fault) = push_labels::<W>(out, line, options, arc)? {
         return Ok(Err(fault));
     }
-    push_weight::<W>(out, options, arc.weight)?;
+    push_weight::<W>(out, line, options, arc.weight)?;
     Ok(Ok(()))
 }
 
-/// Appends the lines of arcs of a state.
-fn push_arcs<W: Weight>(
+/// Appends the line of an arc whose labels are printed as their numbers: at once, where its weight is a single number.
+fn push_numbered_arc<W: Weight>(
     out: &mut Vec<u8>,
+    line: &mut [u8; LINE_ROOM],
+    options: &TextOptions,
+    state: u32,
+    arc: &FstArc<W>,
+) -> Result<(), AllocError>
+    requires { is_numbered options.now ≡ true }
+    ensures { OnOk result (out.new.items ≡ out.old.items ++ text_of_entries W.KIND options.now (arc_entry state (valued_arc W.value arc.now) ∷ [])) }
+{
+    if let Some(end) = write_weight::<W>(line, options, arc.weight) {
+        let start = write_arc::<W>(line, end, options, state, arc);
+        return out.extend_from_slice(&line[start..]);
+    }
+    let start = write_last_arc::<W>(line, options, state, arc);
+    out.extend_from_slice(&line[start..])?;
+    push_weight::<W>(out, line, options, arc.weight)
+}
+
+/// Appends the lines of arcs of a state, whose labels are printed as their numbers.
+fn push_numbered_arcs<W: Weight>(
+    out: &mut Vec<u8>,
+    line: &mut [u8; LINE_ROOM],
+    options: &TextOptions,
+    state: u32,
+    arcs: &[FstArc<W>],
+) -> Result<(), AllocError>
+    requires { is_numbered options.now ≡ true }
+    ensures { OnOk result (out.new.items ≡ out.old.items ++ text_of_entries W.KIND options.now (map (arc_entry state) (map (valued_arc W.value) arcs.now))) }
+{
+    for arc in arcs {
+        push_numbered_arc::<W>(out, line, options, state, arc)?;
+    }
+    Ok(())
+}
+
+/// Appends the lines of arcs of a state, some of whose labels are printed as their names.
+fn push_named_arcs<W: Weight>(
+    out: &mut Vec<u8>,
+    line: &mut [u8; LINE_ROOM],
     options: &TextOptions,
     state: u32,
     arcs: &[FstArc<W>],
@@ -138,16 +181,35 @@ fn push_arcs<W: Weight>(
     ensures named { IfOk result (λ r. Names r (unnamed_label options.now (map (arc_entry state) (map (valued_arc W.value) arcs.now)))) }
 {
     for arc in arcs {
-        if let Err(fault) = push_arc::<W>(out, options, state, arc)? {
+        if let Err(fault) = push_arc::<W>(out, line, options, state, arc)? {
             return Ok(Err(fault));
         }
     }
     Ok(Ok(()))
 }
 
+/// Appends the lines of arcs of a state.
+fn push_arcs<W: Weight>(
+    out: &mut Vec<u8>,
+    line: &mut [u8; LINE_ROOM],
+    options: &TextOptions,
+    state: u32,
+    arcs: &[FstArc<W>],
+) -> Result<Result<(), PrintFault>, AllocError>
+    ensures text { IfOk result (λ r. OnOk r (out.new.items ≡ out.old.items ++ text_of_entries W.KIND options.now (map (arc_entry state) (map (valued_arc W.value) arcs.now)))) }
+    ensures named { IfOk result (λ r. Names r (unnamed_label options.now (map (arc_entry state) (map (valued_arc W.value) arcs.now)))) }
+{
+    if is_numbered(options) {
+        push_numbered_arcs::<W>(out, line, options, state, arcs)?;
+        return Ok(Ok(()));
+    }
+    push_named_arcs::<W>(out, line, options, state, arcs)
+}
+
 /// Appends the final line of a state.
 fn push_final<W: Weight>(
     out: &mut Vec<u8>,
+    line: &mut [u8; LINE_ROOM],
     options: &TextOptions,
     state: u32,
     weight: W,
@@ -158,8 +220,13 @@ fn push_final<W: Weight>(
     if !arcs.is_empty() && is_zero(weight) {
         return Ok(());
     }
-    push_number(out, state)?;
-    push_weight::<W>(out, options, weight)
+    if let Some(end) = write_weight::<W>(line, options, weight) {
+        let start = write_number(line, end, state);
+        return out.extend_from_slice(&line[start..]);
+    }
+    let start = write_last_number(line, state);
+    out.extend_from_slice(&line[start..])?;
+    push_weight::<W>(out, line, options, weight)
 }
 
 /// Appends the lines of a state.
@@ -174,11 +241,19 @@ fn push_state<W: Weight>(
     ensures named { IfOk result (λ r. Names r (unnamed_label options.now (entries_at state (map (valued_state W.value) fst.now.states)))) }
 {
     let arcs = fst.arcs(state);
-    match push_arcs::<W>(out, options, state, arcs)? {
+    let mut line = [0; LINE_ROOM];
+    match push_arcs::<W>(out, &mut line, options, state, arcs)? {
         Ok(()) => {}
         Err(fault) => return Ok(Err(fault)),
     }
-    push_final::<W>(out, options, state, fst.final_weight(state), arcs)?;
+    push_final::<W>(
+        out,
+        &mut line,
+        options,
+        state,
+        fst.final_weight(state),
+        arcs,
+    )?;
     Ok(Ok(()))
 }
 
@@ -249,24 +324,26 @@ fn split_state<W: Weight>(fst: &Fst<W>) -> Option<PrintFault>
 }
 
 /// The bytes that are reserved for a text: most machines fit, and room that stays empty costs no memory.
-fn room<W: Weight>(fst: &Fst<W>) -> usize
+fn text_room<W: Weight>(fst: &Fst<W>) -> usize
     ensures { result ≡ arc_total fst.now.states * 32 + length fst.now.states * 16 }
 {
     fst.arc_count() as usize * ARC_ROOM + fst.states() as usize * STATE_ROOM
 }
 
-/// The text of a machine with a start; the fault, where a label has no name.
+/// The text of a machine with a start, in an empty room; the fault, where a label has no name.
 fn print_from<W: Weight>(
-    alloc: Global,
+    room: Vec<u8>,
     fst: &Fst<W>,
     options: &TextOptions,
     start: u32,
 ) -> Result<Result<Vec<u8>, PrintFault>, AllocError>
-    requires { start < length fst.now.states }
+    requires start { start < length fst.now.states }
+    requires empty { room.items ≡ [] }
     ensures text { IfOk result (λ r. IfOk r (λ text. text.items ≡ text_of_entries W.KIND options.now (entries_at start (map (valued_state W.value) fst.now.states) ++ other_entries start 0 (map (valued_state W.value) fst.now.states)))) }
     ensures named { IfOk result (λ r. Names r (unnamed_label options.now (entries_at start (map (valued_state W.value) fst.now.states) ++ other_entries start 0 (map (valued_state W.value) fst.now.states)))) }
 {
-    let mut out = Vec::with_capacity(alloc, room::<W>(fst))?;
+    let mut out = room;
+    out.reserve_exact(text_room::<W>(fst))?;
     match push_state::<W>(&mut out, options, fst, start)? {
         Ok(()) => {}
         Err(fault) => return Ok(Err(fault)),
@@ -294,15 +371,29 @@ pub fn print<W: Weight>(
 ) -> Result<Vec<u8>, PrintFault>
     ensures { Prints (λ text. text.items) result (text_of_machine W.KIND options.now (valued W.value fst.now)) }
 {
+    print_into::<W>(Vec::new(alloc), fst, options)
+}
+
+/// The text of a machine, as `print` has it, made in a room that is given: what stands there goes, and where the text
+/// fits no memory is taken.
+pub fn print_into<W: Weight>(
+    room: Vec<u8>,
+    fst: &Fst<W>,
+    options: &TextOptions,
+) -> Result<Vec<u8>, PrintFault>
+    ensures { Prints (λ text. text.items) result (text_of_machine W.KIND options.now (valued W.value fst.now)) }
+{
     if options.acceptor {
         if let Some(fault) = split_state::<W>(fst) {
             return Err(fault);
         }
     }
+    let mut room = room;
+    room.clear();
     let Some(start) = fst.start() else {
-        return Ok(Vec::new(alloc));
+        return Ok(room);
     };
-    match print_from::<W>(alloc, fst, options, start) {
+    match print_from::<W>(room, fst, options, start) {
         Ok(Ok(text)) => Ok(text),
         Ok(Err(fault)) => Err(fault),
         Err(_) => Err(PrintFault::Memory),

@@ -37,10 +37,10 @@ fn repeat_by_table<W>(alloc: Global, arcs: &[FstArc<W>]) -> Result<Option<u32>, 
     let mut seen = FlatTable::new(alloc);
     for (place, arc) in arcs.iter().enumerate() {
         let label = u64::from(arc.ilabel);
-        if seen.find(label).is_some() {
+        let known = seen.find_or_add(label, place as u32)?;
+        if known.is_some() {
             return Ok(Some(place as u32));
         }
-        seen.add(label, place as u32)?;
     }
     Ok(None)
 }

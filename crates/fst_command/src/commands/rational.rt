@@ -13,7 +13,7 @@ use crate::given::{Given, one};
 use crate::made::Made;
 use crate::refusal::{Refusal, unmade};
 use fst_rational::{
-    RationalFault, closure, concat, into_inverted, into_projected, into_relabelled, reverse, union,
+    RationalFault, closure, concat, into_inverted, into_projected, into_relabelled, into_union, reverse,
 };
 use fst_semiring::Weight;
 use fst_words::Options;
@@ -95,7 +95,7 @@ pub(crate) fn united<W: Weight>(alloc: Global, given: Given<W>) -> Result<Made<W
     ensures { Settles union_meaning (given_seen W.KIND W.value given) (result_map_both (made_seen W.KIND W.value) (λ e. e) result) }
 {
     let (first, second) = given.two();
-    match union(alloc, &first, &second) {
+    match into_union(alloc, first, second) {
         Ok(made) => Ok(Made::Machine(made)),
         Err(fault) => Err(too_large(alloc, fault)),
     }

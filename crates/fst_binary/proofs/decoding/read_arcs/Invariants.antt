@@ -7,7 +7,8 @@ use Rattle.fst_binary.proofs.decoding.read_arcs.Given as goal
 abbrev pub invariant-loop : goal.invariant-loop
 invariant-loop g l =
     record {
-      so_far : with_front (map (valued_arc g.W.Weight.value) l.arcs.items) (arcs_at g.W.Weight.KIND l.states (l.count - l.counter) l.bytes l.behind) ≡ arcs_at g.W.Weight.KIND l.states l.count l.bytes l.at;
-      count : length l.arcs.items ≡ l.counter;
+      so_far : with_front (map (valued_arc g.W.Weight.value) l.list.arcs) (arcs_at g.W.Weight.KIND l.states (l.count - l.counter) l.bytes l.behind) ≡ arcs_at g.W.Weight.KIND l.states l.count l.bytes l.at;
+      others : l.list.states ≡ l.initial.list.states;
+      count : length l.list.arcs ≡ l.counter;
       behind : l.behind ≤ length l.bytes;
     }

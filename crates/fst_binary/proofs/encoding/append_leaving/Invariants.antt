@@ -12,6 +12,7 @@ invariant-loop-left g l =
     record {
       whole : l.out.items ++ flat_map fields (map (valued_state value) l.left) ≡ all;
       room : length all ≤ vec_capacity l.out;
+      grows : vec_capacity l.initial.out ≤ vec_capacity l.out;
       some : 0 < l.part;
     }
 

@@ -28,4 +28,5 @@ loop-state-preserved g c =
     record {
       whole = ap (λ items. items ++ flat_map fields (drop (i + 1) states)) c.append_state.ensures.items ∙ written;
       room = omega (arith, c.loop-state.invariant.room, c.append_state.ensures.room);
+      grows = omega (arith, c.loop-state.invariant.grows, c.append_state.ensures.room);
     }

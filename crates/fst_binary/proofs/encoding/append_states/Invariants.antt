@@ -11,4 +11,5 @@ invariant-loop-state g l =
     record {
       whole : l.out.items ++ flat_map fields (drop l.state states) ≡ l.initial.out.items ++ flat_map fields states;
       room : length (l.initial.out.items ++ flat_map fields states) ≤ vec_capacity l.out;
+      grows : vec_capacity l.initial.out ≤ vec_capacity l.out;
     }

@@ -29,7 +29,7 @@ loop-item-preserved g c =
     let own : graph.arcs b.state ≡ map (valued_arc value) c.arcs.result.now = arcs_read value states b.state c.arcs.result.now c.arcs.ensures in
     let ends : g.W.Weight.value c.final_weight.result ≡ graph.final b.state = sym (final_read value states b.state c.final_weight.result c.final_weight.ensures) in
     record {
-      held = c.in_ok-put_arcs.ensures.held;
+      paired = c.in_ok-put_arcs.ensures.paired;
       arcs = c.in_ok-put_arcs.ensures.arcs
           ∙ (ap₂ (λ (done own : List (Arc Cost ℕ)). merged done (spoken kind d own)) c.loop-item.invariant.arcs (sym own)
           ∙ (sym (merged-append [] (collected kind graph front) (spoken kind d (graph.arcs b.state)))

@@ -5,12 +5,11 @@ use Rattle.fst_semiring.specs.Semiring.{times}
 use Rattle.fst_machine.specs.Machine.{Arc, valued_arc}
 use Rattle.fst_machine.proofs.Narrowing.{taken}
 use Rattle.fst_epsilon.specs.Construction.{behind_arc, is_silent, merged, put_arc, spoken}
-use Rattle.fst_epsilon.proofs.Gathered.{loud_input, loud_output, merged-append, silent_labels, spoken-loud, spoken-silent}
-use Rattle.fst_epsilon.proofs.gathering.put_arcs.Goals.{else-arc-eq0-via-then-arc-eq0+else-arc-eq0-2, else-arc-eq0-via-else-arc-eq0}
+use Rattle.fst_epsilon.proofs.Gathered.{merged-append, spoken-loud, spoken-silent}
 use Rattle.fst_epsilon.proofs.gathering.put_arcs.Goals as goal
 
-pub loop-arc-preserved-then-arc-eq0-2 : goal.loop-arc-preserved-then-arc-eq0-2
-loop-arc-preserved-then-arc-eq0-2 g c =
+pub loop-arc-preserved-then-is_epsilon : goal.loop-arc-preserved-then-is_epsilon
+loop-arc-preserved-then-is_epsilon g c =
     let value = g.W.Weight.value in
     let kind = g.W.Weight.KIND in
     let d = g.W.Weight.wide_value c.args.distance in
@@ -19,9 +18,9 @@ loop-arc-preserved-then-arc-eq0-2 g c =
     let b : Arc g.row.W.Denot ℕ = record { ilabel = c.arc.inside.ilabel; olabel = c.arc.inside.olabel; weight = c.arc.inside.weight; next = c.arc.inside.next } in
     let there : slice_get arcs i ≡ Some b = slice_get_read arcs (length arcs) i c.arc-item.result refl c.loop-arc-test.true c.arc-item.is ∙ ap Some (sym c.arc.view_is) in
     let on : spoken kind d (take (i + 1) (map (valued_arc value) arcs)) ≡ spoken kind d (take i (map (valued_arc value) arcs)) =
-    ap (spoken kind d) (taken (valued_arc value) arcs i b there) ∙ spoken-silent kind d (take i (map (valued_arc value) arcs)) (valued_arc value b) (silent_labels (valued_arc value b) c.if-arc-eq0.true c.if-arc-eq0-2.true) in
+    ap (spoken kind d) (taken (valued_arc value) arcs i b there) ∙ spoken-silent kind d (take i (map (valued_arc value) arcs)) (valued_arc value b) (ap (λ (a : Arc g.row.W.Denot ℕ). is_silent (valued_arc value a)) c.arc.view_is ∙ (sym c.is_epsilon.ensures ∙ c.if-is_epsilon.true)) in
     record {
-      held = c.loop-arc.invariant.held;
+      paired = c.loop-arc.invariant.paired;
       arcs = c.loop-arc.invariant.arcs ∙ ap (merged (map (valued_arc g.W.Weight.wide_value) c.args.out.now.arcs.items)) (sym on);
     }
 
@@ -37,12 +36,12 @@ loop-arc-preserved g c =
     let so_far = spoken kind d (take i (map (valued_arc value) arcs)) in
     let b : Arc g.row.W.Denot ℕ = record { ilabel = c.arc.inside.ilabel; olabel = c.arc.inside.olabel; weight = c.arc.inside.weight; next = c.arc.inside.next } in
     let there : slice_get arcs i ≡ Some b = slice_get_read arcs (length arcs) i c.arc-item.result refl c.loop-arc-test.true c.arc-item.is ∙ ap Some (sym c.arc.view_is) in
-    let loud : is_silent (valued_arc value b) ≡ false = elim c.else-arc-eq0.branch [ else-arc-eq0-via-then-arc-eq0+else-arc-eq0-2 w ↦ loud_output (valued_arc value b) w.if-arc-eq0-2.false | else-arc-eq0-via-else-arc-eq0 w ↦ loud_input (valued_arc value b) w.if-arc-eq0.false ] in
+    let loud : is_silent (valued_arc value b) ≡ false = ap (λ (a : Arc g.row.W.Denot ℕ). is_silent (valued_arc value a)) c.arc.view_is ∙ (sym c.is_epsilon.ensures ∙ c.if-is_epsilon.false) in
     let on : spoken kind d (take (i + 1) (map (valued_arc value) arcs)) ≡ so_far ++ behind_arc kind d (valued_arc value b) ∷ [] =
     ap (spoken kind d) (taken (valued_arc value) arcs i b there) ∙ spoken-loud kind d (take i (map (valued_arc value) arcs)) (valued_arc value b) loud in
     let weight : wide c.wide_times.result ≡ times kind d (value c.arc.inside.weight) = c.wide_times.ensures.product ∙ ap (times kind d) c.widen.ensures.same in
     record {
-      held = c.in_ok-put.ensures.held;
+      paired = c.in_ok-put.ensures.paired;
       arcs = c.in_ok-put.ensures.arcs
           ∙ (ap (λ (w : Cost). put_arc (map (valued_arc wide) c.loop-arc.out.arcs.items) (record { ilabel = c.arc.inside.ilabel; olabel = c.arc.inside.olabel; weight = w; next = c.arc.inside.next })) weight
           ∙ (ap (λ (zs : List (Arc Cost ℕ)). put_arc zs (behind_arc kind d (valued_arc value b))) c.loop-arc.invariant.arcs

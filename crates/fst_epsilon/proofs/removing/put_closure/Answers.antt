@@ -1,12 +1,13 @@
-use Rattle.std.proofs.Common.{◌≡◌, ◌*◌, ◌≤◌, ◌<◌, ℕ, List, All, length, map, sym, ap, ◌∙◌, subst, arith}
+use Rattle.std.proofs.Common.{◌≡◌, ◌*◌, ◌≤◌, ◌<◌, ℕ, List, All, length, map, refl, sym, subst, arith}
 use Rattle.std.proofs.lemmas.List.{length-map}
 use Rattle.fst_semiring.specs.Semiring.{IsWide}
 use Rattle.fst_machine.specs.Graph.{graph_of}
-use Rattle.fst_machine.specs.Machine.{most_states, valued, valued_arc, valued_state}
+use Rattle.fst_machine.specs.Machine.{most_states, valued, valued_state}
 use Rattle.fst_machine.proofs.Valued.{IsMachine-valued}
 use Rattle.fst_distance.specs.Closure.{Reached}
 use Rattle.fst_epsilon.specs.Construction.{IsClosureList}
 use Rattle.fst_epsilon.specs.Gathering.{pairs_of}
+use Rattle.fst_epsilon.specs.Making.{gathered}
 use Rattle.fst_epsilon.proofs.Whole.{gathered_state, improving_near, in_err, in_ok, removing_more, sorted_closure, sorted_low, sorted_wide}
 use Rattle.fst_epsilon.proofs.removing.put_closure.Goals as goal
 
@@ -14,8 +15,8 @@ pub returns-in-Err-clause-cycle : goal.returns-in-Err-clause-cycle
 returns-in-Err-clause-cycle g c =
     improving_near g.W.Weight.KIND (graph_of (valued g.W.Weight.value c.args.fst.now)) c.args.state c.in-Err.cycle c.requires.near (in_err c.in_ok-closed.field-0 c.in-Err.cycle _ c.in-Err.is c.in_ok-closed.ensures.cycle)
 
-pub gather-requires-clause-states : goal.gather-requires-clause-states
-gather-requires-clause-states g c =
+pub put_gathered-requires-clause-states : goal.put_gathered-requires-clause-states
+put_gathered-requires-clause-states g c =
     let value = g.W.Weight.value in
     let kind = g.W.Weight.KIND in
     let wide = g.W.Weight.wide_value in
@@ -28,8 +29,8 @@ gather-requires-clause-states g c =
     subst (λ (rs : List (Reached g.row.W-Wide.Denot)). All (λ (r : Reached g.row.W-Wide.Denot). r.state < length c.args.fst.now.states) rs) (sym c.as_slice.ensures.value)
     (subst (λ (n : ℕ). All (λ (r : Reached g.row.W-Wide.Denot). r.state < n) c.sort_closure.new.reached.items) many all)
 
-pub gather-requires-clause-wide : goal.gather-requires-clause-wide
-gather-requires-clause-wide g c =
+pub put_gathered-requires-clause-wide : goal.put_gathered-requires-clause-wide
+put_gathered-requires-clause-wide g c =
     let value = g.W.Weight.value in
     let kind = g.W.Weight.KIND in
     let wide = g.W.Weight.wide_value in
@@ -55,7 +56,5 @@ returns-clause-removing g c =
     let closes = sorted_closure wide kind m good c.args.state (length c.args.fst.now.states * 1000000000000000000) low c.in-Ok.closed.reached.items c.sort_closure.new.reached.items closure c.sort_closure.ensures.same c.sort_closure.ensures.ranked in
     let pairs = pairs_of wide c.as_slice.result.now in
     let listed = subst (λ (rs : List (Reached g.row.W-Wide.Denot)). IsClosureList kind (graph_of m) c.args.state (pairs_of wide rs)) (sym c.as_slice.ensures.value) closes in
-    let s = valued_state wide (record { final = c.in_ok-last.last; arcs = c.as_slice-2.result.now }) in
-    let arcs = ap (map (valued_arc wide)) c.as_slice-2.ensures.value ∙ c.in_ok-last.ensures.arcs in
-    let here = gathered_state kind (graph_of m) c.args.state s pairs c.requires.near listed arcs c.in_ok-last.ensures.ends in
-    removing_more kind (graph_of m) c.args.state s (map (valued_state value) c.args.output.now.states) (map (valued_state value) c.put_state.new.output.states) c.args.output.now.total c.put_state.new.output.total c.args.output.now.overflow c.put_state.new.output.overflow here c.requires.removing c.in_ok-put_state.ensures
+    let here = gathered_state kind (graph_of m) c.args.state (gathered kind (graph_of m) pairs) pairs c.requires.near listed refl refl in
+    removing_more kind (graph_of m) c.args.state (gathered kind (graph_of m) pairs) (map (valued_state value) c.args.output.now.states) (map (valued_state value) c.put_gathered.new.output.states) c.args.output.now.total c.put_gathered.new.output.total c.args.output.now.overflow c.put_gathered.new.output.overflow here c.requires.removing c.in_ok-put_gathered.ensures

@@ -8,6 +8,8 @@ abbrev pub invariant-loop-arc : goal.invariant-loop-arc
 invariant-loop-arc g l =
     let arcs = map (valued_arc g.W.Weight.value) l.arcs in
     record {
-      states : put_back l.place (drop l.arc-index arcs) (map (valued_state g.W.Weight.value) l.states.items) ≡ put_back l.place arcs (map (valued_state g.W.Weight.value) l.initial.states.items);
-      size : length l.states.items ≡ length l.initial.states.items;
+      states : put_back l.place (drop l.arc-index arcs) (map (valued_state g.W.Weight.value) l.states.states) ≡ put_back l.place arcs (map (valued_state g.W.Weight.value) l.initial.states.states);
+      size : length l.states.states ≡ length l.initial.states.states;
+      rooms : l.states.rooms ≡ l.initial.states.rooms;
+      left : l.states.left ≡ l.initial.states.left;
     }

@@ -1,4 +1,4 @@
-use Rattle.std.proofs.Common.{◌≡◌, ℕ, Bool, List, false, get_or, sym, subst}
+use Rattle.std.proofs.Common.{ℕ, Bool, List, false, get_or, sym, subst}
 use Rattle.std.specs.Bool.{Decides}
 use Rattle.fst_machine.specs.Machine.{valued}
 use Rattle.fst_machine.specs.Graph.{graph_of}

@@ -21,14 +21,11 @@ loop-place-init g c = record {
   seen = table_empty c.args.arcs.now (λ label. is_some (placed_in c.new-seen.result label)) (λ label. ap is_some (c.new-seen.ensures label));
 }
 
-pub add-requires-clause-absent : goal.add-requires-clause-absent
-add-requires-clause-absent g c = sym c.find.ensures ∙ none_of c.find.result (sym c.is_some.ensures ∙ c.if-is_some.false)
-
 pub returns-then-is_some : goal.returns-then-is_some
 returns-then-is_some g c =
     let a = c.index-arcs-place.result in
     let number : c.from-label.result ≡ a.ilabel = c.from-label.ensures ∙ ap (λ (b : Arc g.row.W.Denot ℕ). b.ilabel) c.arc.view_is in
-    let had : is_some (placed_in c.loop-place.seen c.from-label.result) ≡ true = ap is_some (sym c.find.ensures) ∙ sym c.is_some.ensures ∙ c.if-is_some.true in (
+    let had : is_some (placed_in c.loop-place.seen c.from-label.result) ≡ true = ap is_some (sym c.in_ok-known.ensures.place) ∙ sym c.is_some.ensures ∙ c.if-is_some.true in (
       record {
         arc = a;
         there = read_here c.args.arcs.now c.loop-place.place a (omega arith) c.index-arcs-place.is;
@@ -43,12 +40,13 @@ loop-place-preserved g c =
     let number : c.from-label.result ≡ a.ilabel = c.from-label.ensures ∙ ap (λ (b : Arc g.row.W.Denot ℕ). b.ilabel) c.arc.view_is in
     let there : slice_get c.args.arcs.now c.loop-place.place ≡ Some a = read_here c.args.arcs.now c.loop-place.place a (omega arith) c.index-arcs-place.is in
     let old : ℕ → Option ℕ = placed_in c.loop-place.seen in
-    let new : ℕ → Option ℕ = placed_in c.add.new.self in
-    let lacked : is_some (old c.from-label.result) ≡ false = ap is_some (sym c.find.ensures) ∙ sym c.is_some.ensures ∙ c.if-is_some.false in
+    let new : ℕ → Option ℕ = placed_in c.find_or_add.new.self in
+    let lacked : is_some (old c.from-label.result) ≡ false = ap is_some (sym c.in_ok-known.ensures.place) ∙ sym c.is_some.ensures ∙ c.if-is_some.false in
     let none : HasEarlier c.args.arcs.now c.loop-place.place a.ilabel → ⊥ = λ h. let wrong : false ≡ true = sym lacked ∙ (c.loop-place.invariant.seen c.from-label.result).1 (subst (λ (label : ℕ). HasEarlier c.args.arcs.now c.loop-place.place label) (sym number) h) in absurd (cc) in
+    let absent : c.in_ok-known.known ≡ None = none_of c.in_ok-known.known (sym c.is_some.ensures ∙ c.if-is_some.false) in
     record {
       none = none_more Repeats c.args.arcs.now c.loop-place.place c.loop-place.invariant.none (new_label c.args.arcs.now c.loop-place.place a there none);
-      seen = table_more c.args.arcs.now c.loop-place.place a (λ label. is_some (old label)) (λ label. is_some (new label)) there (λ label. ap is_some ((rw number at c.in_ok-add.ensures.added) label) ∙ some_of (label == a.ilabel) _ (old label)) c.loop-place.invariant.seen;
+      seen = table_more c.args.arcs.now c.loop-place.place a (λ label. is_some (old label)) (λ label. is_some (new label)) there (λ label. ap is_some ((rw number at (c.in_ok-known.ensures.added absent)) label) ∙ some_of (label == a.ilabel) _ (old label)) c.loop-place.invariant.seen;
     }
 
 pub returns : goal.returns

@@ -1,0 +1,11 @@
+use Rattle.std.proofs.Common.{length, ap, arith}
+use Rattle.fst_machine.specs.Machine.{valued}
+use Rattle.fst_semiring.specs.Names.{name_of}
+use Rattle.fst_binary.proofs.Lengths.{spelling_length}
+use Rattle.fst_binary.proofs.encoding.whole_length.Goals as goal
+
+pub returns-clause-value : goal.returns-clause-value
+returns-clause-value g c =
+    let whole = spelling_length g.W.Weight.KIND (valued g.W.Weight.value c.args.fst.now) in
+    let name = ap (λ kind. length (name_of kind)) c.KIND.ensures in
+    omega (arith, whole, name, c.header_length.ensures, c.states_length.ensures.value)

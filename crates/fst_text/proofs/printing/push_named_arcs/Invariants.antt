@@ -1,0 +1,12 @@
+use Rattle.std.proofs.Common.{◌≡◌, ◌++◌, drop, map, take}
+use Rattle.fst_machine.specs.Machine.{valued_arc}
+use Rattle.fst_text.specs.Entries.{arc_entry}
+use Rattle.fst_text.specs.Printed.{text_of_entries, unnamed_label}
+use Rattle.fst_text.proofs.printing.push_named_arcs.Given as goal
+
+-- the lines of the arcs so far are appended, and the first label without a name is of an arc that is left
+abbrev pub invariant-loop-arc : goal.invariant-loop-arc
+invariant-loop-arc g l = record {
+  text : l.out.items ≡ l.fn.out.items ++ text_of_entries g.W.Weight.KIND l.options (map (arc_entry l.state) (map (valued_arc g.W.Weight.value) (take l.arc-index l.arcs)));
+  named : unnamed_label l.options (map (arc_entry l.state) (map (valued_arc g.W.Weight.value) (drop l.arc-index l.arcs))) ≡ unnamed_label l.options (map (arc_entry l.state) (map (valued_arc g.W.Weight.value) l.arcs));
+}
