@@ -40,6 +40,8 @@ pub(crate) struct Held {
     pub(crate) codex: Option<AnyCodex>,
     /// Where the bytes of the output may be made: the content of the machine that a command changes in place.
     pub(crate) room: Vec<u8>,
+    /// Where the text of the output may be made: the content of the machine that is printed.
+    pub(crate) text_room: Vec<u8>,
 }
 
 /// What a command is given: the files of its options, and what it works on, all of one arc type.
@@ -59,6 +61,8 @@ pub(crate) struct Given<W: Weight> {
     pub(crate) machines: Vec<Fst<W>>,
     /// The codex.
     pub(crate) codex: Option<Codex<W>>,
+    /// Where the text of the output may be made: the content of the machine that is printed.
+    pub(crate) text_room: Vec<u8>,
 }
 
 /// The arc type of a machine that is made without a machine: tropical without the option.
@@ -85,6 +89,7 @@ impl Held {
             machines: Vec::new(alloc),
             codex: None,
             room: Vec::new(alloc),
+            text_room: Vec::new(alloc),
         }
     }
 
@@ -123,8 +128,8 @@ fn alike_codex<W: Kinded>(alloc: Global, any: Option<AnyCodex>) -> Result<Option
     }
 }
 
-/// What was read, all of the arc type of the weights; the room is freed. The first machine of another arc type, or else a codex of another,
-/// is a refusal.
+/// What was read, all of the arc type of the weights; the room for bytes is freed. The first machine of another arc type,
+/// or else a codex of another, is a refusal.
 #[tactic(auto, unfolding(crate::specs::Given::given_at))]
 pub(crate) fn alike<W: Kinded>(alloc: Global, held: Held) -> Result<Given<W>, Refusal>
     ensures { Judges (λ given. given_seen W.KIND W.value given) result (given_at W.KIND (held_seen held)) }
@@ -139,6 +144,7 @@ pub(crate) fn alike<W: Kinded>(alloc: Global, held: Held) -> Result<Given<W>, Re
         lines: held.lines,
         machines,
         codex,
+        text_room: held.text_room,
     })
 }
 

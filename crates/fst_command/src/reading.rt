@@ -26,7 +26,7 @@ use fst_desk::Desk;
 use fst_rational::{Pairs, PairsFault};
 use fst_symbols::{SymbolTable, SymbolsFault};
 use fst_text::{TextFault, TextOptions};
-use fst_words::{Input, Options, Plan, Role};
+use fst_words::{Input, Options, Plan, Role, Verb};
 use std::alloc::Global;
 
 /// A content is not of its form, at a line.
@@ -210,8 +210,19 @@ fn has_machine(role: Role) -> bool {
     }
 }
 
+/// Keeps the content of a machine as a room, where the command makes its output there, or frees it.
+fn keep_room(command: Verb, content: Vec<u8>, held: &mut Held)
+    ensures { held_seen held.new ≡ held_seen held.old }
+{
+    if changes_in_place(command) {
+        held.room = content;
+    } else if command == Verb::Print {
+        held.text_room = content;
+    }
+}
+
 /// Fetches an input, and puts what it stands for beside what stands there. The content of a machine that is changed in
-/// place stays as a room; any other is freed.
+/// place, or printed, stays as a room; any other is freed.
 fn read_one<D: Desk>(
     alloc: Global,
     desk: &mut D,
@@ -231,15 +242,15 @@ fn read_one<D: Desk>(
         content.as_slice(),
         held,
     )?;
-    if has_machine(input.role) && changes_in_place(plan.command) {
-        held.room = content;
+    if has_machine(input.role) {
+        keep_room(plan.command, content, held);
     }
     Ok(())
 }
 
 /// Reads all inputs of a command, the files of its options first. Each is fetched once, and judged and freed before the
-/// next is fetched, but for the content of the one machine of a command that changes it in place; the first that is too
-/// long or has a fault is the refusal.
+/// next is fetched, but for the content of the one machine of a command that changes it in place or prints it; the first
+/// that is too long or has a fault is the refusal.
 pub(crate) fn read_all<D: Desk>(alloc: Global, desk: &mut D, plan: &Plan) -> Result<Held, Refusal>
     ensures { ReadsAll plan.now (D.seen desk.old) (D.seen desk.new) (result_map_both held_seen (λ e. e) result) }
 {

@@ -13,7 +13,8 @@ use crate::given::{Given, one};
 use crate::made::Made;
 use crate::refusal::{Refusal, unmade};
 use fst_rational::{
-    RationalFault, closure, concat, into_inverted, into_projected, into_relabelled, into_union, reverse,
+    RationalFault, closure, concat, into_inverted, into_projected, into_relabelled, into_union,
+    reverse,
 };
 use fst_semiring::Weight;
 use fst_words::Options;

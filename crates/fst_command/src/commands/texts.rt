@@ -14,7 +14,7 @@ use crate::made::Made;
 use crate::reading::choices;
 use crate::refusal::{Refusal, unmade};
 use fst_semiring::Weight;
-use fst_text::{PrintFault, print};
+use fst_text::{PrintFault, print_into};
 use fst_words::Options;
 use std::alloc::Global;
 
@@ -37,7 +37,7 @@ pub(crate) fn compiled<W: Weight>(given: Given<W>) -> Result<Made<W>, Refusal>
     Ok(Made::Machine(given.one()))
 }
 
-/// `print`.
+/// `print`: the text is made where the content of the machine stood.
 pub(crate) fn printed<W: Weight>(
     alloc: Global,
     options: &Options,
@@ -48,7 +48,7 @@ pub(crate) fn printed<W: Weight>(
 {
     let machine = one(given.machines);
     let choices = choices(options, &given.isymbols, &given.osymbols);
-    match print(alloc, &machine, &choices) {
+    match print_into(given.text_room, &machine, &choices) {
         Ok(text) => Ok(Made::Text(text)),
         Err(fault) => Err(unprinted(alloc, fault)),
     }
