@@ -47,8 +47,9 @@ pub(crate) fn printed<W: Weight>(
     ensures { Settles (print_meaning options.now) (given_seen W.KIND W.value given) (result_map_both (made_seen W.KIND W.value) (λ e. e) result) }
 {
     let machine = one(given.machines);
+    let room = given.text_room;
     let choices = choices(options, &given.isymbols, &given.osymbols);
-    match print_into(given.text_room, &machine, &choices) {
+    match print_into(room, &machine, &choices) {
         Ok(text) => Ok(Made::Text(text)),
         Err(fault) => Err(unprinted(alloc, fault)),
     }
