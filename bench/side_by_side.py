@@ -10,8 +10,8 @@ crafted and batch; without --only all are shown. --table shows the first three i
 instructions, which no load changes. With --large the machine of the cliffs is added that takes gigabytes.
 
 With --gate the status is 1 where a ratio passes the bound of its row at 10^6 arcs, where an operation takes more than GROWTH times
-as long for ten times the arcs, where instructions grow by more than the power 1.1, where crafted keys take more than twice as long
-as plain ones, or where the program does not have a command.
+as long for ten times the arcs, where instructions grow by more than the power 1.1, where crafted keys take more than four times as
+long as plain ones, or where the program does not have a command.
 """
 import argparse
 import os

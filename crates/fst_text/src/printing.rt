@@ -374,8 +374,8 @@ pub fn print<W: Weight>(
     print_into::<W>(Vec::new(alloc), fst, options)
 }
 
-/// The text of a machine, as `print` has it, made in a room that is given: what stands there goes, and where the text
-/// fits no memory is taken.
+/// The text of a machine, as `print` has it, made in a room that is given: what stands there goes, and a room that is
+/// smaller than what `print` reserves grows to that first.
 pub fn print_into<W: Weight>(
     room: Vec<u8>,
     fst: &Fst<W>,
