@@ -10,6 +10,7 @@ use crate::kept::Kept;
 
 mod change;
 mod extending;
+mod joined;
 mod leaving;
 mod open_list;
 mod placing;
@@ -19,6 +20,7 @@ mod state_list;
 
 pub use change::ArcsChange;
 use fst_semiring::Weight;
+pub use joined::Joined;
 pub use leaving::Leaving;
 pub use open_list::OpenList;
 pub use placing::Placing;

@@ -4,7 +4,7 @@ ghost use Rattle.std.specs.Prelude.{◌≡◌, ◌≤◌, ◌<◌, IfErr, IfOk, 
 ghost use Rattle.std.specs.Option.{option_map};
 ghost use Rattle.fst_machine.specs.Forgetting.{BeginsFrom, moved_back};
 
-use super::Fst;
+use super::{Fst, StateList};
 use crate::arc::FstArc;
 use crate::kept::Kept;
 use crate::slot::Slot;
@@ -94,6 +94,18 @@ impl<W: Weight> Fst<W> {
         }
         let Kept { slots, store, .. } = self.kept;
         Ok(Leaving { slots, store })
+    }
+}
+
+impl<W: Weight> StateList<W> {
+    /// The states of a list that is given away. Takes no memory.
+    pub(super) fn leave(self) -> Leaving<W>
+        ensures { result ≡ self }
+    {
+        Leaving {
+            slots: self.slots,
+            store: self.store,
+        }
     }
 }
 
