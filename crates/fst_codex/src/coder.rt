@@ -50,14 +50,19 @@ impl<W: Weight> Model for Coder<W> {
 }
 
 impl<W: Weight> Coder<W> {
-    /// No entries.
-    pub(crate) fn new(alloc: Global, weights: bool) -> Coder<W>
-        ensures { result ≡ record { weights = weights; entries = [] } }
+    /// No entries, and room for half as many as there are arcs. Where all arcs differ the table of the entries grows once,
+    /// and where most are alike little room stays empty.
+    pub(crate) fn for_arcs(
+        alloc: Global,
+        arcs: usize,
+        weights: bool,
+    ) -> Result<Coder<W>, AllocError>
+        ensures { IfOk result (λ c. c ≡ record { weights = weights; entries = [] }) }
     {
-        Coder {
+        Ok(Coder {
             weights,
-            entries: KeySet::new(alloc),
-        }
+            entries: KeySet::with_room(alloc, arcs / 2)?,
+        })
     }
 
     /// The number of an entry, counted from 1. One that is new stands after the others.

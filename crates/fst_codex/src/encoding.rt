@@ -72,12 +72,9 @@ pub fn encode_labels<W: Weight>(
     // Whatever decoding gives of it, it is the machine again, or memory ran out.
     ensures again { IfOk result (λ r. (back : Result (Machine Cost) DecodeFault) → Decodes W.KIND W.value r.0 (valued_table W.value r.1) back → GivesBack (valued W.value fst.now) back) }
 {
-    let mut coder = Coder::new(alloc, weights);
-    let mut states = StateList::with_capacity(
-        alloc,
-        fst.states() as usize,
-        fst.arc_count() as usize,
-    )?;
+    let arcs = fst.arc_count() as usize;
+    let mut coder = Coder::for_arcs(alloc, arcs, weights)?;
+    let mut states = StateList::with_capacity(alloc, fst.states() as usize, arcs)?;
     put_states(alloc, &mut states, &mut coder, fst)?;
     Ok((states.into_machine(fst.start()), coder.into_codex()))
 }
@@ -101,17 +98,18 @@ fn put_in_place<W: Weight>(
     Ok(())
 }
 
-/// Encoding of a machine whose arcs are changed where they stand.
+/// Encoding of a machine of so many arcs, which are changed where they stand.
 fn encode_in_place<W: Weight>(
     alloc: Global,
     machine: Rewriting<W>,
+    arcs: usize,
     weights: bool,
 ) -> Result<(Fst<W>, Codex<W>), AllocError>
     ensures encoded { IfOk result (λ r. IsEncoded W.KIND weights (valued W.value machine) (valued W.value r.0) (valued_table W.value r.1)) }
     ensures again { IfOk result (λ r. (back : Result (Machine Cost) DecodeFault) → Decodes W.KIND W.value r.0 (valued_table W.value r.1) back → GivesBack (valued W.value machine) back) }
 {
     let mut machine = machine;
-    let mut coder = Coder::new(alloc, weights);
+    let mut coder = Coder::for_arcs(alloc, arcs, weights)?;
     put_in_place(alloc, &mut machine, &mut coder)?;
     Ok((machine.into_machine(), coder.into_codex()))
 }
@@ -129,8 +127,9 @@ pub fn into_encoded<W: Weight>(
     // Whatever decoding gives of it, it is the machine again, or memory ran out.
     ensures again { IfOk result (λ r. (back : Result (Machine Cost) DecodeFault) → Decodes W.KIND W.value r.0 (valued_table W.value r.1) back → GivesBack (valued W.value fst) back) }
 {
+    let arcs = fst.arc_count() as usize;
     match fst.rewrite() {
-        Ok(machine) => encode_in_place(alloc, machine, weights),
+        Ok(machine) => encode_in_place(alloc, machine, arcs, weights),
         Err(fst) => encode_labels(alloc, &fst, weights),
     }
 }

@@ -145,6 +145,17 @@ impl<K: Coded> KeySet<K> {
         Self::with_bound(alloc, 0)
     }
 
+    /// No keys, and room for so many: neither the list of keys nor the table of their numbers grows before.
+    pub fn with_room(alloc: Global, keys: usize) -> Result<KeySet<K>, AllocError>
+        ensures { IfOk result (λ s. s ≡ []) }
+    {
+        Ok(KeySet {
+            keys: Vec::with_capacity(alloc, keys)?,
+            firsts: Places::with_room(alloc, 0, keys)?,
+            others: BTreeMap::new(alloc),
+        })
+    }
+
     /// No keys. Those with a number below the bound are looked up in a list by number. Takes no memory.
     pub fn with_bound(alloc: Global, bound: usize) -> KeySet<K>
         ensures { result ≡ [] }

@@ -2,7 +2,7 @@
 
 ghost use Rattle.std.specs.Prelude.{◌≡◌, ◌<◌, ◌≤◌, ℕ, None, Some, IfOk, IsSome, OnErr, OnOk, length};
 ghost use Rattle.std.specs.Option.{ForSome};
-ghost use Rattle.fst_table.specs.Placed.{found_among};
+ghost use Rattle.fst_table.specs.Placed.{found_among, room_in};
 
 use crate::flat_table::FlatTable;
 use std::alloc::{AllocError, Global};
@@ -38,6 +38,20 @@ impl Places {
             sparse: FlatTable::new(alloc),
             recent: None,
         }
+    }
+
+    /// The same, where the table of the numbers from the bound on does not grow before so many are added.
+    pub fn with_room(alloc: Global, bound: usize, numbers: usize) -> Result<Places, AllocError>
+        ensures none { IfOk result (λ p. (n : ℕ) → found_in p n ≡ None) }
+        ensures bound { IfOk result (λ p. p.bound ≡ bound) }
+        ensures room { IfOk result (λ p. numbers ≤ room_in p.sparse) }
+    {
+        Ok(Places {
+            bound,
+            dense: Vec::new(alloc),
+            sparse: FlatTable::with_room(alloc, numbers)?,
+            recent: None,
+        })
     }
 
     /// The place of a number; `None` exactly where it is not known. Takes no memory.
