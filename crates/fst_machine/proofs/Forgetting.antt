@@ -10,9 +10,14 @@ use Rattle.fst_machine.specs.Forgetting.{BeginsFrom, first_back, moved_back}
 use Rattle.fst_machine.proofs.Retaining.{arcs_here}
 
 -- where a part begins that was moved back
-first_back_is : (by first count : ℕ) → 0 < count → first_back by first count ≡ first - by
+pub first_back_is : (by first count : ℕ) → 0 < count → first_back by first count ≡ first - by
 first_back_is by first zero none = absurd (omega (arith, none))
 first_back_is by first (suc count) some = refl
+
+-- a slot with no part begins nowhere
+pub first_back_none : (by first count : ℕ) → count ≤ 0 → first_back by first count ≡ 0
+first_back_none by first zero none = refl
+first_back_none by first (suc count) none = absurd (omega (arith, none))
 
 -- a part of the store that begins behind what was taken away, which it has still
 part_back : {X : Type 0} (store : List X) (by first count : ℕ) → (0 < count → by ≤ first) → take count (drop (first_back by first count) (drop by store)) ≡ take count (drop first store)

@@ -46,29 +46,33 @@ fn first_part<V>(slots: &[Slot<V>], arcs: usize) -> usize
     first
 }
 
-/// The slots with their parts so many places before.
-fn moved_slots<V: Copy>(
-    alloc: Global,
-    slots: &[Slot<V>],
-    by: usize,
-) -> Result<Vec<Slot<V>>, AllocError>
-    requires { All (BeginsFrom by) slots.now }
-    ensures { IfOk result (λ own. own.items ≡ map (moved_back by) slots.now) }
+/// Moves the parts of slots so many places back.
+fn move_back<V: Copy>(slots: &mut Vec<Slot<V>>, by: usize)
+    requires { All (BeginsFrom by) slots.old.items }
+    ensures { slots.new.items ≡ map (moved_back by) slots.old.items }
 {
-    let mut own = Vec::with_capacity(alloc, slots.len())?;
-    for slot in slots {
+    for place in 0..slots.len() {
+        let slot = &slots[place];
         let first = if slot.count > 0 {
             slot.first - by as u32
         } else {
             0
         };
-        own.push(Slot {
+        slots[place] = Slot {
             last: slot.last,
             first,
             count: slot.count,
-        })?;
+        };
     }
-    Ok(own)
+}
+
+/// Takes the first slots away, and gives back their room.
+fn remove_slots<V: Drop>(slots: &mut Vec<Slot<V>>, count: usize)
+    requires { count ≤ length slots.old.items }
+    ensures { slots.new.items ≡ drop count slots.old.items }
+{
+    slots.drain(..count);
+    slots.shrink_to_fit();
 }
 
 /// Takes the first items away, and gives back their room.
@@ -138,22 +142,18 @@ impl<W: Weight> Leaving<W> {
         slot.last
     }
 
-    /// Forgets the first states. The arcs of the others move to where those of the first stood, and the room behind them is
-    /// given back. After an `Err` all states are there.
+    /// Forgets the first states. The others and their arcs move to where the first stood, and the room behind them is given
+    /// back. Takes no memory.
     ///
-    /// Time: linear in what is left. Space: 16 bytes for each state that is left.
+    /// Time: linear in what is left.
     #[tactic(auto, using(crate::proofs::Keeping::kept_length))]
-    pub fn forget(&mut self, count: usize) -> Result<(), AllocError>
+    pub fn forget(&mut self, count: usize)
         requires { count ≤ length self.old }
-        ensures ok { OnOk result (self.new ≡ drop count self.old) }
-        ensures err { OnErr result (self.new ≡ self.old) }
+        ensures { self.new ≡ drop count self.old }
     {
-        let alloc = *self.slots.allocator();
-        let rest = &self.slots[count..];
-        let by = first_part(rest, self.store.len());
-        let own = moved_slots(alloc, rest, by)?;
+        remove_slots(&mut self.slots, count);
+        let by = first_part(self.slots.as_slice(), self.store.len());
+        move_back(&mut self.slots, by);
         remove_front(&mut self.store, by);
-        self.slots = own;
-        Ok(())
     }
 }

@@ -1,29 +1,29 @@
-use Rattle.std.proofs.Common.{◌≡◌, ◌-◌, All, [], List, take, drop, length, map, subst, ap, ◌∙◌}
-use Rattle.std.proofs.lemmas.List.{take_rest}
+use Rattle.std.proofs.Common.{◌≡◌, All, [], List, drop, length, map, sym, subst, ap, ◌∙◌}
 use Rattle.fst_machine.specs.Store.{Slot, kept_states}
 use Rattle.fst_machine.specs.Forgetting.{BeginsFrom, moved_back}
 use Rattle.fst_machine.proofs.Forgetting.{kept_behind, parts_behind}
+use Rattle.fst_machine.proofs.fst.leaving.Leaving.forget.Given as given
 use Rattle.fst_machine.proofs.fst.leaving.Leaving.forget.Goals as goal
+
+-- no part of the states that are left begins before what is taken away
+low : (g : given.Over) (c : goal.After-remove_front g) → All (BeginsFrom c.first_part-by.result) (drop c.args.count c.self.inside.slots.items)
+low g c =
+    let rest : c.as_slice.result.now ≡ drop c.args.count c.self.inside.slots.items = c.as_slice.ensures.value ∙ c.remove_slots.ensures in
+    subst (λ (l : List (Slot g.row.W.Denot)). All (BeginsFrom c.first_part-by.result) l) rest c.first_part-by.ensures.low
 
 pub invariant_of-self : goal.invariant_of-self
 invariant_of-self g c =
-    let store = c.self.inside.store.items in
-    let slots = c.self.inside.slots.items in
     let by = c.first_part-by.result in
-    let rest : take (length c.deref.result.now - c.args.count) (drop c.args.count c.deref.result.now) ≡ drop c.args.count slots = take_rest c.deref.result.now c.args.count ∙ ap (drop c.args.count) c.deref.ensures.value in
-    let low : All (BeginsFrom by) (drop c.args.count slots) = subst (λ (l : List (Slot g.row.W.Denot)). All (BeginsFrom by) l) rest c.first_part-by.ensures.low in
-    let own : c.in_ok-own.own.items ≡ map (moved_back by) (drop c.args.count slots) = c.in_ok-own.ensures ∙ ap (map (moved_back by)) rest in
-    rw (own, c.remove_front.ensures) (parts_behind store by c.args.count slots c.self.invariant low)
+    let own = c.move_back.ensures ∙ ap (map (moved_back by)) c.remove_slots.ensures in
+    rw (own, c.remove_front.ensures) (parts_behind c.self.inside.store.items by c.args.count c.self.inside.slots.items c.self.invariant (low g c))
 
-pub returns-clause-ok : goal.returns-clause-ok
-returns-clause-ok g c =
+pub returns : goal.returns
+returns g c =
     let store = c.self.inside.store.items in
     let slots = c.self.inside.slots.items in
     let by = c.first_part-by.result in
-    let rest : take (length c.deref.result.now - c.args.count) (drop c.args.count c.deref.result.now) ≡ drop c.args.count slots = take_rest c.deref.result.now c.args.count ∙ ap (drop c.args.count) c.deref.ensures.value in
-    let low : All (BeginsFrom by) (drop c.args.count slots) = subst (λ (l : List (Slot g.row.W.Denot)). All (BeginsFrom by) l) rest c.first_part-by.ensures.low in
-    let own : c.in_ok-own.own.items ≡ map (moved_back by) (drop c.args.count slots) = c.in_ok-own.ensures ∙ ap (map (moved_back by)) rest in
-    ap (λ st. kept_states st [] c.in_ok-own.own.items) c.remove_front.ensures
+    let own = c.move_back.ensures ∙ ap (map (moved_back by)) c.remove_slots.ensures in
+    ap (λ st. kept_states st [] c.move_back.new.slots.items) c.remove_front.ensures
     ∙ ap (kept_states (drop by store) []) own
-    ∙ kept_behind store by c.args.count slots low
+    ∙ kept_behind store by c.args.count slots (low g c)
     ∙ ap (drop c.args.count) c.self.view_is
