@@ -35,7 +35,7 @@ kept_each {V} f store from (s ∷ slots) =
     ∙ ap (λ ss. with_each f (kept_state store [] from s) ∷ ss) (kept_each f store (suc from) slots)
 
 -- where there is room, no number is wrapped
-wrapped_here : {V : Type 0} (by : ℕ) (arcs : List (Arc V ℕ)) → AllByRecursion (λ a. by + a.next < 4294967296) arcs → map (wrapped by) arcs ≡ map (shifted by) arcs
+pub wrapped_here : {V : Type 0} (by : ℕ) (arcs : List (Arc V ℕ)) → AllByRecursion (λ a. by + a.next < 4294967296) arcs → map (wrapped by) arcs ≡ map (shifted by) arcs
 wrapped_here by [] room = refl
 wrapped_here {V} by (a ∷ arcs) room =
     ap (λ (n : ℕ). record { ilabel = a.ilabel; olabel = a.olabel; weight = a.weight; next = n } ∷ map (wrapped by) arcs) (mod-eq_of_lt room.0)

@@ -34,3 +34,4 @@ pub mod Valued
 pub mod Narrowing
 pub mod OneMachine
 pub mod Extending
+pub mod PutNext

@@ -30,7 +30,7 @@ follow_at {V} slots i behind s within read follow =
     subst (λ (ss : List (Slot V)). Follow behind ss) here follow
 
 -- the elements of a list from a place on, of which the first is read in another list that is the same from there on
-part_at : {X : Type 0} (old store : List X) (place n : ℕ) (a d : X) → place < length store → length store ≡ length old → get_or store place d ≡ a → drop place store ≡ drop place old → place < n → take (n - place) (drop place old) ≡ a ∷ take (n - (place + 1)) (drop (place + 1) old)
+pub part_at : {X : Type 0} (old store : List X) (place n : ℕ) (a d : X) → place < length store → length store ≡ length old → get_or store place d ≡ a → drop place store ≡ drop place old → place < n → take (n - place) (drop place old) ≡ a ∷ take (n - (place + 1)) (drop (place + 1) old)
 part_at {X} old store place n a d within size read same more =
     let step : place + 1 ≡ suc place = omega arith in
     let read_old : get_or old place d ≡ a = sym (get_or_from old) ∙ (ap (λ l. get_or l 0 d) (sym same) ∙ (get_or_from store ∙ read)) in
@@ -79,14 +79,14 @@ arcs_here {V} store i s = by_count s.count
     by_count (suc more) = refl
 
 -- from a later place on two lists are the same too
-drop_later : {X : Type 0} (old store : List X) (place later : ℕ) → place ≤ later → drop place store ≡ drop place old → drop later store ≡ drop later old
+pub drop_later : {X : Type 0} (old store : List X) (place later : ℕ) → place ≤ later → drop place store ≡ drop place old → drop later store ≡ drop later old
 drop_later {X} old store place later low same = sym (from store) ∙ (ap (drop (later - place)) same ∙ from old)
   where
     from : (l : List X) → drop (later - place) (drop place l) ≡ drop later l
     from l = let whole : place + (later - place) ≡ later = omega (arith, low) in drop-drop (later - place) place l ∙ ap (λ n. drop n l) whole
 
 -- so are their parts there
-take_same : {X : Type 0} (old store : List X) (first count : ℕ) → (0 < count → drop first store ≡ drop first old) → take count (drop first store) ≡ take count (drop first old)
+pub take_same : {X : Type 0} (old store : List X) (first count : ℕ) → (0 < count → drop first store ≡ drop first old) → take count (drop first store) ≡ take count (drop first old)
 take_same old store first zero same = refl
 take_same old store first (suc more) same = ap (take (suc more)) (same (omega arith))
 
@@ -95,7 +95,7 @@ pub end_low : (behind first count : ℕ) → (0 < count → behind ≤ first) �
 end_low behind first zero low = omega arith
 end_low behind first (suc more) low = omega (arith, low (omega arith))
 
-end_inside : (behind first count n : ℕ) → behind ≤ n → (0 < count → first + count ≤ n) → end_of behind first count ≤ n
+pub end_inside : (behind first count n : ℕ) → behind ≤ n → (0 < count → first + count ≤ n) → end_of behind first count ≤ n
 end_inside behind first zero n low inside = low
 end_inside behind first (suc more) n low inside = inside (omega arith)
 

@@ -27,18 +27,25 @@ impl<W: Weight> Fst<W> {
     }
 }
 
+/// The arc that leads so many places further on.
+pub(super) fn further_on<V: Copy>(arc: FstArc<V>, by: u32) -> FstArc<V>
+    ensures { result ≡ wrapped by arc }
+{
+    FstArc {
+        ilabel: arc.ilabel,
+        olabel: arc.olabel,
+        weight: arc.weight,
+        next: by.wrapping_add(arc.next),
+    }
+}
+
 /// Changes each arc of a store to lead so many places further on.
 fn shift_arcs<V: Copy>(store: &mut [FstArc<V>], by: u32)
     ensures { store.new ≡ map (wrapped by) store.old }
 {
     for place in 0..store.len() {
         let arc = store[place];
-        store[place] = FstArc {
-            ilabel: arc.ilabel,
-            olabel: arc.olabel,
-            weight: arc.weight,
-            next: by.wrapping_add(arc.next),
-        };
+        store[place] = further_on(arc, by);
     }
 }
 
@@ -89,7 +96,8 @@ impl<W: Weight> StateList<W> {
     {
         let first = self.store.len() as u32;
         let count = arcs.len() as u32;
-        self.store.reserve(arcs.len())?;
+        self.store.reserve_exact(arcs.len())?;
+        self.slots.reserve_exact(1)?;
         self.slots.insert(0, Slot { last, first, count })?;
         self.store.extend_from_slice(arcs)?;
         Ok(())

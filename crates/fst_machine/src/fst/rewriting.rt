@@ -71,7 +71,7 @@ impl<W: Weight> Fst<W> {
 }
 
 /// Puts arcs in place of those of a store from a place on.
-fn write_arcs<V: Copy>(store: &mut [FstArc<V>], first: usize, arcs: &[FstArc<V>])
+pub(super) fn write_arcs<V: Copy>(store: &mut [FstArc<V>], first: usize, arcs: &[FstArc<V>])
     requires { first + length arcs.now ≤ length store.old }
     ensures { store.new ≡ take first store.old ++ (arcs.now ++ drop (length arcs.now) (drop first store.old)) }
 {

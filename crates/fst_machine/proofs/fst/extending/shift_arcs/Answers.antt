@@ -9,5 +9,5 @@ returns g c = changed_all (wrapped c.args.by) c.args.store.now c.loop-place.stor
 
 pub loop-place-preserved : goal.loop-place-preserved
 loop-place-preserved g c =
-    ap (λ a. set c.loop-place.store c.loop-place.place (wrapped c.args.by a)) c.arc.view_is
+    ap (set c.loop-place.store c.loop-place.place) c.further_on.ensures
     ∙ map_over_more (wrapped c.args.by) c.args.store.now c.loop-place.store c.loop-place.place c.index-store-place.result c.loop-place-test.true c.loop-place.invariant c.index-store-place.is

@@ -10,8 +10,8 @@ after g c =
     let store = c.self.inside.store.items in
     let behind : c.len-first.result ≡ length store = omega (arith, c.len-first.ensures) in
     fronted store c.args.arcs.now c.extend_from_slice.new.self.items c.self.inside.slots.items c.insert.new.self.items c.args.last c.len-first.result behind c.self.invariant
-    (c.in_ok-extend_from_slice.ensures.items ∙ ap (λ st. st ++ c.args.arcs.now) c.in_ok-reserve.ensures.items)
-    c.in_ok-insert.ensures.items
+    (c.in_ok-extend_from_slice.ensures.items ∙ ap (λ st. st ++ c.args.arcs.now) c.in_ok-reserve_exact.ensures.items)
+    (c.in_ok-insert.ensures.items ∙ ap (λ ss. record { final = c.args.last; first = c.len-first.result; count = length c.args.arcs.now } ∷ ss) c.in_ok-reserve_exact-2.ensures.items)
 
 pub invariant_of-self-2 : goal.invariant_of-self-2
 invariant_of-self-2 g c =
