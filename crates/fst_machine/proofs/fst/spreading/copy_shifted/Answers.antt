@@ -1,4 +1,4 @@
-use Rattle.std.proofs.Common.{ap, set, ◌∙◌, sym, arith}
+use Rattle.std.proofs.Common.{◌∙◌, sym, arith}
 use Rattle.std.proofs.lemmas.List.{drop-set-lt, length-set}
 use Rattle.fst_machine.specs.Extending.{wrapped}
 use Rattle.fst_machine.proofs.PutNext.{copied}

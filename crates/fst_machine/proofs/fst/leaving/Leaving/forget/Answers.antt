@@ -1,4 +1,4 @@
-use Rattle.std.proofs.Common.{◌≡◌, All, [], List, drop, length, map, sym, subst, ap, ◌∙◌}
+use Rattle.std.proofs.Common.{◌≡◌, All, [], List, drop, map, subst, ap, ◌∙◌}
 use Rattle.fst_machine.specs.Store.{Slot, kept_states}
 use Rattle.fst_machine.specs.Forgetting.{BeginsFrom, moved_back}
 use Rattle.fst_machine.proofs.Forgetting.{kept_behind, parts_behind}
