@@ -10,7 +10,7 @@ use Rattle.fst_semiring.specs.declared.arc_type.ArcType.{ArcType}
 use Rattle.fst_semiring.specs.declared.arc_type.ArcType.TheVariants.{Boolean, Tropical, MinMax, Lexicographic}
 use Rattle.fst_semiring.specs.Cost.{Cost}
 use Rattle.fst_machine.specs.Machine.{Arc, State, Machine, IsArc, IsMachine, valued, valued_arc, valued_state}
-use Rattle.fst_binary.specs.Spelling.{HasSpelling, count_fields, spelling, state_fields, type_fields}
+use Rattle.fst_binary.specs.Spelling.{HasFields, HasSpelling, count_fields, spelling, state_fields, type_fields}
 use Rattle.fst_bytes.specs.Spelling.{HasField, long, word}
 use Rattle.fst_semiring.specs.Names.{known, name_of}
 use Rattle.fst_binary.specs.Reading.{arc_type_of_bytes, machine_of_bytes}
@@ -32,9 +32,6 @@ value_weights value kind (a ∷ arcs) h = (h.0, value_weights value kind arcs h.
 arcs_of_values : {V : Type 0} (value : V → Cost) (n : ℕ) (ss : List (State V)) → AllByRecursion (λ s. All (IsArc value n) s.arcs) ss → AllByRecursion (λ s. All (IsArc (λ v. v) n) s.arcs) (map (valued_state value) ss)
 arcs_of_values value n [] h = tt
 arcs_of_values value n (s ∷ ss) h = (All-from_recursion (IsArc (λ v. v) n) (map (valued_arc value) s.arcs) (value_arcs value n s.arcs (recursion_from_All (IsArc value n) s.arcs h.0)), arcs_of_values value n ss h.1)
-
-abbrev pub HasFields : {V : Type 0} → (V → Cost) → ArcType → State V → Type 0
-HasFields value kind s = HasField kind (value s.final) × All (λ a. HasField kind (value a.weight)) s.arcs
 
 finals_of_values : {V : Type 0} (value : V → Cost) (kind : ArcType) (ss : List (State V)) → AllByRecursion (HasFields value kind) ss → AllByRecursion (λ s. HasField kind s.final) (map (valued_state value) ss)
 finals_of_values value kind [] h = tt

@@ -1,5 +1,6 @@
 pub mod Lists
 pub mod Lengths
+pub mod Parts
 pub mod Loops
 pub mod States
 pub mod Headers

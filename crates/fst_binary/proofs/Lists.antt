@@ -1,8 +1,9 @@
 -- Going over a list and writing each item: what is left, and how long it is.
-use Rattle.std.proofs.Common.{◌≡◌, ℕ, zero, suc, ◌+◌, ◌<◌, List, [], ◌∷◌, map, length, get_or, drop, take, All, Some, refl, sym, ap, subst, ◌∙◌, arith}
+use Rattle.std.proofs.Common.{◌≡◌, ℕ, zero, suc, ◌+◌, ◌<◌, ◌≤◌, List, [], ◌∷◌, ◌++◌, map, length, get_or, drop, take, All, Some, refl, sym, ap, subst, ◌∙◌, append-nil, arith}
 use Rattle.std.specs.Prelude.{slice_get}
+use Rattle.std.specs.List.{flat_map}
 use Rattle.std.specs.Option.{option_map}
-use Rattle.std.proofs.lemmas.List.{length-map}
+use Rattle.std.proofs.lemmas.List.{drop_all, length-map}
 use Rattle.std.proofs.lemmas.List.Elements.{All-more}
 use Rattle.std.proofs.lemmas.List.Sums.{sum_by-cons}
 use Rattle.fst_semiring.specs.Cost.{Cost}
@@ -48,3 +49,13 @@ state_more {V} P states i last arcs f a so_far own =
     let s : State V = record { final = last; arcs = arcs } in
     let stands = state_stands states i last arcs f a s in
     All-more P states i s stands.0 so_far (subst P (sym stands.1) own)
+
+-- where no item is left, all are written
+pub all_written : {X Y : Type 0} (f : Y → List ℕ) (g : X → Y) (xs : List X) (n : ℕ) (new old : List ℕ) → length xs ≤ n → new ++ flat_map f (map g (drop n xs)) ≡ old ++ flat_map f (map g xs) → new ≡ old ++ flat_map f (map g xs)
+all_written f g xs n new old done h = sym (append-nil new) ∙ (ap (λ rest. new ++ flat_map f (map g rest)) (sym (drop_all n xs done)) ∙ h)
+
+-- and all are counted
+pub nothing_left : {X Y : Type 0} (f : Y → List ℕ) (g : X → Y) (n i : ℕ) (xs : List X) → length xs ≤ i → n + length (flat_map f (drop i (map g xs))) ≡ length (flat_map f (map g xs)) → n ≡ length (flat_map f (map g xs))
+nothing_left f g n i xs done h =
+    let none : length (flat_map f (drop i (map g xs))) ≡ 0 = ap (λ rest. length (flat_map f rest)) (drop_all i (map g xs) (omega (arith, done, length-map xs g))) in
+    omega (arith, none, h)

@@ -30,6 +30,10 @@ type_fields kind = word 2125659606 ++ text (codes "vector") ++ text (name_of kin
 abbrev pub count_fields : Machine Cost → List ℕ
 count_fields m = signed (start_number m.start) ++ long (length m.states) ++ long (arc_total m.states)
 
+-- all that stands before the states of a machine with this start and so many states and arcs, as it is written
+abbrev pub header_fields : ArcType → Option ℕ → ℕ → ℕ → List ℕ
+header_fields kind start states arcs = type_fields kind ++ word 2 ++ word 0 ++ long 3 ++ (signed (start_number start) ++ long states ++ long arcs)
+
 -- a machine with these eight bytes as its properties: its types, version 2, no flags, its counts, its states
 abbrev pub spelling_with : List ℕ → ArcType → Machine Cost → List ℕ
 spelling_with properties kind m = type_fields kind ++ word 2 ++ word 0 ++ properties ++ count_fields m ++ flat_map (state_fields kind) m.states
@@ -47,3 +51,7 @@ pub record HasSpelling (kind : ArcType) (m : Machine Cost) : Type 0 where
   pub machine : IsMachine (λ v. v) m
   pub finals : All (λ s. HasField kind s.final) m.states
   pub weights : All (λ s. All (λ a. HasField kind a.weight) s.arcs) m.states
+
+-- each weight of a state has a weight field
+abbrev pub HasFields : {V : Type 0} → (V → Cost) → ArcType → State V → Type 0
+HasFields value kind s = HasField kind (value s.final) × All (λ a. HasField kind (value a.weight)) s.arcs

@@ -2,17 +2,18 @@
 
 ghost use Rattle.std.specs.Prelude.{◌≡◌, ◌≤◌, ◌++◌, ◌∷◌, ◌+◌, ◌*◌, ◌<◌, drop, length, map, take, vec_capacity, [], All, Contains, IfOk, IsOk, Ok, OnOk};
 ghost use Rattle.std.specs.List.{flat_map};
-ghost use Rattle.fst_machine.specs.Machine.{valued, valued_arc, valued_state};
+ghost use Rattle.fst_machine.specs.Machine.{arc_total, most_arcs, most_states, valued, valued_arc, valued_state};
 ghost use Rattle.fst_semiring.specs.Names.{known, name_of};
-ghost use Rattle.fst_bytes.specs.Spelling.{HasField, signed, word};
+ghost use Rattle.fst_bytes.specs.Spelling.{HasField, long, signed, word};
 ghost use Rattle.fst_binary.specs.Reading.{arc_type_of_bytes, machine_of_bytes};
-ghost use Rattle.fst_binary.specs.Spelling.{HasSpelling, arc_fields, count_fields, spelling, start_number, state_fields, type_fields};
+ghost use Rattle.fst_binary.specs.Spelling.{HasFields, HasSpelling, arc_fields, header_fields, spelling, start_number, state_fields, type_fields};
 
+use crate::by_place::States;
 use fst_bytes::{
     append, append_arc_type, append_long, append_signed, append_text, append_weight, append_word,
     weight_length,
 };
-use fst_machine::{Fst, FstArc, Leaving};
+use fst_machine::{Fst, FstArc, Joined, Leaving};
 use fst_semiring::{ArcType, Weight};
 use std::alloc::{AllocError, Global};
 
@@ -30,15 +31,18 @@ fn arcs_length<W: Weight>(arcs: &[FstArc<W>]) -> usize
     len
 }
 
-/// How many bytes the states take.
-fn states_length<W: Weight>(fst: &Fst<W>) -> usize
-    ensures value { result ≡ length (flat_map (state_fields W.KIND) (map (valued_state W.value) fst.now.states)) }
-    ensures bound { result ≤ 1077936128 }
-    ensures fits { HasSpelling W.KIND (valued W.value fst.now) }
+/// How many bytes the states take, of which there are so many.
+fn states_length<W: Weight, S: States<W>>(states: &S, count: usize) -> usize
+    requires all { count ≡ length (S.states states.now) }
+    requires few_states { count ≤ most_states }
+    requires few_arcs { arc_total (S.states states.now) ≤ most_arcs }
+    ensures value { result ≡ length (flat_map (state_fields W.KIND) (map (valued_state W.value) (S.states states.now))) }
+    ensures bound { result ≤ 25 * count + 29 * arc_total (S.states states.now) }
+    ensures fits { All (HasFields W.value W.KIND) (S.states states.now) }
 {
     let mut len = 0;
-    for state in 0..fst.states() {
-        len += 8 + weight_length(fst.final_weight(state)) + arcs_length(fst.arcs(state));
+    for state in 0..count {
+        len += 8 + weight_length(states.final_at(state)) + arcs_length(states.arcs_at(state));
     }
     len
 }
@@ -107,15 +111,34 @@ fn append_state<W: Weight>(out: &mut Vec<u8>, last: W, arcs: &[FstArc<W>])
     append_arcs(out, arcs);
 }
 
+/// Appends the first states where there is room.
+fn append_first<W: Weight, S: States<W>>(out: &mut Vec<u8>, states: &S, count: usize)
+    requires few { count ≤ length (S.states states.now) }
+    requires room { length out.old.items + length (flat_map (state_fields W.KIND) (map (valued_state W.value) (S.states states.now))) ≤ vec_capacity out.old }
+    ensures items { out.new.items ++ flat_map (state_fields W.KIND) (map (valued_state W.value) (drop count (S.states states.now))) ≡ out.old.items ++ flat_map (state_fields W.KIND) (map (valued_state W.value) (S.states states.now)) }
+    ensures room { vec_capacity out.old ≤ vec_capacity out.new }
+{
+    for place in 0..count {
+        append_state(out, states.final_at(place), states.arcs_at(place));
+    }
+}
+
 /// Appends the states of a machine where there is room.
 fn append_states<W: Weight>(out: &mut Vec<u8>, fst: &Fst<W>)
     requires { length out.old.items + length (flat_map (state_fields W.KIND) (map (valued_state W.value) fst.now.states)) ≤ vec_capacity out.old }
     ensures items { out.new.items ≡ out.old.items ++ flat_map (state_fields W.KIND) (map (valued_state W.value) fst.now.states) }
     ensures room { vec_capacity out.old ≤ vec_capacity out.new }
 {
-    for state in 0..fst.states() {
-        append_state(out, fst.final_weight(state), fst.arcs(state));
-    }
+    append_first(out, fst, fst.states() as usize);
+}
+
+/// Appends the states of a list that is given away where there is room, and frees the list.
+fn append_list<W: Weight>(out: &mut Vec<u8>, list: Leaving<W>)
+    requires { length out.old.items + length (flat_map (state_fields W.KIND) (map (valued_state W.value) list)) ≤ vec_capacity out.old }
+    ensures items { out.new.items ≡ out.old.items ++ flat_map (state_fields W.KIND) (map (valued_state W.value) list) }
+    ensures room { vec_capacity out.old ≤ vec_capacity out.new }
+{
+    append_first(out, &list, list.len());
 }
 
 /// From so many arcs on, a machine that is given away is written in parts, where room had to be made for its bytes. The
@@ -124,18 +147,6 @@ const LARGE: u32 = 1 << 20;
 
 /// In how many parts.
 const PARTS: usize = 4;
-
-/// Appends the first states where there is room.
-fn append_first<W: Weight>(out: &mut Vec<u8>, leaving: &Leaving<W>, count: usize)
-    requires few { count ≤ length leaving.now }
-    requires room { length out.old.items + length (flat_map (state_fields W.KIND) (map (valued_state W.value) leaving.now)) ≤ vec_capacity out.old }
-    ensures items { out.new.items ++ flat_map (state_fields W.KIND) (map (valued_state W.value) (drop count leaving.now)) ≡ out.old.items ++ flat_map (state_fields W.KIND) (map (valued_state W.value) leaving.now) }
-    ensures room { vec_capacity out.old ≤ vec_capacity out.new }
-{
-    for place in 0..count {
-        append_state(out, leaving.final_weight(place), leaving.arcs(place));
-    }
-}
 
 /// Appends the states of a machine that is given away where there is room, part by part, and forgets each part.
 fn append_leaving<W: Weight>(out: &mut Vec<u8>, leaving: Leaving<W>) -> Result<(), AllocError>
@@ -185,15 +196,14 @@ fn start_field(start: Option<u32>) -> i64
 }
 
 /// Appends the start and the numbers of states and arcs where there is room.
-fn append_counts<W: Weight>(out: &mut Vec<u8>, fst: &Fst<W>)
+fn append_counts(out: &mut Vec<u8>, start: Option<u32>, states: u32, arcs: u32)
     requires { length out.old.items + 24 ≤ vec_capacity out.old }
-    ensures items { out.new.items ≡ out.old.items ++ count_fields (valued W.value fst.now) }
-    ensures len { length out.new.items ≡ length out.old.items + 24 }
+    ensures items { out.new.items ≡ out.old.items ++ (signed (start_number start) ++ long states ++ long arcs) }
     ensures room { vec_capacity out.old ≤ vec_capacity out.new }
 {
-    append_signed(out, start_field(fst.start()));
-    append_long(out, u64::from(fst.states()));
-    append_long(out, u64::from(fst.arc_count()));
+    append_signed(out, start_field(start));
+    append_long(out, u64::from(states));
+    append_long(out, u64::from(arcs));
 }
 
 /// How many bytes a machine takes.
@@ -201,7 +211,7 @@ fn whole_length<W: Weight>(fst: &Fst<W>) -> usize
     ensures value { result ≡ length (spelling W.KIND (valued W.value fst.now)) }
     ensures fits { HasSpelling W.KIND (valued W.value fst.now) }
 {
-    header_length(W::KIND) + states_length(fst)
+    header_length(W::KIND) + states_length(fst, fst.states() as usize)
 }
 
 /// A room without its content, for so many bytes or more. It grows by no more than what it lacks.
@@ -217,17 +227,27 @@ fn emptied(room: Vec<u8>, len: usize) -> Result<Vec<u8>, AllocError>
     Ok(room)
 }
 
-/// Appends all that stands before the states, where there is room for the whole machine.
-fn append_header<W: Weight>(out: &mut Vec<u8>, fst: &Fst<W>)
+/// Puts all that stands before the states where nothing stands, where there is room.
+fn append_header(out: &mut Vec<u8>, kind: ArcType, start: Option<u32>, states: u32, arcs: u32)
+    requires empty { out.old.items ≡ [] }
+    requires room { 58 + length (name_of kind) ≤ vec_capacity out.old }
+    ensures items { out.new.items ≡ header_fields kind start states arcs }
+    ensures room { vec_capacity out.old ≤ vec_capacity out.new }
+{
+    append_types(out, kind);
+    append_long(out, 3);
+    append_counts(out, start, states, arcs);
+}
+
+/// Puts all that stands before the states of a machine where nothing stands, where there is room for the whole machine.
+fn append_header_of<W: Weight>(out: &mut Vec<u8>, fst: &Fst<W>)
     requires empty { out.old.items ≡ [] }
     requires room { length (spelling W.KIND (valued W.value fst.now)) ≤ vec_capacity out.old }
     ensures items { out.new.items ++ flat_map (state_fields W.KIND) (map (valued_state W.value) fst.now.states) ≡ spelling W.KIND (valued W.value fst.now) }
     ensures left { length out.new.items + length (flat_map (state_fields W.KIND) (map (valued_state W.value) fst.now.states)) ≤ vec_capacity out.new }
     ensures room { vec_capacity out.old ≤ vec_capacity out.new }
 {
-    append_types(out, W::KIND);
-    append_long(out, 3);
-    append_counts(out, fst);
+    append_header(out, W::KIND, fst.start(), fst.states(), fst.arc_count());
 }
 
 /// The bytes of a machine, which has a spelling.
@@ -237,7 +257,7 @@ fn write_whole<W: Weight>(alloc: Global, fst: &Fst<W>) -> Result<Vec<u8>, AllocE
 {
     let len = whole_length(fst);
     let mut out = Vec::with_capacity(alloc, len)?;
-    append_header(&mut out, fst);
+    append_header_of(&mut out, fst);
     append_states(&mut out, fst);
     Ok(out)
 }
@@ -265,12 +285,42 @@ fn write_given<W: Weight>(room: Vec<u8>, fst: Fst<W>) -> Result<Vec<u8>, AllocEr
     let len = whole_length(&fst);
     let suffices = len <= room.capacity();
     let mut out = emptied(room, len)?;
-    append_header(&mut out, &fst);
+    append_header_of(&mut out, &fst);
     if suffices || fst.arc_count() < LARGE {
         append_states(&mut out, &fst);
     } else {
         append_parts(&mut out, fst)?;
     }
+    Ok(out)
+}
+
+/// How many bytes the states of a machine take that stand in two lists.
+fn parts_length<W: Weight>(first: &Leaving<W>, second: &Leaving<W>) -> usize
+    requires few_states { length (first.now ++ second.now) ≤ most_states }
+    requires few_arcs { arc_total (first.now ++ second.now) ≤ most_arcs }
+    ensures value { result ≡ length (flat_map (state_fields W.KIND) (map (valued_state W.value) (first.now ++ second.now))) }
+    ensures bound { result ≤ 1077936128 }
+    ensures fits { All (HasFields W.value W.KIND) (first.now ++ second.now) }
+{
+    states_length(first, first.len()) + states_length(second, second.len())
+}
+
+/// The bytes of a machine in two lists that is given away, where the content of a room stood.
+fn write_joined<W: Weight>(room: Vec<u8>, joined: Joined<W>) -> Result<Vec<u8>, AllocError>
+    ensures spelled { IfOk result (λ bytes. bytes.items ≡ spelling W.KIND (valued W.value joined)) }
+    ensures kept { IfOk result (λ bytes. vec_capacity room ≤ vec_capacity bytes) }
+    ensures succeeds { length (spelling W.KIND (valued W.value joined)) ≤ vec_capacity room → IsOk result }
+    ensures fits { HasSpelling W.KIND (valued W.value joined) }
+{
+    let start = joined.start();
+    let states = joined.states();
+    let arcs = joined.arc_count();
+    let (first, second) = joined.into_parts();
+    let len = header_length(W::KIND) + parts_length(&first, &second);
+    let mut out = emptied(room, len)?;
+    append_header(&mut out, W::KIND, start, states, arcs);
+    append_list(&mut out, first);
+    append_list(&mut out, second);
     Ok(out)
 }
 
@@ -303,6 +353,21 @@ pub fn encode_into<W: Weight>(room: Vec<u8>, fst: Fst<W>) -> Result<Vec<u8>, All
     ensures fits { HasSpelling W.KIND (valued W.value fst) }
 {
     write_given(room, fst)
+}
+
+/// The bytes of a machine in two lists that is given away, made where the content of a room stood, as `encode_into` says.
+/// The first list is freed when it is written, before the second is.
+pub fn encode_joined<W: Weight>(room: Vec<u8>, joined: Joined<W>) -> Result<Vec<u8>, AllocError>
+    // Whatever stood in the room, the bytes are those of the machine whose states stand in one list.
+    ensures spelled { IfOk result (λ bytes. bytes.items ≡ spelling W.KIND (valued W.value joined)) }
+    ensures again { IfOk result (λ bytes. machine_of_bytes W.KIND bytes.items ≡ Ok (valued W.value joined)) }
+    ensures named { IfOk result (λ bytes. Contains known W.KIND → arc_type_of_bytes bytes.items ≡ Ok W.KIND) }
+    // The room is kept, and a room that suffices never fails.
+    ensures kept { IfOk result (λ bytes. vec_capacity room ≤ vec_capacity bytes) }
+    ensures succeeds { length (spelling W.KIND (valued W.value joined)) ≤ vec_capacity room → IsOk result }
+    ensures fits { HasSpelling W.KIND (valued W.value joined) }
+{
+    write_joined(room, joined)
 }
 
 /// The bytes of a machine that is given away. Where it has 1,048,576 arcs or more, and none of its states has arcs

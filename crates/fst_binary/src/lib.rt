@@ -4,6 +4,7 @@
 //! their first fault. `encode` and `decode` do what these two say, and the one undoes the other.
 #![tactic(auto)]
 
+mod by_place;
 mod decoding;
 mod encoding;
 mod fault;
@@ -11,7 +12,7 @@ mod header;
 mod laws;
 
 pub use decoding::decode;
-pub use encoding::{encode, encode_given, encode_into};
+pub use encoding::{encode, encode_given, encode_into, encode_joined};
 pub use fault::{BinaryFault, BinaryKind};
 pub use fst_bytes::{WeightFieldFault, push_weight_field, read_weight_field, weight_length};
 pub use header::arc_type;

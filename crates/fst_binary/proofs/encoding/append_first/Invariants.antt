@@ -6,7 +6,7 @@ use Rattle.fst_binary.proofs.encoding.append_first.Given as goal
 
 abbrev pub invariant-loop-place : goal.invariant-loop-place
 invariant-loop-place g l =
-    let states = map (valued_state g.W.Weight.value) l.leaving in
+    let states = map (valued_state g.W.Weight.value) (g.S.States.states l.states) in
     let fields = state_fields g.W.Weight.KIND in
     record {
       whole : l.out.items ++ flat_map fields (drop l.place states) ≡ l.initial.out.items ++ flat_map fields states;

@@ -1,6 +1,7 @@
 use Rattle.std.proofs.Common.{length, ap, arith}
 use Rattle.fst_machine.specs.Machine.{valued}
 use Rattle.fst_semiring.specs.Names.{name_of}
+use Rattle.fst_binary.proofs.Encoded.{HasSpelling-valued}
 use Rattle.fst_binary.proofs.Lengths.{spelling_length}
 use Rattle.fst_binary.proofs.encoding.whole_length.Goals as goal
 
@@ -9,3 +10,6 @@ returns-clause-value g c =
     let whole = spelling_length g.W.Weight.KIND (valued g.W.Weight.value c.args.fst.now) in
     let name = ap (λ kind. length (name_of kind)) c.KIND.ensures in
     omega (arith, whole, name, c.header_length.ensures, c.states_length.ensures.value)
+
+pub returns-clause-fits : goal.returns-clause-fits
+returns-clause-fits g c = HasSpelling-valued g.W.Weight.value g.W.Weight.KIND c.args.fst.now c.states.ensures.machine c.states_length.ensures.fits
