@@ -1,6 +1,6 @@
 //! Writing the binary form.
 
-ghost use Rattle.std.specs.Prelude.{◌≡◌, ◌≤◌, ◌++◌, ◌∷◌, ◌+◌, ◌*◌, ◌<◌, drop, length, map, take, vec_capacity, [], All, Contains, IfOk, IsOk, Ok, OnOk};
+ghost use Rattle.std.specs.Prelude.{◌≡◌, ◌≤◌, ◌++◌, ◌∷◌, ◌+◌, ◌*◌, ◌<◌, drop, length, map, take, vec_capacity, [], All, Contains, IfOk, IsOk, Ok};
 ghost use Rattle.std.specs.List.{flat_map};
 ghost use Rattle.fst_machine.specs.Machine.{arc_total, most_arcs, most_states, valued, valued_arc, valued_state};
 ghost use Rattle.fst_semiring.specs.Names.{known, name_of};
@@ -149,9 +149,9 @@ const LARGE: u32 = 1 << 20;
 const PARTS: usize = 4;
 
 /// Appends the states of a machine that is given away where there is room, part by part, and forgets each part.
-fn append_leaving<W: Weight>(out: &mut Vec<u8>, leaving: Leaving<W>) -> Result<(), AllocError>
+fn append_leaving<W: Weight>(out: &mut Vec<u8>, leaving: Leaving<W>)
     requires room { length out.old.items + length (flat_map (state_fields W.KIND) (map (valued_state W.value) leaving)) ≤ vec_capacity out.old }
-    ensures items { OnOk result (out.new.items ≡ out.old.items ++ flat_map (state_fields W.KIND) (map (valued_state W.value) leaving)) }
+    ensures items { out.new.items ≡ out.old.items ++ flat_map (state_fields W.KIND) (map (valued_state W.value) leaving) }
     ensures room { vec_capacity out.old ≤ vec_capacity out.new }
 {
     let mut left = leaving;
@@ -159,9 +159,8 @@ fn append_leaving<W: Weight>(out: &mut Vec<u8>, leaving: Leaving<W>) -> Result<(
     while left.len() > 0 {
         let count = part.min(left.len());
         append_first(out, &left, count);
-        left.forget(count)?;
+        left.forget(count);
     }
-    Ok(())
 }
 
 /// How many bytes stand before the states.
@@ -263,16 +262,15 @@ fn write_whole<W: Weight>(alloc: Global, fst: &Fst<W>) -> Result<Vec<u8>, AllocE
 }
 
 /// Appends the states of a machine that is given away, which are forgotten as they are written, where there is room.
-fn append_parts<W: Weight>(out: &mut Vec<u8>, fst: Fst<W>) -> Result<(), AllocError>
+fn append_parts<W: Weight>(out: &mut Vec<u8>, fst: Fst<W>)
     requires { length out.old.items + length (flat_map (state_fields W.KIND) (map (valued_state W.value) fst.states)) ≤ vec_capacity out.old }
-    ensures items { OnOk result (out.new.items ≡ out.old.items ++ flat_map (state_fields W.KIND) (map (valued_state W.value) fst.states)) }
+    ensures items { out.new.items ≡ out.old.items ++ flat_map (state_fields W.KIND) (map (valued_state W.value) fst.states) }
     ensures room { vec_capacity out.old ≤ vec_capacity out.new }
 {
     match fst.leave() {
-        Ok(leaving) => append_leaving(out, leaving)?,
+        Ok(leaving) => append_leaving(out, leaving),
         Err(fst) => append_states(out, &fst),
     }
-    Ok(())
 }
 
 /// The bytes of a machine that is given away, where the content of a room stood.
@@ -289,7 +287,7 @@ fn write_given<W: Weight>(room: Vec<u8>, fst: Fst<W>) -> Result<Vec<u8>, AllocEr
     if suffices || fst.arc_count() < LARGE {
         append_states(&mut out, &fst);
     } else {
-        append_parts(&mut out, fst)?;
+        append_parts(&mut out, fst);
     }
     Ok(out)
 }
@@ -372,8 +370,8 @@ pub fn encode_joined<W: Weight>(room: Vec<u8>, joined: Joined<W>) -> Result<Vec<
 
 /// The bytes of a machine that is given away. Where it has 1,048,576 arcs or more, and none of its states has arcs
 /// apart from those of the others, their room is given back in about four parts of as many states as they are written,
-/// so that a machine whose arcs are spread over its states and its bytes do not stand beside each other whole. Memory
-/// may run out after the bytes were reserved, too.
+/// so that a machine whose arcs are spread over its states and its bytes do not stand beside each other whole. Nothing
+/// fails after the bytes were reserved.
 pub fn encode_given<W: Weight>(alloc: Global, fst: Fst<W>) -> Result<Vec<u8>, AllocError>
     ensures spelled { IfOk result (λ bytes. bytes.items ≡ spelling W.KIND (valued W.value fst)) }
     ensures again { IfOk result (λ bytes. machine_of_bytes W.KIND bytes.items ≡ Ok (valued W.value fst)) }
