@@ -353,8 +353,9 @@ pub fn encode_into<W: Weight>(room: Vec<u8>, fst: Fst<W>) -> Result<Vec<u8>, All
     write_given(room, fst)
 }
 
-/// The bytes of a machine in two lists that is given away, made where the content of a room stood, as `encode_into` says.
-/// The first list is freed when it is written, before the second is.
+/// The bytes of a machine in two lists that is given away, made where the content of a room stood, which is thrown away. A
+/// room that suffices is used as it is, and then no memory is asked for, and nothing fails; one that does not grows to the
+/// exact number of bytes. The first list is freed when it is written, before the second is. No room is given back.
 pub fn encode_joined<W: Weight>(room: Vec<u8>, joined: Joined<W>) -> Result<Vec<u8>, AllocError>
     // Whatever stood in the room, the bytes are those of the machine whose states stand in one list.
     ensures spelled { IfOk result (λ bytes. bytes.items ≡ spelling W.KIND (valued W.value joined)) }

@@ -43,6 +43,7 @@ given_seen kind value g = record {
 -- what it makes
 abbrev pub made_seen : {W X : Type 0} → ArcType → (W → Cost) → DeclaredMade W X → Made
 made_seen kind value (made.Machine m) = machine kind (valued value m)
+made_seen kind value (made.Joined m) = machine kind (valued value m)
 made_seen kind value (made.Text bytes) = text bytes.items
 made_seen kind value (made.Coded table m) = coded kind (valued_table value table) (valued value m)
 made_seen kind value (made.Answered bytes expansions) = answered bytes.items expansions

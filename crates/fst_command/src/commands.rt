@@ -37,12 +37,19 @@ use fst_words::{Plan, Verb};
 use std::alloc::Global;
 use std::thread::Threads;
 
-/// Whether a command reads one machine, and makes its machine of that one in place with no long list beside it. The
-/// content that was read may stay then until the bytes of the output are made where it stands: they stood beside the
-/// machine in any case.
+/// Whether a command makes its machine of those that it reads where they stand, with no long list beside them. The
+/// content that was read last may stay then until the bytes of the output are made where it stands: they stood beside
+/// the machines in any case.
 pub(crate) fn changes_in_place(command: Verb) -> bool {
     match command {
-        Verb::Compile | Verb::Invert | Verb::Project | Verb::Relabel | Verb::Arcsort => true,
+        Verb::Compile
+        | Verb::Invert
+        | Verb::Project
+        | Verb::Relabel
+        | Verb::Arcsort
+        | Verb::Closure
+        | Verb::Union
+        | Verb::Concat => true,
         _ => false,
     }
 }

@@ -38,7 +38,8 @@ pub(crate) struct Held {
     pub(crate) machines: Vec<AnyFst>,
     /// The codex.
     pub(crate) codex: Option<AnyCodex>,
-    /// Where the bytes of the output may be made: the content of the machine that a command changes in place.
+    /// Where the bytes of the output may be made: the content that was read last, of a command that makes its machine where
+    /// those that it reads stand.
     pub(crate) room: Vec<u8>,
     /// Where the text of the output may be made: the content of the machine that is printed.
     pub(crate) text_room: Vec<u8>,

@@ -4,9 +4,9 @@ ghost use Rattle.std.specs.Prelude.{◌≡◌, IfOk};
 ghost use Rattle.fst_command.specs.Meaning.{bytes_of};
 ghost use Rattle.fst_command.specs.Seeing.{bytes_seen, made_seen};
 
-use fst_binary::encode_into;
+use fst_binary::{encode_into, encode_joined};
 use fst_codex::{Codex, write_codex};
-use fst_machine::Fst;
+use fst_machine::{Fst, Joined};
 use fst_semiring::Weight;
 use std::alloc::{AllocError, Global};
 
@@ -15,6 +15,8 @@ use std::alloc::{AllocError, Global};
 pub(crate) enum Made<W: Weight> {
     /// A machine.
     Machine(Fst<W>),
+    /// A machine whose states stand in two lists, as those of the machines that it is made of did.
+    Joined(Joined<W>),
     /// A text.
     Text(Vec<u8>),
     /// A codex and a machine.
@@ -33,7 +35,8 @@ pub(crate) enum Bytes {
 }
 
 /// The bytes of what a command makes, those of a machine where the content of a room stood. A codex is freed before the
-/// machine beside it is written, and the room of a machine as it is written, where the bytes did not stand beside it before.
+/// machine beside it is written, the room of a machine as it is written, where the bytes did not stand beside it before, and
+/// of a machine in two lists the first before the second is written.
 pub(crate) fn bytes_of<W: Weight>(
     alloc: Global,
     room: Vec<u8>,
@@ -43,6 +46,7 @@ pub(crate) fn bytes_of<W: Weight>(
 {
     match made {
         Made::Machine(machine) => Ok(Bytes::One(encode_into(room, machine)?)),
+        Made::Joined(joined) => Ok(Bytes::One(encode_joined(room, joined)?)),
         Made::Text(text) | Made::Answered(text, _) => Ok(Bytes::One(text)),
         Made::Coded(codex, machine) => {
             let first = write_codex(alloc, &codex)?;

@@ -210,7 +210,7 @@ fn has_machine(role: Role) -> bool {
     }
 }
 
-/// Keeps the content of a machine as a room, where the command makes its output there, or frees it.
+/// Keeps the content of a machine as a room, where the output of the command may be made there, or frees it.
 fn keep_room(command: Verb, content: Vec<u8>, held: &mut Held)
     ensures { held_seen held.new ≡ held_seen held.old }
 {
@@ -221,8 +221,8 @@ fn keep_room(command: Verb, content: Vec<u8>, held: &mut Held)
     }
 }
 
-/// Fetches an input, and puts what it stands for beside what stands there. The content of a machine that is changed in
-/// place, or printed, stays as a room; any other is freed.
+/// Fetches an input, and puts what it stands for beside what stands there. The content of a machine of which the output is
+/// made in place, or which is printed, stays as a room until a further input is fetched; any other is freed.
 fn read_one<D: Desk>(
     alloc: Global,
     desk: &mut D,
@@ -233,6 +233,8 @@ fn read_one<D: Desk>(
     ensures { StepAnswer (input_seen input.entry) plan.now.options (held_seen held.old) (held_seen held.new) (D.seen desk.old) (D.seen desk.new) result }
 {
     let name = input.name.text();
+    // No content stays beside the next.
+    held.room = Vec::new(alloc);
     let content = read_input(alloc, desk, name)?;
     put(
         alloc,
@@ -249,8 +251,8 @@ fn read_one<D: Desk>(
 }
 
 /// Reads all inputs of a command, the files of its options first. Each is fetched once, and judged and freed before the
-/// next is fetched, but for the content of the one machine of a command that changes it in place or prints it; the first
-/// that is too long or has a fault is the refusal.
+/// next is fetched; the content that was read last stays as a room, where the command makes its machine in place or prints
+/// it. The first that is too long or has a fault is the refusal.
 pub(crate) fn read_all<D: Desk>(alloc: Global, desk: &mut D, plan: &Plan) -> Result<Held, Refusal>
     ensures { ReadsAll plan.now (D.seen desk.old) (D.seen desk.new) (result_map_both held_seen (λ e. e) result) }
 {

@@ -13,8 +13,8 @@ use crate::given::{Given, one};
 use crate::made::Made;
 use crate::refusal::{Refusal, unmade};
 use fst_rational::{
-    RationalFault, closure, concat, into_inverted, into_projected, into_relabelled, into_union,
-    reverse,
+    RationalFault, into_closure, into_concat, into_inverted, into_projected, into_relabelled,
+    into_union, reverse,
 };
 use fst_semiring::Weight;
 use fst_words::Options;
@@ -84,7 +84,7 @@ pub(crate) fn closed<W: Weight>(
     ensures { Settles (closure_meaning options.now) (given_seen W.KIND W.value given) (result_map_both (made_seen W.KIND W.value) (λ e. e) result) }
 {
     let machine = given.one();
-    match closure(alloc, &machine, options.closure_plus) {
+    match into_closure(alloc, machine, options.closure_plus) {
         Ok(made) => Ok(Made::Machine(made)),
         Err(fault) => Err(too_large(alloc, fault)),
     }
@@ -97,7 +97,7 @@ pub(crate) fn united<W: Weight>(alloc: Global, given: Given<W>) -> Result<Made<W
 {
     let (first, second) = given.two();
     match into_union(alloc, first, second) {
-        Ok(made) => Ok(Made::Machine(made)),
+        Ok(made) => Ok(Made::Joined(made)),
         Err(fault) => Err(too_large(alloc, fault)),
     }
 }
@@ -108,8 +108,8 @@ pub(crate) fn concatenated<W: Weight>(alloc: Global, given: Given<W>) -> Result<
     ensures { Settles concat_meaning (given_seen W.KIND W.value given) (result_map_both (made_seen W.KIND W.value) (λ e. e) result) }
 {
     let (first, second) = given.two();
-    match concat(alloc, &first, &second) {
-        Ok(made) => Ok(Made::Machine(made)),
+    match into_concat(alloc, first, second) {
+        Ok(made) => Ok(Made::Joined(made)),
         Err(fault) => Err(too_large(alloc, fault)),
     }
 }

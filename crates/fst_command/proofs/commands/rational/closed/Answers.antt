@@ -14,8 +14,8 @@ returns-in-Ok g c =
     settled (closure_meaning c.args.options.now) kind value c.args.given (c.one-machine.result ∷ []) (Ok (machine kind (valued value c.in-Ok.made))) c.one-machine.ensures
     (small_passes (closure_of kind c.args.options.now.closure_plus (valued value c.one-machine.result)) c.in-Ok.made c.in-Ok.ensures.limits, (refl, (c.in-Ok.ensures.machine, c.in-Ok.ensures.relation)))
 
-pub returns : goal.returns
-returns g c =
+pub returns-in-Err : goal.returns-in-Err
+returns-in-Err g c =
     let kind = g.W.Weight.KIND in
     let value = g.W.Weight.value in
     settled (closure_meaning c.args.options.now) kind value c.args.given (c.one-machine.result ∷ []) (Err c.too_large.result) c.one-machine.ensures

@@ -14,8 +14,8 @@ returns-in-Ok g c =
     settled concat_meaning kind value c.args.given (c.two-first.result.0 ∷ c.two-first.result.1 ∷ []) (Ok (machine kind (valued value c.in-Ok.made))) c.two-first.ensures
     (small_passes (concat_of (valued value c.two-first.result.0) (valued value c.two-first.result.1)) c.in-Ok.made c.in-Ok.ensures.limits, (refl, (c.in-Ok.ensures.machine, c.in-Ok.ensures.relation)))
 
-pub returns : goal.returns
-returns g c =
+pub returns-in-Err : goal.returns-in-Err
+returns-in-Err g c =
     let kind = g.W.Weight.KIND in
     let value = g.W.Weight.value in
     settled concat_meaning kind value c.args.given (c.two-first.result.0 ∷ c.two-first.result.1 ∷ []) (Err c.too_large.result) c.two-first.ensures
