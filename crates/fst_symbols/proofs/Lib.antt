@@ -1,3 +1,4 @@
+pub mod Buffering
 pub mod Names
 pub mod Tables
 pub mod Naming

@@ -16,7 +16,8 @@ use Rattle.std.proofs.lemmas.Slice.Eq.{bytes_eq-Decides}
 use Rattle.std.proofs.lemmas.Cmp.{nat_list_cmp_total, nat_list_eq_equiv}
 use Rattle.fst_table.specs.Slots.{with_place}
 use Rattle.fst_symbols.specs.Codes.{code_of}
-use Rattle.fst_symbols.specs.Named.{IsNamedAmong, beside, has_name, number_in, other_in, place_among}
+use Rattle.fst_symbols.specs.Named.{IsNamedAmong, beside, other_in, place_among}
+use Rattle.fst_symbols.specs.Places.{has_name, number_in}
 use Rattle.fst_symbols.specs.Symbols.{Symbol, number_of}
 use Rattle.fst_symbols.proofs.Tables.{equal_is, slice_get-last, slice_get-left, slice_get-there}
 

@@ -1,22 +1,15 @@
 -- How rows are found by their names.
-use Rattle.std.specs.Prelude.{◌≡◌, ◌<◌, ◌∷◌, ◌++◌, ℕ, Bool, false, [], List, Vec, length, slice_get, Option, None, Some, if◌then◌else◌}
+use Rattle.std.specs.Prelude.{◌≡◌, ◌<◌, ◌∷◌, ◌++◌, ℕ, [], List, Vec, length, Option, None, Some, if◌then◌else◌}
 use Rattle.std.specs.BTreeMap.{BTreeMap, get_by}
 use Rattle.std.specs.Cmp.Lexicographic.{slice_cmp}
-use Rattle.std.specs.Option.{option_and_then, option_map}
+use Rattle.std.specs.Option.{option_and_then}
 use Rattle.std.specs.Ordering.{nat_cmp}
-use Rattle.std.specs.Str.{bytes_eq}
 use Rattle.fst_table.specs.Placed.{placed_in}
 use Rattle.fst_symbols.specs.declared.named_rows.NamedRows.{NamedRows}
+use Rattle.fst_symbols.specs.Listed.{symbols_of}
+use Rattle.fst_symbols.specs.Places.{has_name, number_in}
 use Rattle.fst_symbols.specs.Codes.{code_of}
 use Rattle.fst_symbols.specs.Symbols.{Symbol, number_of}
-
--- the number of the symbol in a place
-abbrev pub number_in : List Symbol → Option ℕ → Option ℕ
-number_in symbols place = option_map (λ s. s.number) (option_and_then (slice_get symbols) place)
-
--- whether the symbol in a place has a name
-abbrev pub has_name : List Symbol → ℕ → List ℕ → Bool
-has_name symbols place name = elim (slice_get symbols place) [ None ↦ false | Some s ↦ bytes_eq name s.name ]
 
 -- what a map tells of a name
 abbrev pub other_in : {A : Type 0} → BTreeMap (Vec ℕ A) ℕ → List ℕ → Option ℕ
@@ -38,12 +31,12 @@ pub record IsNamedAmong (symbols : List Symbol) (firsts : ℕ → Option ℕ) (o
   pub numbered : (name : List ℕ) → number_in symbols (place_among symbols firsts others name) ≡ number_of symbols name
 
 abbrev pub IsNamed : NamedRows → Type 0
-IsNamed named = IsNamedAmong named.rows.items (placed_in named.firsts) (other_in named.others)
+IsNamed named = IsNamedAmong (symbols_of named.rows) (placed_in named.firsts) (other_in named.others)
 
 -- A name that was in no row is in the last one.
 pub record IsAdded (old new : NamedRows) (name : List ℕ) (number place : ℕ) : Type 0 where
-  pub fresh : number_of old.rows.items name ≡ None
-  pub last : place ≡ length old.rows.items
+  pub fresh : number_of (symbols_of old.rows) name ≡ None
+  pub last : place ≡ length (symbols_of old.rows)
   pub small : place < 4294967295
-  pub rows : new.rows.items ≡ old.rows.items ++ record { name = name; number = number } ∷ []
+  pub rows : symbols_of new.rows ≡ symbols_of old.rows ++ record { name = name; number = number } ∷ []
   pub named : IsNamed new

@@ -6,7 +6,7 @@
 
 mod fault;
 mod named_rows;
-mod row;
+mod row_list;
 mod rows;
 mod table;
 

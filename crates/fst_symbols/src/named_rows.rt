@@ -4,10 +4,11 @@ ghost use Rattle.std.specs.Prelude.{◌≡◌, ◌<◌, ◌≤◌, ◌∷◌, �
 ghost use Rattle.std.specs.Option.{option_map};
 ghost use Rattle.fst_table.specs.Placed.{placed_in, room_in};
 ghost use Rattle.fst_symbols.specs.Codes.{code_of};
+ghost use Rattle.fst_symbols.specs.Listed.{symbols_of};
 ghost use Rattle.fst_symbols.specs.Symbols.{number_of};
 ghost use Rattle.fst_symbols.specs.Named.{IsAdded, IsNamed, IsNamedAmong, beside, other_in, place_among};
 
-use crate::row::Row;
+use crate::row_list::RowList;
 use fst_table::FlatTable;
 use std::alloc::{AllocError, Global};
 use std::collections::BTreeMap;
@@ -28,7 +29,7 @@ fn code_of(name: &[u8]) -> u64
 /// among sorted codes and one among sorted names at most, whatever the names are.
 #[derive(Drop)]
 pub struct NamedRows {
-    rows: Vec<Row>,
+    rows: RowList,
     /// For each code the place of the first row whose name has it.
     firsts: FlatTable,
     /// The places of the rows whose names have the code of an earlier one.
@@ -36,14 +37,15 @@ pub struct NamedRows {
 }
 
 impl NamedRows {
-    /// No rows, with room for so many.
-    pub fn with_room(alloc: Global, rows: usize) -> Result<NamedRows, AllocError>
-        ensures none { IfOk result (λ n. n.rows.items ≡ []) }
+    /// No rows, with room for so many, whose names have so many bytes together.
+    pub fn with_room(alloc: Global, rows: usize, bytes: usize) -> Result<NamedRows, AllocError>
+        ensures none { IfOk result (λ n. symbols_of n.rows ≡ []) }
         ensures named { IfOk result IsNamed }
-        ensures room { IfOk result (λ n. (rows ≤ vec_capacity n.rows) × (rows ≤ room_in n.firsts)) }
+        ensures room { IfOk result (λ n. (rows ≤ vec_capacity n.rows.rows) × (rows ≤ room_in n.firsts)) }
+        ensures bytes { IfOk result (λ n. bytes ≤ vec_capacity n.rows.bytes) }
     {
         Ok(NamedRows {
-            rows: Vec::with_capacity(alloc, rows)?,
+            rows: RowList::with_room(alloc, rows, bytes)?,
             firsts: FlatTable::with_room(alloc, rows)?,
             others: BTreeMap::new(alloc),
         })
@@ -51,10 +53,10 @@ impl NamedRows {
 
     /// The place of the row of a name that has the code of the name of this row, the first one with it.
     fn beside(&self, first: u32, name: &[u8]) -> Option<u32>
-        requires { first < length self.now.rows.items }
-        ensures { result ≡ beside self.now.rows.items (other_in self.now.others) first name.now }
+        requires { first < length (symbols_of self.now.rows) }
+        ensures { result ≡ beside (symbols_of self.now.rows) (other_in self.now.others) first name.now }
     {
-        if name == self.rows[first as usize].name() {
+        if self.rows.has_name(first, name) {
             return Some(first);
         }
         self.others.get(name).copied()
@@ -63,7 +65,7 @@ impl NamedRows {
     /// The place of the row of a name.
     fn place(&self, name: &[u8]) -> Option<u32>
         requires { IsNamed self.now }
-        ensures { result ≡ place_among self.now.rows.items (placed_in self.now.firsts) (other_in self.now.others) name.now }
+        ensures { result ≡ place_among (symbols_of self.now.rows) (placed_in self.now.firsts) (other_in self.now.others) name.now }
     {
         let first = self.firsts.find(code_of(name))?;
         self.beside(first, name)
@@ -72,30 +74,32 @@ impl NamedRows {
     /// The number of a name. Takes no memory.
     pub fn find(&self, name: &[u8]) -> Option<u32>
         requires { IsNamed self.now }
-        ensures { result ≡ number_of self.now.rows.items name.now }
+        ensures { result ≡ number_of (symbols_of self.now.rows) name.now }
     {
         let place = self.place(name)?;
-        Some(self.rows[place as usize].number())
+        Some(self.rows.number(place))
     }
 
     /// The name of the row in a place. Takes no memory.
     pub fn name(&self, place: u32) -> Option<&[u8]>
-        ensures { option_map (λ name. name.now) result ≡ option_map (λ s. s.name) (slice_get self.now.rows.items place) }
+        ensures { option_map (λ name. name.now) result ≡ option_map (λ s. s.name) (slice_get (symbols_of self.now.rows) place) }
     {
-        let row = self.rows.get(place as usize)?;
-        Some(row.name())
+        if place as usize >= self.rows.len() {
+            return None;
+        }
+        Some(self.rows.name(place))
     }
 
     /// Notes the place of a row that is to come after the others; whether its name is new. After an `Err` or `false` the
     /// rows are no table.
     fn note(&mut self, alloc: Global, name: &[u8], place: u32) -> Result<bool, AllocError>
         requires named { IsNamed self.old }
-        requires last { place ≡ length self.old.rows.items }
+        requires last { place ≡ length (symbols_of self.old.rows) }
         requires small { place < 4294967295 }
         ensures rows { self.new.rows ≡ self.old.rows }
-        ensures taken { IfOk result (λ new. new ≡ false → is_some (number_of self.old.rows.items name.now) ≡ true) }
-        ensures fresh { IfOk result (λ new. new ≡ true → number_of self.old.rows.items name.now ≡ None) }
-        ensures named { IfOk result (λ new. new ≡ true → (number : ℕ) → IsNamedAmong (self.old.rows.items ++ record { name = name.now; number = number } ∷ []) (placed_in self.new.firsts) (other_in self.new.others)) }
+        ensures taken { IfOk result (λ new. new ≡ false → is_some (number_of (symbols_of self.old.rows) name.now) ≡ true) }
+        ensures fresh { IfOk result (λ new. new ≡ true → number_of (symbols_of self.old.rows) name.now ≡ None) }
+        ensures named { IfOk result (λ new. new ≡ true → (number : ℕ) → IsNamedAmong (symbols_of self.old.rows ++ record { name = name.now; number = number } ∷ []) (placed_in self.new.firsts) (other_in self.new.others)) }
     {
         let code = code_of(name);
         let Some(first) = self.firsts.find(code) else {
@@ -118,7 +122,7 @@ impl NamedRows {
         number: u32,
     ) -> Result<Option<u32>, AllocError>
         requires { IsNamed self.old }
-        ensures taken { IfOk result (λ place. place ≡ None → is_some (number_of self.old.rows.items name.now) ≡ true) }
+        ensures taken { IfOk result (λ place. place ≡ None → is_some (number_of (symbols_of self.old.rows) name.now) ≡ true) }
         ensures added { IfOk result (λ place. IfSome place (λ p. IsAdded self.old self.new name.now number p)) }
     {
         let place = self.rows.len();
@@ -128,7 +132,7 @@ impl NamedRows {
         if !self.note(alloc, name, place as u32)? {
             return Ok(None);
         }
-        self.rows.push(Row::new(alloc, name, number)?)?;
+        self.rows.push(name, number)?;
         Ok(Some(place as u32))
     }
 }

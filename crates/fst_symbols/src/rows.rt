@@ -32,15 +32,16 @@ pub struct Rows {
 }
 
 impl Rows {
-    /// No rows, with room for so many.
-    pub fn with_room(alloc: Global, rows: usize) -> Result<Rows, AllocError>
+    /// No rows, with room for so many, whose names have so many bytes together.
+    pub fn with_room(alloc: Global, rows: usize, bytes: usize) -> Result<Rows, AllocError>
         ensures none { IfOk result (λ r. symbols_in r ≡ []) }
         ensures kept { IfOk result IsKept }
-        ensures room { IfOk result (λ r. (rows ≤ vec_capacity r.named.rows) × (rows ≤ room_in r.named.firsts)) }
+        ensures room { IfOk result (λ r. (rows ≤ vec_capacity r.named.rows.rows) × (rows ≤ room_in r.named.firsts)) }
+        ensures bytes { IfOk result (λ r. bytes ≤ vec_capacity r.named.rows.bytes) }
         ensures near { IfOk result (λ r. r.places.bound ≡ min (2 * rows) 4294967295) }
     {
         Ok(Rows {
-            named: NamedRows::with_room(alloc, rows)?,
+            named: NamedRows::with_room(alloc, rows, bytes)?,
             places: Places::new(alloc, near_end(rows) as usize),
         })
     }
