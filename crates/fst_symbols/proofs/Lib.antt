@@ -2,3 +2,4 @@ pub mod Buffering
 pub mod Names
 pub mod Tables
 pub mod Naming
+pub mod Noting

@@ -53,6 +53,13 @@ impl RowList {
         self.rows.len()
     }
 
+    /// For how many rows there is room.
+    pub fn room(&self) -> usize
+        ensures { result ≡ vec_capacity self.now.rows }
+    {
+        self.rows.capacity()
+    }
+
     /// Where the name of a row begins in the buffer.
     fn first(&self, place: usize) -> usize
         requires { place < length self.now.rows.items }

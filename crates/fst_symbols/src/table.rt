@@ -109,6 +109,7 @@ fn read_rows(alloc: Global, bytes: &[u8]) -> Result<Result<Rows, SymbolsFault>, 
             Ok(()) => {}
             Err(fault) => return Ok(Err(fault)),
         }
+        rows.keep_apart(alloc, bytes)?;
         rest = behind;
     }
     Ok(Ok(rows))
