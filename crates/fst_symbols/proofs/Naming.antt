@@ -15,8 +15,8 @@ use Rattle.std.proofs.lemmas.Option.{same_Some}
 use Rattle.std.proofs.lemmas.Slice.Eq.{bytes_eq-Decides}
 use Rattle.std.proofs.lemmas.Cmp.{nat_list_cmp_total, nat_list_eq_equiv}
 use Rattle.fst_table.specs.Slots.{with_place}
-use Rattle.fst_symbols.specs.Codes.{code_of}
-use Rattle.fst_symbols.specs.Named.{IsNamedAmong, beside, has_name, number_in, other_in, place_among}
+use Rattle.fst_symbols.specs.Named.{IsNamedAmong, beside, other_in, place_among}
+use Rattle.fst_symbols.specs.Places.{has_name, number_in}
 use Rattle.fst_symbols.specs.Symbols.{Symbol, number_of}
 use Rattle.fst_symbols.proofs.Tables.{equal_is, slice_get-last, slice_get-left, slice_get-there}
 
@@ -54,15 +54,15 @@ other_in-insert old new key name p items updates m = go (bytes_eq name m) refl w
   go false e = other_entries _ _ _ _ updates.3 _ (λ x y. (eq_by_cmp_equiv nat_list_cmp_total).congr m x.items y.items) (λ k. apart_in_order m key.items k.items (ap (λ (n : List ℕ). bytes_eq n m) items ∙ e))
 
 -- no rows
-pub IsNamed-nil : (firsts : ℕ → Option ℕ) (others : List ℕ → Option ℕ) → ((n : ℕ) → firsts n ≡ None) → ((m : List ℕ) → others m ≡ None) → IsNamedAmong [] firsts others
-IsNamed-nil firsts others none no-other = record {
+pub IsNamed-nil : (code : List ℕ → ℕ) (firsts : ℕ → Option ℕ) (others : List ℕ → Option ℕ) → ((n : ℕ) → firsts n ≡ None) → ((m : List ℕ) → others m ≡ None) → IsNamedAmong code [] firsts others
+IsNamed-nil code firsts others none no-other = record {
   first_within = λ n p e. absurd (let wrong = sym (none n) ∙ e in cc);
   other_within = λ m p e. absurd (let wrong = sym (no-other m) ∙ e in cc);
   later = λ m e. no-other m;
-  numbered = λ m. ap (λ (o : Option ℕ). number_in [] (option_and_then (λ first. beside [] others first m) o)) (none (code_of m));
+  numbered = λ m. ap (λ (o : Option ℕ). number_in [] (option_and_then (λ first. beside [] others first m) o)) (none (code m));
 }
 
-module _ (symbols : List Symbol) (firsts : ℕ → Option ℕ) (others : List ℕ → Option ℕ) (h : IsNamedAmong symbols firsts others) where
+module _ (code : List ℕ → ℕ) (symbols : List Symbol) (firsts : ℕ → Option ℕ) (others : List ℕ → Option ℕ) (h : IsNamedAmong code symbols firsts others) where
   -- a place of a name is one of a row
   beside-within : (f p : ℕ) (m : List ℕ) → f < length symbols → beside symbols others f m ≡ Some p → p < length symbols
   beside-within f p m low e = go (has_name symbols f m) e where
@@ -70,8 +70,8 @@ module _ (symbols : List Symbol) (firsts : ℕ → Option ℕ) (others : List �
     go true e = let same : f ≡ p = same_Some _ _ e in omega arith
     go false e = h.other_within m p e
 
-  pub place-within : (p : ℕ) (m : List ℕ) → place_among symbols firsts others m ≡ Some p → p < length symbols
-  place-within p m e = go (firsts (code_of m)) (h.first_within (code_of m)) e where
+  pub place-within : (p : ℕ) (m : List ℕ) → place_among code symbols firsts others m ≡ Some p → p < length symbols
+  place-within p m e = go (firsts (code m)) (h.first_within (code m)) e where
     go : (o : Option ℕ) → ((q : ℕ) → o ≡ Some q → q < length symbols) → option_and_then (λ f. beside symbols others f m) o ≡ Some p → p < length symbols
     go None low e = absurd (cc)
     go (Some f) low e = beside-within f p m (low f refl) e
@@ -85,17 +85,17 @@ module _ (symbols : List Symbol) (firsts : ℕ → Option ℕ) (others : List �
   there None low e = e
   there (Some p) low e = is_some-map (λ (s : Symbol). s.number) (slice_get symbols p) ∙ slice_get-there symbols p (low p refl)
 
-  pub place-taken : (m : List ℕ) → is_some (place_among symbols firsts others m) ≡ true → is_some (number_of symbols m) ≡ true
-  place-taken m e = sym (ap is_some (h.numbered m)) ∙ there (place_among symbols firsts others m) (λ p at. place-within p m at) e
+  pub place-taken : (m : List ℕ) → is_some (place_among code symbols firsts others m) ≡ true → is_some (number_of symbols m) ≡ true
+  place-taken m e = sym (ap is_some (h.numbered m)) ∙ there (place_among code symbols firsts others m) (λ p at. place-within p m at) e
 
-  pub place-free : (m : List ℕ) → place_among symbols firsts others m ≡ None → number_of symbols m ≡ None
+  pub place-free : (m : List ℕ) → place_among code symbols firsts others m ≡ None → number_of symbols m ≡ None
   place-free m e = sym (h.numbered m) ∙ ap (number_in symbols) e
 
   -- a name by the first one with its code
-  pub place-first : (m : List ℕ) (f : ℕ) → firsts (code_of m) ≡ Some f → place_among symbols firsts others m ≡ beside symbols others f m
+  pub place-first : (m : List ℕ) (f : ℕ) → firsts (code m) ≡ Some f → place_among code symbols firsts others m ≡ beside symbols others f m
   place-first m f e = ap (option_and_then (λ g. beside symbols others g m)) e
 
-  pub place-none : (m : List ℕ) → firsts (code_of m) ≡ None → place_among symbols firsts others m ≡ None
+  pub place-none : (m : List ℕ) → firsts (code m) ≡ None → place_among code symbols firsts others m ≡ None
   place-none m e = ap (option_and_then (λ g. beside symbols others g m)) e
 
   module _ (s : Symbol) where
@@ -113,33 +113,33 @@ module _ (symbols : List Symbol) (firsts : ℕ → Option ℕ) (others : List �
     number_in-last = ap (option_map (λ (t : Symbol). t.number)) (slice_get-last symbols s)
 
     -- another name is found as before
-    numbered-other : (codes : ℕ → Option ℕ) (names : List ℕ → Option ℕ) (m : List ℕ) → codes (code_of m) ≡ firsts (code_of m) → names m ≡ others m → bytes_eq m s.name ≡ false → number_in (symbols ++ s ∷ []) (place_among (symbols ++ s ∷ []) codes names m) ≡ number_of (symbols ++ s ∷ []) m
+    numbered-other : (codes : ℕ → Option ℕ) (names : List ℕ → Option ℕ) (m : List ℕ) → codes (code m) ≡ firsts (code m) → names m ≡ others m → bytes_eq m s.name ≡ false → number_in (symbols ++ s ∷ []) (place_among code (symbols ++ s ∷ []) codes names m) ≡ number_of (symbols ++ s ∷ []) m
     numbered-other codes names m e o apart =
-        ap (number_in (symbols ++ s ∷ [])) (ap (option_and_then (λ f. beside (symbols ++ s ∷ []) names f m)) e ∙ go (firsts (code_of m)) (h.first_within (code_of m)))
-        ∙ number_in-before (place_among symbols firsts others m) (λ p at. place-within p m at) ∙ h.numbered m ∙ sym (number_of-other symbols s m apart) where
+        ap (number_in (symbols ++ s ∷ [])) (ap (option_and_then (λ f. beside (symbols ++ s ∷ []) names f m)) e ∙ go (firsts (code m)) (h.first_within (code m)))
+        ∙ number_in-before (place_among code symbols firsts others m) (λ p at. place-within p m at) ∙ h.numbered m ∙ sym (number_of-other symbols s m apart) where
           go : (found : Option ℕ) → ((p : ℕ) → found ≡ Some p → p < length symbols) → option_and_then (λ f. beside (symbols ++ s ∷ []) names f m) found ≡ option_and_then (λ f. beside symbols others f m) found
           go None low = refl
           go (Some f) low = ap (λ b. cond b (Some f) (names m)) (has_name-before f m (low f refl)) ∙ ap (λ r. cond (has_name symbols f m) (Some f) r) o
 
     -- A name whose code no row has.
-    module _ (codes : ℕ → Option ℕ) (free : firsts (code_of s.name) ≡ None) (told : (n : ℕ) → codes n ≡ with_place firsts (code_of s.name) (length symbols) n) where
+    module _ (codes : ℕ → Option ℕ) (free : firsts (code s.name) ≡ None) (told : (n : ℕ) → codes n ≡ with_place firsts (code s.name) (length symbols) n) where
       first_within : (n p : ℕ) → codes n ≡ Some p → p < length (symbols ++ s ∷ [])
-      first_within n p at = go (n == code_of s.name) (sym (told n) ∙ at) where
+      first_within n p at = go (n == code s.name) (sym (told n) ∙ at) where
         go : (same : Bool) → cond same (Some (length symbols)) (firsts n) ≡ Some p → p < length (symbols ++ s ∷ [])
         go true e = let last : length symbols ≡ p = same_Some _ _ e in omega (arith, length_push symbols s)
         go false e = let low = h.first_within n p e in omega (arith, length_push symbols s)
 
-      later : (m : List ℕ) → codes (code_of m) ≡ None → others m ≡ None
-      later m none = go (code_of m == code_of s.name) (sym (told (code_of m)) ∙ none) where
-        go : (same : Bool) → cond same (Some (length symbols)) (firsts (code_of m)) ≡ None → others m ≡ None
+      later : (m : List ℕ) → codes (code m) ≡ None → others m ≡ None
+      later m none = go (code m == code s.name) (sym (told (code m)) ∙ none) where
+        go : (same : Bool) → cond same (Some (length symbols)) (firsts (code m)) ≡ None → others m ≡ None
         go true e = absurd (cc)
         go false e = h.later m e
 
-      numbered : (m : List ℕ) → number_in (symbols ++ s ∷ []) (place_among (symbols ++ s ∷ []) codes others m) ≡ number_of (symbols ++ s ∷ []) m
-      numbered m = go (code_of m == code_of s.name) refl (told (code_of m)) where
-        go : (same : Bool) → (code_of m == code_of s.name) ≡ same → codes (code_of m) ≡ cond same (Some (length symbols)) (firsts (code_of m)) → number_in (symbols ++ s ∷ []) (place_among (symbols ++ s ∷ []) codes others m) ≡ number_of (symbols ++ s ∷ []) m
+      numbered : (m : List ℕ) → number_in (symbols ++ s ∷ []) (place_among code (symbols ++ s ∷ []) codes others m) ≡ number_of (symbols ++ s ∷ []) m
+      numbered m = go (code m == code s.name) refl (told (code m)) where
+        go : (same : Bool) → (code m == code s.name) ≡ same → codes (code m) ≡ cond same (Some (length symbols)) (firsts (code m)) → number_in (symbols ++ s ∷ []) (place_among code (symbols ++ s ∷ []) codes others m) ≡ number_of (symbols ++ s ∷ []) m
         go true same e =
-            let none : firsts (code_of m) ≡ None = ap firsts (equal_is (code_of m) (code_of s.name) same) ∙ free in
+            let none : firsts (code m) ≡ None = ap firsts (equal_is (code m) (code s.name) same) ∙ free in
             let unknown : number_of symbols m ≡ None = place-free m (place-none m none) in
             ap (number_in (symbols ++ s ∷ [])) (ap (option_and_then (λ f. beside (symbols ++ s ∷ []) others f m)) e
             ∙ ap (λ b. cond b (Some (length symbols)) (others m)) (has_name-last m)
@@ -150,10 +150,10 @@ module _ (symbols : List Symbol) (firsts : ℕ → Option ℕ) (others : List �
               by_name false e unknown = sym (number_of-other symbols s m e ∙ unknown)
         go false apart e = numbered-other codes others m e refl (names-apart (bytes_eq m s.name) refl) where
           names-apart : (b : Bool) → bytes_eq m s.name ≡ b → bytes_eq m s.name ≡ false
-          names-apart true is = absurd (let codes-same = eq-eqb (code_of m) (code_of s.name) (ap code_of (same_name m s.name is)) in cc)
+          names-apart true is = absurd (let codes-same = eq-eqb (code m) (code s.name) (ap code (same_name m s.name is)) in cc)
           names-apart false is = is
 
-      pub IsNamed-first : IsNamedAmong (symbols ++ s ∷ []) codes others
+      pub IsNamed-first : IsNamedAmong code (symbols ++ s ∷ []) codes others
       IsNamed-first = record {
         first_within = first_within;
         other_within = λ m p e. let low = h.other_within m p e in omega (arith, length_push symbols s);
@@ -162,17 +162,17 @@ module _ (symbols : List Symbol) (firsts : ℕ → Option ℕ) (others : List �
       }
 
     -- A name whose code a row has.
-    module _ (names : List ℕ → Option ℕ) (f : ℕ) (at : firsts (code_of s.name) ≡ Some f) (free : beside symbols others f s.name ≡ None) (told : (m : List ℕ) → names m ≡ cond (bytes_eq s.name m) (Some (length symbols)) (others m)) where
+    module _ (names : List ℕ → Option ℕ) (f : ℕ) (at : firsts (code s.name) ≡ Some f) (free : beside symbols others f s.name ≡ None) (told : (m : List ℕ) → names m ≡ cond (bytes_eq s.name m) (Some (length symbols)) (others m)) where
       other_within : (m : List ℕ) (p : ℕ) → names m ≡ Some p → p < length (symbols ++ s ∷ [])
       other_within m p is = go (bytes_eq s.name m) (sym (told m) ∙ is) where
         go : (same : Bool) → cond same (Some (length symbols)) (others m) ≡ Some p → p < length (symbols ++ s ∷ [])
         go true e = let last : length symbols ≡ p = same_Some _ _ e in omega (arith, length_push symbols s)
         go false e = let low = h.other_within m p e in omega (arith, length_push symbols s)
 
-      still-later : (m : List ℕ) → firsts (code_of m) ≡ None → names m ≡ None
+      still-later : (m : List ℕ) → firsts (code m) ≡ None → names m ≡ None
       still-later m none = go (bytes_eq s.name m) refl (told m) where
         go : (same : Bool) → bytes_eq s.name m ≡ same → names m ≡ cond same (Some (length symbols)) (others m) → names m ≡ None
-        go true same e = absurd (let wrong = sym (ap (λ (n : List ℕ). firsts (code_of n)) (same_name s.name m same) ∙ none) ∙ at in cc)
+        go true same e = absurd (let wrong = sym (ap (λ (n : List ℕ). firsts (code n)) (same_name s.name m same) ∙ none) ∙ at in cc)
         go false same e = e ∙ h.later m none
 
       -- the row of that code has another name
@@ -182,20 +182,20 @@ module _ (symbols : List Symbol) (firsts : ℕ → Option ℕ) (others : List �
         go true is e = absurd (cc)
         go false is e = is
 
-      numbered-self : number_in (symbols ++ s ∷ []) (place_among (symbols ++ s ∷ []) firsts names s.name) ≡ number_of (symbols ++ s ∷ []) s.name
+      numbered-self : number_in (symbols ++ s ∷ []) (place_among code (symbols ++ s ∷ []) firsts names s.name) ≡ number_of (symbols ++ s ∷ []) s.name
       numbered-self =
           ap (number_in (symbols ++ s ∷ [])) (ap (option_and_then (λ g. beside (symbols ++ s ∷ []) names g s.name)) at
-          ∙ ap (λ b. cond b (Some f) (names s.name)) (has_name-before f s.name (h.first_within (code_of s.name) f at) ∙ not-first)
+          ∙ ap (λ b. cond b (Some f) (names s.name)) (has_name-before f s.name (h.first_within (code s.name) f at) ∙ not-first)
           ∙ told s.name ∙ ap (λ b. cond b (Some (length symbols)) (others s.name)) (own_name s.name))
           ∙ number_in-last ∙ sym (number_of-new symbols s s.name (own_name s.name) (place-free s.name (place-first s.name f at ∙ free)))
 
-      numbered-with : (m : List ℕ) → number_in (symbols ++ s ∷ []) (place_among (symbols ++ s ∷ []) firsts names m) ≡ number_of (symbols ++ s ∷ []) m
+      numbered-with : (m : List ℕ) → number_in (symbols ++ s ∷ []) (place_among code (symbols ++ s ∷ []) firsts names m) ≡ number_of (symbols ++ s ∷ []) m
       numbered-with m = go (bytes_eq s.name m) refl (told m) where
-        go : (same : Bool) → bytes_eq s.name m ≡ same → names m ≡ cond same (Some (length symbols)) (others m) → number_in (symbols ++ s ∷ []) (place_among (symbols ++ s ∷ []) firsts names m) ≡ number_of (symbols ++ s ∷ []) m
-        go true same e = subst (λ (n : List ℕ). number_in (symbols ++ s ∷ []) (place_among (symbols ++ s ∷ []) firsts names n) ≡ number_of (symbols ++ s ∷ []) n) (same_name s.name m same) numbered-self
+        go : (same : Bool) → bytes_eq s.name m ≡ same → names m ≡ cond same (Some (length symbols)) (others m) → number_in (symbols ++ s ∷ []) (place_among code (symbols ++ s ∷ []) firsts names m) ≡ number_of (symbols ++ s ∷ []) m
+        go true same e = subst (λ (n : List ℕ). number_in (symbols ++ s ∷ []) (place_among code (symbols ++ s ∷ []) firsts names n) ≡ number_of (symbols ++ s ∷ []) n) (same_name s.name m same) numbered-self
         go false apart e = numbered-other firsts names m refl e (nat_list_eq_equiv.symm m s.name ∙ apart)
 
-      pub IsNamed-other : IsNamedAmong (symbols ++ s ∷ []) firsts names
+      pub IsNamed-other : IsNamedAmong code (symbols ++ s ∷ []) firsts names
       IsNamed-other = record {
         first_within = λ n p e. let low = h.first_within n p e in omega (arith, length_push symbols s);
         other_within = other_within;

@@ -3,12 +3,13 @@ use Rattle.std.specs.Prelude.{◌≡◌, ◌<◌, ℕ, List, length, slice_get, 
 use Rattle.std.specs.Option.{option_and_then, option_map}
 use Rattle.fst_table.specs.Found.{found_in}
 use Rattle.fst_symbols.specs.declared.rows.Rows.{Rows}
+use Rattle.fst_symbols.specs.Listed.{symbols_of}
 use Rattle.fst_symbols.specs.Named.{IsNamed}
 use Rattle.fst_symbols.specs.Symbols.{IsTable, Symbol, name_of}
 
 -- the symbols of the rows, in order
 abbrev pub symbols_in : Rows → List Symbol
-symbols_in rows = rows.named.rows.items
+symbols_in rows = symbols_of rows.named.rows
 
 -- the name of the symbol in a place
 abbrev pub name_in : List Symbol → Option ℕ → Option (List ℕ)

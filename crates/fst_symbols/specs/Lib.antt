@@ -1,4 +1,7 @@
+pub mod Buffered
 pub mod Codes
+pub mod Places
+pub mod Listed
 pub mod Named
 pub mod Kept
 pub mod Reading

@@ -4,9 +4,11 @@
 //! `find` gives the number of a name, and `name` the name of a number.
 #![tactic(auto)]
 
+mod coding;
 mod fault;
+mod name_index;
 mod named_rows;
-mod row;
+mod row_list;
 mod rows;
 mod table;
 

@@ -32,15 +32,16 @@ pub struct Rows {
 }
 
 impl Rows {
-    /// No rows, with room for so many.
-    pub fn with_room(alloc: Global, rows: usize) -> Result<Rows, AllocError>
+    /// No rows, with room for so many, whose names have so many bytes together.
+    pub fn with_room(alloc: Global, rows: usize, bytes: usize) -> Result<Rows, AllocError>
         ensures none { IfOk result (λ r. symbols_in r ≡ []) }
         ensures kept { IfOk result IsKept }
-        ensures room { IfOk result (λ r. (rows ≤ vec_capacity r.named.rows) × (rows ≤ room_in r.named.firsts)) }
+        ensures room { IfOk result (λ r. (rows ≤ vec_capacity r.named.rows.rows) × (rows ≤ room_in r.named.index.firsts)) }
+        ensures bytes { IfOk result (λ r. bytes ≤ vec_capacity r.named.rows.bytes) }
         ensures near { IfOk result (λ r. r.places.bound ≡ min (2 * rows) 4294967295) }
     {
         Ok(Rows {
-            named: NamedRows::with_room(alloc, rows)?,
+            named: NamedRows::with_room(alloc, rows, bytes)?,
             places: Places::new(alloc, near_end(rows) as usize),
         })
     }
@@ -104,6 +105,20 @@ impl Rows {
             Ok(None) => Ok(Ok(())),
             Err(fault) => Ok(Err(fault)),
         }
+    }
+
+    /// Where more names meet than chance allows, makes their codes anew, by each byte of the text: whoever writes a text
+    /// can choose names that meet by codes that are known, but none for codes that hang on the text itself. It is done once
+    /// at most. After an `Err` the rows are as before.
+    pub fn keep_apart(&mut self, alloc: Global, text: &[u8]) -> Result<(), AllocError>
+        requires { IsKept self.old }
+        ensures same { symbols_in self.new ≡ symbols_in self.old }
+        ensures kept { IsKept self.new }
+    {
+        if self.named.meets_often() {
+            self.named.seed(alloc, text)?;
+        }
+        Ok(())
     }
 }
 

@@ -1,6 +1,6 @@
 //! A symbol table.
 
-ghost use Rattle.std.specs.Prelude.{◌≡◌, ◌+◌, ◌/◌, min, IfOk, length};
+ghost use Rattle.std.specs.Prelude.{◌≡◌, ◌+◌, ◌-◌, ◌/◌, ◌≤◌, min, [], IfOk, length, vec_capacity};
 ghost use Rattle.std.specs.List.{count_by};
 ghost use Rattle.std.specs.Option.{option_map};
 ghost use Rattle.fst_fields.specs.Lines.{is_line_end};
@@ -82,11 +82,17 @@ fn line_ends(bytes: &[u8]) -> usize
     ends
 }
 
-/// How many symbols a text has at most. A line has one at most, and takes four bytes then with its end.
-fn most_rows(bytes: &[u8]) -> usize
-    ensures { result ≡ min (count_by is_line_end bytes.now) (length bytes.now / 4) + 1 }
+/// No rows, with room for those of a text. A line has one symbol at most, and takes four bytes then with its end; no name
+/// has a line end.
+fn with_room_for(alloc: Global, bytes: &[u8]) -> Result<Rows, AllocError>
+    ensures none { IfOk result (λ r. symbols_in r ≡ []) }
+    ensures kept { IfOk result IsKept }
+    ensures room { IfOk result (λ r. min (count_by is_line_end bytes.now) (length bytes.now / 4) + 1 ≤ vec_capacity r.named.rows.rows) }
+    ensures bytes { IfOk result (λ r. length bytes.now - count_by is_line_end bytes.now ≤ vec_capacity r.named.rows.bytes) }
 {
-    line_ends(bytes).min(bytes.len() / 4) + 1
+    let ends = line_ends(bytes);
+    let rows = ends.min(bytes.len() / 4) + 1;
+    Rows::with_room(alloc, rows, bytes.len().saturating_sub(ends))
 }
 
 /// The rows of a text, or the first fault of its first faulty line.
@@ -94,7 +100,7 @@ fn read_rows(alloc: Global, bytes: &[u8]) -> Result<Result<Rows, SymbolsFault>, 
     ensures read { IfOk result (λ r. IsRead symbols_in r (table_of_text bytes.now)) }
     ensures kept { IfOk result (λ r. IfOk r IsKept) }
 {
-    let mut rows = Rows::with_room(alloc, most_rows(bytes))?;
+    let mut rows = with_room_for(alloc, bytes)?;
     let mut rest = bytes;
     let mut line: u64 = 0;
     while let Some((first, behind)) = next_line(rest) {
@@ -103,6 +109,7 @@ fn read_rows(alloc: Global, bytes: &[u8]) -> Result<Result<Rows, SymbolsFault>, 
             Ok(()) => {}
             Err(fault) => return Ok(Err(fault)),
         }
+        rows.keep_apart(alloc, bytes)?;
         rest = behind;
     }
     Ok(Ok(rows))
