@@ -4,9 +4,9 @@ use Rattle.std.specs.List.{All}
 use Rattle.std.proofs.lemmas.List.{drop-set-lt, get_or_default, length-append, length-drop, length-set, length-take-le, take_all, take_more_set}
 use Rattle.std.proofs.lemmas.List.Elements.{All-drop, recursion_from_All}
 use Rattle.std.proofs.lemmas.Slice.{drop-append-drop}
-use Rattle.std.proofs.Math.Seq.{drop-cons, drop-drop, take-append_seam, take-suc-set}
+use Rattle.std.proofs.Math.Seq.{drop-cons, drop-drop, take-suc-set}
 use Rattle.fst_machine.specs.Extending.{shifted, wrapped}
-use Rattle.fst_machine.specs.Machine.{Arc, State, arc_total, most_arcs}
+use Rattle.fst_machine.specs.Machine.{Arc, State, arc_total}
 use Rattle.fst_machine.specs.SideBySide.{Follow, end_of}
 use Rattle.fst_machine.specs.Spreading.{IsSpreading}
 use Rattle.fst_machine.specs.Store.{Slot, LiesIn, kept_from, kept_state, kept_states}
@@ -26,27 +26,16 @@ copied {V} by old store before first count place end a d within size read same m
     ∙ (append_assoc (take end store) (wrapped by a ∷ []) rest
     ∙ (ap (λ l. take end store ++ l) (sym here) ∙ kept))
 
--- what a store is after arcs were written to a place
-pub record IsWritten {X : Type 0} (store arcs new : List X) (first : ℕ) : Type 0 where
-  pub front : take (first + length arcs) new ≡ take first store ++ arcs
-  pub behind : (n : ℕ) → first + length arcs ≤ n → drop n new ≡ drop n store
-  pub size : length new ≡ length store
-
-pub written : {X : Type 0} (store arcs new : List X) (first : ℕ) → first + length arcs ≤ length store → new ≡ take first store ++ (arcs ++ drop (length arcs) (drop first store)) → IsWritten store arcs new first
-written {X} store arcs new first inside is =
+-- behind arcs that were written to a place a store is as it was
+pub written : {X : Type 0} (store arcs new : List X) (first : ℕ) → first + length arcs ≤ length store → new ≡ take first store ++ (arcs ++ drop (length arcs) (drop first store)) → (n : ℕ) → first + length arcs ≤ n → drop n new ≡ drop n store
+written {X} store arcs new first inside is n past =
     let k : ℕ = first + length arcs in
     let front : List X = take first store ++ arcs in
     let rest : drop (length arcs) (drop first store) ≡ drop k store = drop-drop (length arcs) first store in
     let whole : new ≡ front ++ drop k store = is ∙ (ap (λ l. take first store ++ (arcs ++ l)) rest ∙ sym (append_assoc (take first store) arcs (drop k store))) in
     let low : length (take first store) ≡ first = length-take-le first store (omega (arith, inside)) in
-    let size : length front ≡ k = length-append (take first store) arcs ∙ ap (λ n. n + length arcs) low in
-    let behind : length (drop k store) ≡ length store - k = length-drop k store in
-    let all : length new ≡ length front + length (drop k store) = ap length whole ∙ length-append front (drop k store) in
-    record {
-      front = ap (take k) whole ∙ (ap (λ n. take n (front ++ drop k store)) (sym size) ∙ take-append_seam front (drop k store));
-      behind = λ n past. ap (drop n) whole ∙ drop-append-drop k store front n past size;
-      size = omega (arith, all, size, behind, inside);
-    }
+    let size : length front ≡ k = length-append (take first store) arcs ∙ ap (λ m. m + length arcs) low in
+    ap (drop n) whole ∙ drop-append-drop k store front n past size
 
 -- the states whose parts begin behind a place, from which on the store is the same
 same_states : {V : Type 0} (old new : List (Arc V ℕ)) (behind i j : ℕ) (slots : List (Slot V)) → drop behind new ≡ drop behind old → Follow behind slots → kept_from new [] i slots ≡ kept_from old [] j slots
@@ -61,21 +50,6 @@ same_states {V} old new behind i j (s ∷ slots) same follow =
 room_before : (back place first count end : ℕ) → (0 < count → place ≤ first) → end ≤ back + place → end + count ≤ back + end_of place first count
 room_before back place first zero end low room = omega (arith, room)
 room_before back place first (suc more) end low room = omega (arith, room, low (omega arith))
-
--- no state is done
-pub spread_first : {V : Type 0} (slots : List (Slot V)) (store new : List (Arc V ℕ)) (more : ℕ) → length new ≡ length store + more → length store + more ≤ most_arcs → All (LiesIn (length store)) slots → Follow 0 slots → IsSpreading slots new 0 0 more 0
-spread_first {V} slots store new more size few parts follow =
-    let left : length store ≡ length new - more = omega (arith, size) in
-    record {
-      states = omega arith;
-      parts = λ i d within. absurd (omega (arith, within));
-      counted = refl;
-      low = omega arith;
-      inside = omega (arith, size);
-      others = subst (λ n. All (LiesIn n) slots) left parts;
-      follow = follow;
-      few_arcs = omega (arith, size, few);
-    }
 
 -- all states are done
 spread_all : {V : Type 0} (slots : List (Slot V)) (state : ℕ) (store : List (Arc V ℕ)) (from : ℕ) → kept_from store [] from (drop state slots) ≡ [] → take state slots ≡ slots
