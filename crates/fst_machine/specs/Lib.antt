@@ -35,3 +35,4 @@ pub mod Putting
 pub mod KeptMachine
 pub mod Narrowing
 pub mod Extending
+pub mod Spreading

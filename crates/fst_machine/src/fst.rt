@@ -16,6 +16,7 @@ mod open_list;
 mod placing;
 mod retain;
 mod rewriting;
+mod spreading;
 mod state_list;
 
 pub use change::ArcsChange;
@@ -25,6 +26,7 @@ pub use leaving::Leaving;
 pub use open_list::OpenList;
 pub use placing::Placing;
 pub use rewriting::Rewriting;
+pub use spreading::Spreading;
 pub use state_list::StateList;
 use std::alloc::{AllocError, Global};
 use std::marker::Model;

@@ -25,7 +25,7 @@ pub use arc::FstArc;
 pub use breadth_first::{find, walk};
 pub use fst::{
     ArcsChange, Fst, GrowFault, Joined, Leaving, MOST_ARCS, MOST_STATES, OpenList, Placing,
-    Rewriting, StateList,
+    Rewriting, Spreading, StateList,
 };
 pub use fst_fields::MOST_LABEL;
 pub use narrow::{NarrowFault, narrow_all, narrow_state};
