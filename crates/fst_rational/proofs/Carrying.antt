@@ -15,7 +15,7 @@ module _ {V : Type 0} (value : V → Cost) (by : ℕ) where
   has_room states small good = All-weaker (λ s. All (IsArc value most_states) s.arcs) (HasRoom by)
       (λ s arcs. All-weaker (IsArc value most_states) (λ a. by + a.next < 4294967296) (λ a is. omega (arith, small, is.next)) s.arcs arcs) states good
 
-  valued_shifted : (arcs : List (Arc V ℕ)) → map (valued_arc value) (map (shifted by) arcs) ≡ map (renamed (λ p. by + p)) (map (valued_arc value) arcs)
+  pub valued_shifted : (arcs : List (Arc V ℕ)) → map (valued_arc value) (map (shifted by) arcs) ≡ map (renamed (λ p. by + p)) (map (valued_arc value) arcs)
   valued_shifted [] = refl
   valued_shifted (a ∷ arcs) = ap (λ (zs : List (Arc Cost ℕ)). renamed (λ p. by + p) (valued_arc value a) ∷ zs) (valued_shifted arcs)
 

@@ -225,6 +225,13 @@ module _ {V : Type 0} (value : V → Cost) (kind : ArcType) (a : Machine V) (sma
     pub star_made : (all : List (State V)) → map (valued_state value) all ≡ map (valued_state value) one ++ round → map (valued_state value) all ≡ made.states
     star_made all second = second ∙ ap (λ ss. ss ++ round) first
 
+-- or the new start is put last, in front of the others; these are its arcs
+pub star_heads : {V : Type 0} (value : V → Cost) (kind : ArcType) (a : Machine V) {own : List (Arc V ℕ)} (one : List (Arc V ℕ)) {s : Option ℕ} → own ≡ [] → s ≡ a.start → map (valued_arc value) one ≡ map (valued_arc value) own ++ entry kind 1 s → map (valued_arc value) one ≡ (star_start kind (valued value a)).arcs
+star_heads {V} value kind a one clear begins put = put ∙ ap₂ (λ (os : List (Arc V ℕ)) (o : Option ℕ). map (valued_arc value) os ++ entry kind 1 o) clear begins
+
+pub star_parts : (kind : ArcType) (a : Machine Cost) → (star_of kind a).states ≡ star_start kind a ∷ (map (carried 1 false (Some 0)) a.states ++ [])
+star_parts kind a = ap (λ ss. star_start kind a ∷ ss) (sym (append-nil (map (carried 1 false (Some 0)) a.states)))
+
 -- the states of the operand of a plus are put
 module _ {V : Type 0} (value : V → Cost) (a : Machine V) (small : IsSmall (plus_of (valued value a))) {start : Option ℕ} {none : List (State V)} (begins : start ≡ a.start) (empty : none ≡ []) where
   abbrev all_round : List (State Cost)
@@ -238,6 +245,15 @@ module _ {V : Type 0} (value : V → Cost) (a : Machine V) (small : IsSmall (plu
 
   pub plus_made : (all : List (State V)) → map (valued_state value) all ≡ map (valued_state value) none ++ all_round → map (valued_state value) all ≡ (plus_of (valued value a)).states
   plus_made all put = put ∙ (ap (λ (ss : List (State V)). map (valued_state value) ss ++ all_round) empty ∙ sym all_parts)
+
+-- how many arcs they have
+pub star_sized : {V : Type 0} (value : V → Cost) (kind : ArcType) (a : Machine V) {size : ℕ × ℕ} → IsSize (star_of kind (valued value a)) size → size.1 ≡ start_count a.start + (arc_total a.states + goings (Some 0) (map (valued_state value) a.states))
+star_sized value kind a is = omega (arith, is.arcs, star_arcs kind (valued value a), arc_total-valued value a.states)
+
+pub plus_sized : {V : Type 0} (value : V → Cost) (a : Machine V) {size : ℕ × ℕ} {start : Option ℕ} → IsSize (plus_of (valued value a)) size → start ≡ a.start → size.1 ≡ arc_total a.states + goings start (map (valued_state value) a.states)
+plus_sized value a is begins =
+    let goes = ap (λ (o : Option ℕ). goings o (map (valued_state value) a.states)) begins in
+    omega (arith, is.arcs, arc_total-carried 0 true a.start (map (valued_state value) a.states), arc_total-valued value a.states, goes)
 
 -- the sizes, as they are computed
 pub star_counted : {V : Type 0} (value : V → Cost) (kind : ArcType) (a : Machine V) (states arcs one more on first : ℕ) → one ≡ length a.states → more ≡ arc_total a.states → on ≡ goings (Some 0) (map (valued_state value) a.states) → first ≡ start_count a.start → states ≡ one + 1 → arcs ≡ more + on + first

@@ -7,6 +7,7 @@ pub mod Blocks
 pub mod Sizes
 pub mod Putting
 pub mod Carrying
+pub mod GoingOn
 pub mod Uniting
 pub mod Continued
 pub mod Concatenating

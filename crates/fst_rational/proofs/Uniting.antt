@@ -181,41 +181,26 @@ module _ {V : Type 0} (value : V → Cost) (kind : ArcType) (a b : Machine V) (s
     abbrev backs : List (State Cost)
     backs = map (carried (k + 1) true None) (map (valued_state value) b.states)
 
-    parts : union.states ≡ head ∷ (fronts ++ backs)
-    parts = ap (λ (j : ℕ). head ∷ (fronts ++ map (carried j true None) (map (valued_state value) b.states))) (sym (places count))
+    pub union_parts : union.states ≡ head ∷ (fronts ++ backs)
+    union_parts = ap (λ (j : ℕ). head ∷ (fronts ++ map (carried j true None) (map (valued_state value) b.states))) (sym (places count))
 
     pub union_first_room : (one : List (State V)) → map (valued_state value) one ≡ head ∷ [] → arc_total one + arc_total fronts ≤ most_arcs
-    union_first_room one first = next_room value (head ∷ []) fronts backs union.states one first parts small.arcs
+    union_first_room one first = next_room value (head ∷ []) fronts backs union.states one first union_parts small.arcs
 
     -- the new start is put first
     pub union_behind : (one two : List (State V)) → map (valued_state value) one ≡ head ∷ [] → map (valued_state value) two ≡ map (valued_state value) one ++ fronts → map (valued_state value) two ≡ head ∷ fronts
     union_behind one two first second = second ∙ ap (λ ss. ss ++ fronts) first
 
-    -- or last, in front of the states of the first operand, for which there is room
-    module _ {old : List (State V)} (given : List (State V)) {own arcs : List (Arc V ℕ)} {o : Option ℕ} (same_states : old ≡ a.states) (moved : map (valued_state value) given ≡ map (carried 1 true None) (map (valued_state value) old)) (enters : map (valued_arc value) own ≡ entry kind 1 a.start ++ entry kind (k + 1) o) (starts : o ≡ b.start) (same : arcs ≡ own) where
-      moves : map (valued_state value) given ≡ fronts
-      moves = moved ∙ ap (λ (ss : List (State V)). map (carried 1 true None) (map (valued_state value) ss)) same_states
-
-      heads : map (valued_arc value) arcs ≡ head.arcs
-      heads = ap (map (valued_arc value)) same ∙ (enters ∙ (ap (λ (s : Option ℕ). entry kind 1 a.start ++ entry kind (k + 1) s) starts ∙ ap (λ (j : ℕ). entry kind 1 a.start ++ entry kind j b.start) (places count)))
-
-      pub union_front_room : arc_total given + length arcs ≤ most_arcs
-      union_front_room =
-          let now : arc_total given ≡ arc_total fronts = sym (arc_total-valued value given) ∙ ap arc_total moves in
-          let size : length arcs ≡ length head.arcs = sym (length-map arcs (valued_arc value)) ∙ ap length heads in
-          let all : arc_total union.states ≡ length head.arcs + arc_total (fronts ++ backs) = ap arc_total parts ∙ sum_by-cons (λ (t : State Cost). length t.arcs) head (fronts ++ backs) in
-          let both = sum_by-append (λ (t : State Cost). length t.arcs) fronts backs in
-          omega (arith, now, size, all, both, small.arcs)
-
-      pub union_before : (two : List (State V)) {z : V} → value z ≡ infinite → map (valued_state value) two ≡ record { final = value z; arcs = map (valued_arc value) arcs } ∷ map (valued_state value) given → map (valued_state value) two ≡ head ∷ fronts
-      union_before two {z} last put = put ∙ (ap₂ (λ (w : Cost) (os : List (Arc Cost ℕ)). record { final = w; arcs = os } ∷ map (valued_state value) given) last heads ∙ ap (λ ss. head ∷ ss) moves)
+    -- or last; these are its arcs
+    pub union_heads : (own : List (Arc V ℕ)) {s t : Option ℕ} → map (valued_arc value) own ≡ entry kind 1 s ++ entry kind (k + 1) t → s ≡ a.start → t ≡ b.start → map (valued_arc value) own ≡ head.arcs
+    union_heads own enters begins starts = enters ∙ (ap₂ (λ (o p : Option ℕ). entry kind 1 o ++ entry kind (k + 1) p) begins starts ∙ ap (λ (j : ℕ). entry kind 1 a.start ++ entry kind j b.start) (places count))
 
     module _ (two : List (State V)) (so_far : map (valued_state value) two ≡ head ∷ fronts) where
       pub union_second_room : arc_total two + arc_total backs ≤ most_arcs
-      union_second_room = next_room value (head ∷ fronts) backs [] union.states two so_far (parts ∙ ap (λ ss. head ∷ (fronts ++ ss)) (sym (append-nil backs))) small.arcs
+      union_second_room = next_room value (head ∷ fronts) backs [] union.states two so_far (union_parts ∙ ap (λ ss. head ∷ (fronts ++ ss)) (sym (append-nil backs))) small.arcs
 
       pub union_made : (all : List (State V)) → map (valued_state value) all ≡ map (valued_state value) two ++ backs → map (valued_state value) all ≡ union.states
-      union_made all third = third ∙ (ap (λ ss. ss ++ backs) so_far ∙ sym parts)
+      union_made all third = third ∙ (ap (λ ss. ss ++ backs) so_far ∙ sym union_parts)
 
 -- the entries are as many as the starts
 pub entry_count : (kind : ArcType) (k : ℕ) (start : Option ℕ) → length (entry kind k start) ≡ start_count start

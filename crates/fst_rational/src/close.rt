@@ -16,7 +16,7 @@ use fst_semiring::Weight;
 use std::alloc::{AllocError, Global};
 
 /// The final weight of the new start of a star: One, which is the product of no triples.
-fn weight_of_none<W: Weight>() -> W
+pub(crate) fn weight_of_none<W: Weight>() -> W
     ensures { W.value result ≡ one_of W.KIND }
 {
     W::one()
@@ -82,6 +82,24 @@ fn build_plus<W: Weight>(
     Ok(list.into_machine(a.start()))
 }
 
+/// How many states and arcs the star has.
+pub(crate) fn star_size<W: Weight>(a: &Fst<W>) -> (u32, u32)
+    ensures { IsSize (star_of W.KIND (valued W.value a.now)) result }
+{
+    let states = a.states();
+    let own = a.arc_count() + count_onward(a, Some(0));
+    (states + 1, own + entries(a.start()))
+}
+
+/// How many states and arcs the plus has.
+pub(crate) fn plus_size<W: Weight>(a: &Fst<W>) -> (u32, u32)
+    ensures { IsSize (plus_of (valued W.value a.now)) result }
+{
+    let states = a.states();
+    let arcs = a.arc_count() + count_onward(a, a.start());
+    (states, arcs)
+}
+
 /// The star of a machine.
 #[derive(Drop)]
 struct Starring<'a, W: Weight> {
@@ -89,12 +107,14 @@ struct Starring<'a, W: Weight> {
 }
 
 impl<'a, W: Weight> Construction<W> for Starring<'a, W> {
+    type Made = Fst<W>;
+
     ghost machine = { λ s. star_of W.KIND (valued W.value s.a.now) };
 
+    ghost seen = { λ m. valued W.value m };
+
     fn size(&self) -> (u32, u32) {
-        let states = self.a.states();
-        let own = self.a.arc_count() + count_onward(self.a, Some(0));
-        (states + 1, own + entries(self.a.start()))
+        star_size(self.a)
     }
 
     fn build(self, alloc: Global, needed: (u32, u32)) -> Result<Fst<W>, AllocError> {
@@ -109,12 +129,14 @@ struct Repeating<'a, W: Weight> {
 }
 
 impl<'a, W: Weight> Construction<W> for Repeating<'a, W> {
+    type Made = Fst<W>;
+
     ghost machine = { λ s. plus_of (valued W.value s.a.now) };
 
+    ghost seen = { λ m. valued W.value m };
+
     fn size(&self) -> (u32, u32) {
-        let states = self.a.states();
-        let arcs = self.a.arc_count() + count_onward(self.a, self.a.start());
-        (states, arcs)
+        plus_size(self.a)
     }
 
     fn build(self, alloc: Global, needed: (u32, u32)) -> Result<Fst<W>, AllocError> {

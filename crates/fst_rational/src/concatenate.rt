@@ -15,7 +15,7 @@ use fst_semiring::Weight;
 use std::alloc::{AllocError, Global};
 
 /// Where a start stands so many places further on.
-fn shifted(shift: u32, start: Option<u32>) -> Option<u32>
+pub(crate) fn shifted(shift: u32, start: Option<u32>) -> Option<u32>
     requires { IfSome start (λ s. shift + s < 4294967296) }
     ensures { result ≡ option_map (λ s. shift + s) start }
 {
@@ -54,6 +54,17 @@ fn build<W: Weight>(
     Ok(list.into_machine(a.start()))
 }
 
+/// How many states and arcs the concatenation has.
+pub(crate) fn concat_size<W: Weight>(a: &Fst<W>, b: &Fst<W>) -> (u32, u32)
+    ensures { IsSize (concat_of (valued W.value a.now) (valued W.value b.now)) result }
+{
+    let front = a.states();
+    let back = b.states();
+    let target = shifted(front, b.start());
+    let arcs = a.arc_count() + count_onward(a, target) + b.arc_count();
+    (front + back, arcs)
+}
+
 /// The concatenation of two machines.
 #[derive(Drop)]
 struct Joining<'a, W: Weight> {
@@ -62,14 +73,14 @@ struct Joining<'a, W: Weight> {
 }
 
 impl<'a, W: Weight> Construction<W> for Joining<'a, W> {
+    type Made = Fst<W>;
+
     ghost machine = { λ s. concat_of (valued W.value s.a.now) (valued W.value s.b.now) };
 
+    ghost seen = { λ m. valued W.value m };
+
     fn size(&self) -> (u32, u32) {
-        let front = self.a.states();
-        let back = self.b.states();
-        let target = shifted(front, self.b.start());
-        let arcs = self.a.arc_count() + count_onward(self.a, target) + self.b.arc_count();
-        (front + back, arcs)
+        concat_size(self.a, self.b)
     }
 
     fn build(self, alloc: Global, needed: (u32, u32)) -> Result<Fst<W>, AllocError> {

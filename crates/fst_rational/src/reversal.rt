@@ -177,7 +177,11 @@ struct Reversing<'a, W: Weight> {
 }
 
 impl<'a, W: Weight> Construction<W> for Reversing<'a, W> {
+    type Made = Fst<W>;
+
     ghost machine = { λ s. reverse_of W.KIND (valued W.value s.a.now) };
+
+    ghost seen = { λ m. valued W.value m };
 
     fn size(&self) -> (u32, u32) {
         let states = self.a.states();

@@ -3,7 +3,7 @@ use Rattle.fst_rational.specs.Relations.{Unites}
 use Rattle.fst_machine.proofs.Valued.{IsMachine-valued}
 use Rattle.fst_rational.proofs.Made.{made}
 use Rattle.fst_rational.proofs.Uniting.{union-Unites}
-use Rattle.fst_rational.proofs.unite.into_union.Goals as goal
+use Rattle.fst_rational.proofs.given.into_union.Goals as goal
 
 pub returns-clause-relation : goal.returns-clause-relation
 returns-clause-relation g c =
