@@ -3,8 +3,8 @@
 use crate::products::{add_arcs, closed};
 use fst_machine::Fst;
 use fst_rational::{
-    closure, into_inverted, into_projected, into_relabelled, invert, project, read_pairs, relabel,
-    reverse,
+    closure, into_closure, into_inverted, into_projected, into_relabelled, invert, project,
+    read_pairs, relabel, reverse,
 };
 use fst_samples::{Triple, put};
 use fst_semiring::{ArcType, Weight};
@@ -88,7 +88,9 @@ pub(crate) fn apply_given<W: Weight>(
         Change::SortInput => into_arcsorted(alloc, fst, Side::Input)?,
         Change::SortOutput => into_arcsorted(alloc, fst, Side::Output)?,
         Change::Connect => into_connected(alloc, fst)?,
-        Change::Reverse | Change::Star | Change::Plus => {
+        Change::Star => into_closure(alloc, fst, false)?,
+        Change::Plus => into_closure(alloc, fst, true)?,
+        Change::Reverse => {
             let fst = fst;
             apply(alloc, change, &fst)?
         }

@@ -1,8 +1,8 @@
 //! What each operation makes of small tropical machines, by hand.
 
 use crate::operations::{Change, apply, apply_given, with_new_labels};
-use fst_machine::{Fst, MOST_STATES};
-use fst_rational::{PairsFault, RationalFault, concat, read_pairs, union};
+use fst_machine::{Fst, Joined, Leaving, MOST_STATES};
+use fst_rational::{PairsFault, RationalFault, concat, into_concat, into_union, read_pairs, union};
 use fst_samples::{bare_states, chain, is_text, machine, without_start};
 use fst_semiring::Tropical;
 use fst_trim::connect;
@@ -13,12 +13,23 @@ use std::test::Fail;
 const TICKET: &[u8] = b"0 1 1 2 5\n1 3\n";
 
 /// An operation, a machine, and what it makes of it.
-static CHANGES: [(Change, &[u8], &[u8]); 18] = [
+static CHANGES: [(Change, &[u8], &[u8]); 20] = [
     (Change::Invert, TICKET, b"0 1 2 1 5\n1 3\n"),
     (Change::ProjectInput, TICKET, b"0 1 1 1 5\n1 3\n"),
     (Change::ProjectOutput, TICKET, b"0 1 2 2 5\n1 3\n"),
     (Change::Star, TICKET, b"0 1 0 0\n1 2 1 2 5\n2 0 0 0 3\n0\n"),
     (Change::Star, b"", b"0\n"),
+    // Two final states, of which one leads on.
+    (
+        Change::Star,
+        b"0 1 1 2 5\n0 2\n1 0 3 4 6\n1 3\n",
+        b"0 1 0 0\n1 2 1 2 5\n1 0 0 0 2\n2 1 3 4 6\n2 0 0 0 3\n0\n",
+    ),
+    (
+        Change::Plus,
+        b"0 1 1 2 5\n0 2\n1 0 3 4 6\n1 3\n",
+        b"0 1 1 2 5\n0 0 0 0 2\n0 2\n1 0 3 4 6\n1 0 0 0 3\n1 3\n",
+    ),
     (Change::Plus, TICKET, b"0 1 1 2 5\n1 0 0 0 3\n1 3\n"),
     (Change::Reverse, TICKET, b"0 2 0 0 3\n2 1 1 2 5\n1\n"),
     // The arcs of the reverse come by source and place.
@@ -130,8 +141,14 @@ static UNITED: [(&[u8], &[u8], &[u8]); 2] = [
 ];
 
 /// Two machines, and their concatenation.
-static JOINED: [(&[u8], &[u8], &[u8]); 2] = [
+static JOINED: [(&[u8], &[u8], &[u8]); 3] = [
     (TICKET, TICKET, b"0 1 1 2 5\n1 2 0 0 3\n2 3 1 2 5\n3 3\n"),
+    // Two final states in front, and a start behind that is not the first state.
+    (
+        b"0 1 1 2 5\n0 2\n1 0 3 4 6\n1 3\n",
+        b"1 0 7 8 9\n0 4\n",
+        b"0 1 1 2 5\n0 3 0 0 2\n1 0 3 4 6\n1 3 0 0 3\n3 2 7 8 9\n2 4\n",
+    ),
     (TICKET, b"", b"0 1 1 2 5\n"),
 ];
 
@@ -147,6 +164,65 @@ fn joined(alloc: Global, a: &[u8], b: &[u8]) -> Result<Fst<Tropical>, Fail> {
     let (a, b) = (machine(alloc, a)?, machine(alloc, b)?);
     let made = concat(alloc, &a, &b)?;
     Ok(made)
+}
+
+/// Whether these states are those of a machine from a place on.
+fn are_states(part: &Leaving<Tropical>, fst: &Fst<Tropical>, from: usize) -> bool {
+    for place in 0..part.len() {
+        let state = from.saturating_add(place);
+        if state >= fst.states() as usize {
+            return false;
+        }
+        let state = state as u32;
+        if part.final_weight(place) != fst.final_weight(state)
+            || part.arcs(place) != fst.arcs(state)
+        {
+            return false;
+        }
+    }
+    true
+}
+
+/// Whether a machine whose states stand in two lists is that of a text.
+fn is_joined_text(alloc: Global, made: Joined<Tropical>, text: &[u8]) -> Result<bool, Fail> {
+    let wanted: Fst<Tropical> = machine(alloc, text)?;
+    if made.start() != wanted.start()
+        || made.states() != wanted.states()
+        || made.arc_count() != wanted.arc_count()
+    {
+        return Ok(false);
+    }
+    let (first, second) = made.into_parts();
+    let behind = first.len();
+    Ok(are_states(&first, &wanted, 0) && are_states(&second, &wanted, behind))
+}
+
+/// The union of the machines of two texts, which are given away.
+fn united_given(alloc: Global, a: &[u8], b: &[u8]) -> Result<Joined<Tropical>, Fail> {
+    let (a, b) = (machine(alloc, a)?, machine(alloc, b)?);
+    let made = into_union(alloc, a, b)?;
+    Ok(made)
+}
+
+/// The concatenation of the machines of two texts, which are given away.
+fn joined_given(alloc: Global, a: &[u8], b: &[u8]) -> Result<Joined<Tropical>, Fail> {
+    let (a, b) = (machine(alloc, a)?, machine(alloc, b)?);
+    let made = into_concat(alloc, a, b)?;
+    Ok(made)
+}
+
+#[test]
+fn joins_two_machines_that_are_given_away(rt: HostRuntime) -> Result<(), Fail> {
+    let alloc = rt.alloc();
+    for (a, b, want) in &UNITED {
+        let made = united_given(alloc, a, b)?;
+        assert!(rt; is_joined_text(alloc, made, want)?, "{want:?}");
+    }
+    for (a, b, want) in &JOINED {
+        let made = joined_given(alloc, a, b)?;
+        assert!(rt; is_joined_text(alloc, made, want)?, "{want:?}");
+    }
+    Ok(())
 }
 
 #[test]
@@ -170,6 +246,8 @@ fn has_a_greatest_size(rt: HostRuntime) -> Result<(), Fail> {
     let most = union(alloc, &half, &less)?;
     assert_eq!(rt; most.states(), 4_194_304);
     assert_eq!(rt; most.arc_count(), 0);
+    let most = into_union(alloc, half, less)?;
+    assert_eq!(rt; most.states(), 4_194_304);
     Ok(())
 }
 
