@@ -21,10 +21,11 @@ abbrev pub NextRange : ℕ → Type 0 → Option ℕ → Option ℕ → Type 0
 NextRange place fine None next = (fine × (next ≡ None)) ⊎ ((fine → ⊥) × (next ≡ Some place))
 NextRange place fine (Some first) next = next ≡ Some first
 
--- A state is put after the others, if its weights and those before it are in range and the arcs are not too many.
+-- The open state, which has these arcs, is put after the others, if its weights and those before it are in range and the
+-- arcs are not too many. Where they are too many, no weight is looked at.
 module _ (place : ℕ) (fits : Bool) (last : Cost) (out : List (Arc Cost ℕ)) (total : ℕ) where
   pub record PutsState (overflow next : Option ℕ) (old new : List (State Cost)) : Type 0 where
-    pub range : NextRange place ((fits ≡ true) × InRange last) overflow next
+    pub range : total ≤ most_arcs → NextRange place ((fits ≡ true) × InRange last) overflow next
     pub put : next ≡ None → total ≤ most_arcs → new ≡ old ++ record { final = last; arcs = out } ∷ []
 
 -- the arc to this number in place of its name
@@ -54,12 +55,13 @@ module _ {N : Type 0} where
     pub weight : c.weight ≡ a.weight
     pub next : slice_get names c.next ≡ Some a.next
 
-  -- The names grow by those to which these arcs lead. The arcs out stand for these arcs, if their weights are in range.
-  pub record PutsArcs (limit : ℕ) (arcs : List (Arc Cost N)) (old new : List N) (out : List (Arc Cost ℕ)) (fits : Bool) : Type 0 where
+  -- The names grow by those to which these arcs lead. Where arcs may be put, and the weights of these are in range, the
+  -- arcs out grow by those that stand for them.
+  pub record PutsArcs (limit : ℕ) (may : Type 0) (arcs : List (Arc Cost N)) (old new : List N) (out more : List (Arc Cost ℕ)) (fits : Bool) : Type 0 where
     pub grown : Grows old (nexts arcs) new
     pub few : length new ≤ limit
-    pub range : Decides fits (All (λ a. InRange a.weight) arcs)
-    pub put : fits ≡ true → AllZip (IsNumberedArc new) arcs out
+    pub range : Decides fits (may × All (λ a. InRange a.weight) arcs)
+    pub put : fits ≡ true → (added : List (Arc Cost ℕ)) × (more ≡ out ++ added) × AllZip (IsNumberedArc new) arcs added
 
   -- the weights of a name are in range
   abbrev pub Fits : Graph N → N → Type 0
@@ -89,8 +91,8 @@ module _ {N : Type 0} where
     pub few : length names ≤ limit
 
   -- A walk from the start of the graph that has found these names and followed so many of them, with the states and
-  -- the count of the arcs of these, and the first that has a weight out of range. A name in place i is reached by no
-  -- more than i arcs.
+  -- the count of the arcs of these, and the first that has a weight out of range, as long as the arcs are not too many. A
+  -- name in place i is reached by no more than i arcs.
   pub record IsMaking (g : Graph N) (limit : ℕ) (names : List N) (states : List (State Cost)) (total : ℕ) (overflow : Option ℕ) (taken : ℕ) : Type 0 where
     pub start : N
     pub starts : g.start ≡ Some start
@@ -98,7 +100,7 @@ module _ {N : Type 0} where
     pub reached : (i : ℕ) (n : N) → slice_get names i ≡ Some n → (path : List (Transition N)) × IsPath g start path n × (length path ≤ i)
     pub few : length names ≤ limit
     pub counted : IsCounted total (arcs_of g (take taken names))
-    pub range : MatchOption overflow (All (Fits g) (take taken names)) (IsFirstOut g (take taken names))
+    pub range : total ≤ most_arcs → MatchOption overflow (All (Fits g) (take taken names)) (IsFirstOut g (take taken names))
     pub made : overflow ≡ None → total ≤ most_arcs → AllZip (IsNumberedState g names) (take taken names) states
 
   -- the end of such a walk
@@ -106,5 +108,5 @@ module _ {N : Type 0} where
     pub reached : IsReached g limit names
     pub near : limit ≤ most_states → (n : N) → Has names n → IsNear g n
     pub counted : IsCounted total (arcs_of g names)
-    pub range : MatchOption overflow (All (Fits g) names) (IsFirstOut g names)
+    pub range : total ≤ most_arcs → MatchOption overflow (All (Fits g) names) (IsFirstOut g names)
     pub made : overflow ≡ None → total ≤ most_arcs → AllZip (IsNumberedState g names) names states
