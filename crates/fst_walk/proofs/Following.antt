@@ -142,17 +142,17 @@ module _ {N : Type 0} (g : Graph N) (limit : ℕ) where
         })
 
     -- the arcs before were not too many
-    pub few_before : (count : ℕ) → count ≤ most_arcs → IsCounted count (arcs_of g (take taken names) + length (g.arcs n)) → total ≤ most_arcs
-    few_before count low counted = by_size (cases_lt most_arcs total)
+    pub few_before : (count more : ℕ) → count ≤ most_arcs → IsCounted count (arcs_of g (take taken names) + more) → total ≤ most_arcs
+    few_before count more low counted = by_size (cases_lt most_arcs total)
       where
         by_size : (most_arcs < total) ⊎ (total ≤ most_arcs) → total ≤ most_arcs
         by_size (inl many) = absurd (let over = h.counted.1 many in let is = counted.0 low in omega (arith, over, is, low))
         by_size (inr few) = few
 
-    -- there is room for its arcs
-    pub room : (count : ℕ) → IsCounted count (arcs_of g (take taken names) + length (g.arcs n)) → overflow ≡ None → count ≤ most_arcs → arc_total states + length (g.arcs n) ≤ most_arcs
-    room count counted none low =
-        let total_is = zip_total g names (take taken names) states (h.made none (few_before count low counted)) in
+    -- there is room for so many of its arcs
+    pub room : (count more : ℕ) → IsCounted count (arcs_of g (take taken names) + more) → overflow ≡ None → count ≤ most_arcs → arc_total states + more ≤ most_arcs
+    room count more counted none low =
+        let total_is = zip_total g names (take taken names) states (h.made none (few_before count more low counted)) in
         let is = counted.0 low in
         omega (arith, total_is, is, low)
 
@@ -166,7 +166,7 @@ module _ {N : Type 0} (g : Graph N) (limit : ℕ) where
       reached = λ i z there. found_placed (nexts (g.arcs n)) [] new (sym (append-nil (nexts (g.arcs n)))) puts.grown i z there;
       few = puts.few;
       counted = subst (IsCounted count) (sym sum) counted;
-      range = λ low. subst (λ ns. MatchOption next (All (Fits g) ns) (IsFirstOut g ns)) (sym (followed new puts.grown)) (range_next (take taken names) overflow next fits last size final (decides low) (h.range (few_before count low counted)) (state.range low));
+      range = λ low. subst (λ ns. MatchOption next (All (Fits g) ns) (IsFirstOut g ns)) (sym (followed new puts.grown)) (range_next (take taken names) overflow next fits last size final (decides low) (h.range (few_before count (length (g.arcs n)) low counted)) (state.range low));
       made = λ none low. made overflow refl none low;
     }
       where
@@ -182,7 +182,7 @@ module _ {N : Type 0} (g : Graph N) (limit : ℕ) where
         made : (o : Option ℕ) → overflow ≡ o → next ≡ None → count ≤ most_arcs → AllZip (IsNumberedState g new) (take (taken + 1) new) more
         made (Some k) was none low = absurd (let same = subst (λ o. NextRange taken ((fits ≡ true) × InRange last) o next) was (state.range low) in let wrong : ◌≡◌ {A = Option ℕ} (Some k) None = sym same ∙ none in cc)
         made None was none low =
-            let few : total ≤ most_arcs = few_before count low counted in
+            let few : total ≤ most_arcs = few_before count (length (g.arcs n)) low counted in
             let own = in_range (subst (λ o. NextRange taken ((fits ≡ true) × InRange last) o next) was (state.range low)) none in
             let old = zip_weaker (IsNumberedState g names) (IsNumberedState g new) later (take taken names) states (h.made was few) in
             let both = zip_push (IsNumberedState g new) (take taken names) states n (record { final = last; arcs = out }) old (record { arcs = puts_whole limit ((overflow ≡ None) × (count ≤ most_arcs)) (g.arcs n) names new out fits puts own; final = final }) in

@@ -1,5 +1,5 @@
 -- A walk that is being made.
-use Rattle.std.specs.Prelude.{◌≡◌, ◌⊎◌, ◌<◌, ◌≤◌, ◌++◌, ◌∷◌, ℕ, Bool, true, List, [], Option, None, Some, All, MatchOption, length, slice_get, sum_by, take}
+use Rattle.std.specs.Prelude.{◌≡◌, ◌⊎◌, ◌<◌, ◌≤◌, ◌+◌, ◌++◌, ◌∷◌, ℕ, Bool, true, List, [], Option, None, Some, All, MatchOption, length, slice_get, sum_by, take}
 use Rattle.std.specs.Bool.{Decides}
 use Rattle.std.specs.List.{AllZip}
 use Rattle.fst_semiring.specs.Cost.{Cost}
@@ -102,6 +102,20 @@ module _ {N : Type 0} where
     pub counted : IsCounted total (arcs_of g (take taken names))
     pub range : total ≤ most_arcs → MatchOption overflow (All (Fits g) (take taken names)) (IsFirstOut g (take taken names))
     pub made : overflow ≡ None → total ≤ most_arcs → AllZip (IsNumberedState g names) (take taken names) states
+
+  -- A walk that has followed so many names, and some arcs of the next; of these the rest is left. Its names, the arcs of
+  -- the open state and the count of the arcs have grown by those. They fit, where the names before do and their own weights
+  -- are in range, and they are not too many.
+  pub record IsTaking (g : Graph N) (limit place : ℕ) (rest : N → List (Arc Cost N)) (names : List N) (states : List (State Cost)) (out : List (Arc Cost ℕ)) (total : ℕ) (overflow : Option ℕ) (fits : Bool) : Type 0 where
+    pub old : List N
+    pub before : ℕ
+    pub making : IsMaking g limit old states before overflow place
+    pub name : N
+    pub there : slice_get old place ≡ Some name
+    pub so_far : List (Arc Cost N)
+    pub whole : so_far ++ rest name ≡ g.arcs name
+    pub puts : PutsArcs limit ((overflow ≡ None) × (total ≤ most_arcs)) so_far old names [] out fits
+    pub counted : IsCounted total (arcs_of g (take place old) + length so_far)
 
   -- the end of such a walk
   pub record IsDone (g : Graph N) (limit : ℕ) (names : List N) (states : List (State Cost)) (total : ℕ) (overflow : Option ℕ) : Type 0 where

@@ -42,14 +42,14 @@ pub(crate) struct Output<K: Coded, W: Weight> {
     pub(crate) made: Vec<NameArc<K, W>>,
 }
 
-/// Whether no weight so far is out of range and the arcs are not too many. Else no machine is made, and no arc is put.
-pub(crate) fn still_fits(overflow: Option<u32>, total: u32) -> bool
-    ensures { Decides result ((overflow ≡ None) × (total ≤ most_arcs)) }
+/// Whether all fits so far and the arcs are not too many. Else no machine is made, and no arc is put.
+pub(crate) fn still_fits(fits: bool, total: u32) -> bool
+    ensures { Decides result ((fits ≡ true) × (total ≤ most_arcs)) }
 {
     if total > MOST_ARCS {
         return false;
     }
-    overflow.is_none()
+    fits
 }
 
 /// Puts the open state, which is that of a name, after the others, if all states so far fit. Where they do not, it stays

@@ -1,11 +1,12 @@
 //! The machine of all names that the start reaches.
 
-ghost use Rattle.std.specs.Prelude.{◌≡◌, ◌<◌, ◌≤◌, ◌+◌, ◌∷◌, [], ℕ, true, false, IfOk, IfErr, None, OnOk, Some, length, map};
+ghost use Rattle.std.specs.Prelude.{◌≡◌, ◌<◌, ◌≤◌, ◌+◌, ◌∷◌, [], ℕ, true, false, IfOk, IfErr, IfSome, None, OnOk, Some, length, map};
 ghost use Rattle.fst_machine.specs.BreadthFirst.{Grows};
-ghost use Rattle.fst_machine.specs.Machine.{most_arcs, most_states, valued, valued_state};
+ghost use Rattle.fst_machine.specs.Machine.{most_arcs, most_states, valued, valued_arc, valued_state};
 ghost use Rattle.fst_machine.specs.OpenStates.{none_open};
 ghost use Rattle.fst_walk.specs.Answers.{IsExactly, IsFine, IsNamed, ReachesMore, Stops};
-ghost use Rattle.fst_walk.specs.Making.{IsDone, IsMaking};
+ghost use Rattle.fst_walk.specs.Making.{IsDone, IsMaking, IsTaking};
+ghost use Rattle.fst_walk.specs.Names.{IsLater, left_from};
 
 use crate::fault::WalkFault;
 use crate::names::Names;
@@ -36,6 +37,46 @@ pub struct Room {
     pub arcs: usize,
 }
 
+/// Follows a part of the arcs of the name in a place, which is open, from a place among them on. `fits` says whether all
+/// fits that was followed before. Gives the same with this part, and from where on arcs are left; `None` where there are
+/// then more names than the limit.
+fn follow_part<W: Weight, N: Names<W>>(
+    output: &mut Output<N::Key, W>,
+    scratch: &mut N::Scratch,
+    graph: &N,
+    place: usize,
+    from: u32,
+    fits: bool,
+    limit: u32,
+) -> Result<Option<(bool, Option<u32>)>, N::Fault>
+    requires holds { N.holds graph.now }
+    requires few { limit ≤ most_states }
+    requires taking { IsTaking (N.graph graph.now) limit place (λ n. N.rest graph.now n from) output.old.names (map (valued_state W.value) output.old.states.states) (map (valued_arc W.value) output.old.states.arcs) output.old.total output.old.overflow fits }
+    requires total { output.old.total ≤ most_arcs + 1 }
+    ensures taking { IfOk result (λ r. IfSome r (λ p. IsTaking (N.graph graph.now) limit place (λ n. left_from (N.rest graph.now n) p.1) output.new.names (map (valued_state W.value) output.new.states.states) (map (valued_arc W.value) output.new.states.arcs) output.new.total output.new.overflow p.0)) }
+    ensures later { IfOk result (λ r. IfSome r (λ p. IsLater from p.1)) }
+    ensures total { OnOk result (output.new.total ≤ most_arcs + 1) }
+    ensures stops { IfOk result (λ r. r ≡ None → ReachesMore (N.graph graph.now) limit) }
+{
+    let key = output.names.item(place);
+    output.made.clear();
+    let next = graph.put_part(scratch, &mut output.made, key, from)?;
+    let more = output.made.len();
+    output.total = counted(output.total, more);
+    let so_far = still_fits(fits, output.total);
+    let Some(fits) = number_arcs(
+        &mut output.states,
+        &mut output.names,
+        &mut output.made,
+        so_far,
+        limit,
+    )?
+    else {
+        return Ok(None);
+    };
+    Ok(Some((fits, next)))
+}
+
 /// Follows the arcs of the name in a place. False where there are then more names than the limit.
 fn follow<W: Weight, N: Names<W>>(
     output: &mut Output<N::Key, W>,
@@ -55,23 +96,17 @@ fn follow<W: Weight, N: Names<W>>(
     ensures closed { IfOk result (λ more. more ≡ true → output.new.overflow ≡ None → output.new.total ≤ most_arcs → output.new.states.arcs ≡ []) }
     ensures stops { IfOk result (λ more. more ≡ false → ReachesMore (N.graph graph.now) limit) }
 {
-    let key = output.names.item(place);
-    output.made.clear();
-    graph.put_arcs(scratch, &mut output.made, key)?;
-    let last = graph.final_weight(key);
-    let more = output.made.len();
-    output.total = counted(output.total, more);
-    let so_far = still_fits(output.overflow, output.total);
-    let Some(fits) = number_arcs(
-        &mut output.states,
-        &mut output.names,
-        &mut output.made,
-        so_far,
-        limit,
-    )?
-    else {
-        return Ok(false);
-    };
+    let mut fits = still_fits(output.overflow.is_none(), output.total);
+    let mut next = Some(0);
+    while let Some(from) = next {
+        let Some((fit, later)) = follow_part(output, scratch, graph, place, from, fits, limit)?
+        else {
+            return Ok(false);
+        };
+        fits = fit;
+        next = later;
+    }
+    let last = graph.final_weight(output.names.item(place));
     put_state(output, place as u32, fits, last)?;
     Ok(true)
 }
@@ -168,7 +203,8 @@ fn walk_from<W: Weight, N: Names<W>>(
 /// names, of which one is that memory has run out, stand apart from these causes. States after the first that does not
 /// fit are not kept.
 ///
-/// Time: that of the arcs of each name, and a look-up for each arc. Space: the result, and the arcs of one name.
+/// Time: that of the arcs of each name, and a look-up for each arc. Space: the result, and the arcs that the operation puts
+/// at once.
 pub fn walk<W: Weight, N: Names<W>>(
     alloc: Global,
     graph: &N,

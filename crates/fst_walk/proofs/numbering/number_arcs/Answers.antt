@@ -5,7 +5,7 @@ use Rattle.fst_semiring.specs.Cost.{Cost}
 use Rattle.fst_machine.specs.Machine.{Arc, arc_total, valued_arc}
 use Rattle.fst_walk.specs.Making.{IsFound, Passes, PutsArcs}
 use Rattle.fst_walk.specs.Names.{key_arc}
-use Rattle.fst_walk.proofs.Putting.{passes_later, puts_many, puts_more}
+use Rattle.fst_walk.proofs.Putting.{passes_then, puts_many, puts_more}
 use Rattle.fst_walk.proofs.numbering.number_arcs.Goals as goal
 
 pub returns-in_default-clause-put : goal.returns-in_default-clause-put
@@ -21,7 +21,7 @@ returns-in_default-clause-put g c =
     let whole : made ≡ so_far ++ y ∷ rest = sym start ∙ (c.loop-arc.invariant.all ∙ ap (λ zs. so_far ++ zs) step) in
     let mapped : map value made ≡ map value so_far ++ value x ∷ map value rest = ap (map value) whole ∙ (map-append value so_far (y ∷ rest) ∙ ap (λ a. map value so_far ++ value a ∷ map value rest) (sym c.arc.view_is)) in
     let passes : Passes c.args.limit c.loop-arc.names (x.next ∷ []) = rw c.in_default.is at c.in_ok-next.ensures in
-    passes_later c.args.limit (map value made) (map value so_far) (map value rest) (value x) c.args.names.now c.loop-arc.names c.loop-arc.invariant.puts.grown passes mapped
+    passes_then c.args.limit (map value made) (map value so_far) (value x ∷ []) (map value rest) c.args.names.now c.loop-arc.names c.loop-arc.invariant.puts.grown passes mapped
 
 pub loop-arc-preserved : goal.loop-arc-preserved
 loop-arc-preserved g c =
