@@ -9,6 +9,7 @@ pub mod Through
 pub mod Ranges
 pub mod Searching
 mod Appending
+mod Parting
 mod Segments
 mod Counting
 mod Stable

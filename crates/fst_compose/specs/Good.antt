@@ -16,7 +16,10 @@ use Rattle.fst_machine.specs.Machine.{Arc, IsArc, IsMachine, Machine, State, gre
 use Rattle.fst_machine.specs.Paths.{IsPath, Transition}
 use Rattle.fst_machine.proofs.Walking.{graph_arcs}
 use Rattle.fst_compose.specs.Composition.{IsInside, both_arc, by_label, composition, first_alone, first_arcs, match_arcs, second_alone, second_arcs, start_name}
+use Rattle.fst_compose.specs.Matching.{composition_rest}
 use Rattle.fst_compose.specs.Names.{Name, name_at}
+use Rattle.fst_compose.specs.declared.matching.Ordered.{Ordered}
+use Rattle.fst_compose.specs.declared.matching.Ordered.TheVariants.{First, Second, Both}
 use Rattle.fst_walk.specs.Names.{IsGoodArc, IsNear}
 
 -- an arc of values, to one of this many states
@@ -153,3 +156,9 @@ same_decides a b = (tells, λ e. subst (λ (n : Name ℕ ℕ). same_name a n ≡
 
     own : same_name a a ≡ true
     own = rw (eq-eqb a.first a.first refl, eq-eqb a.second a.second refl, eq-eqb a.filter a.filter refl) refl
+
+-- from the first arc on all are left
+pub rest_whole : {V : Type 0} (ordered : Ordered) (kind : ArcType) (value : V → Cost) (a b : Machine V) (n : Name ℕ ℕ) → composition_rest ordered kind value a b n 0 ≡ (composition kind value a b).arcs n
+rest_whole First kind value a b n = refl
+rest_whole Second kind value a b n = refl
+rest_whole Both kind value a b n = refl

@@ -1,11 +1,12 @@
 -- The arcs of a name from those of its two states, when these can be searched, and how many steps that takes. (OpenFst
 -- manual, "Compose" and "Matchers": one of the two is searched, and its arcs stand by their labels.)
-use Rattle.std.specs.Prelude.{◌≡◌, ℕ, ◌+◌, ◌*◌, List, ◌++◌, Some, length, slice_get}
+use Rattle.std.specs.Prelude.{◌≡◌, ℕ, ◌+◌, ◌*◌, List, ◌++◌, Some, drop, length, slice_get}
 use Rattle.std.specs.List.{flat_map}
 use Rattle.std.specs.Option.{option_map}
 use Rattle.fst_semiring.specs.Cost.{Cost}
 use Rattle.fst_semiring.specs.declared.arc_type.ArcType.{ArcType}
-use Rattle.fst_machine.specs.Machine.{Arc, Machine}
+use Rattle.fst_machine.specs.Graph.{graph_of}
+use Rattle.fst_machine.specs.Machine.{Arc, Machine, valued}
 use Rattle.fst_trim.specs.declared.side.Side.{Side}
 use Rattle.fst_trim.specs.declared.side.Side.TheVariants.{Input, Output}
 use Rattle.fst_trim.specs.Runs.{TakesSteps}
@@ -22,6 +23,17 @@ all_matches kind firsts seconds = flat_map (λ a. flat_map (match_arcs kind a) s
 -- the arcs of a name whose first state has these arcs, and its second state those
 abbrev pub name_arcs : {N M : Type 0} → ArcType → Name N M → List (Arc Cost N) → List (Arc Cost M) → List (Arc Cost (Name N M))
 name_arcs kind n firsts seconds = flat_map (first_arcs kind n seconds) firsts ++ flat_map (second_arcs n) seconds
+
+-- What is left of them from an arc of the first state on. Where the arcs of the first state alone can be searched, they
+-- are put at once.
+abbrev pub rest_arcs : {N M : Type 0} → Ordered → ArcType → Name N M → List (Arc Cost N) → List (Arc Cost M) → ℕ → List (Arc Cost (Name N M))
+rest_arcs First kind n firsts seconds from = name_arcs kind n firsts seconds
+rest_arcs Second kind n firsts seconds from = name_arcs kind n (drop from firsts) seconds
+rest_arcs Both kind n firsts seconds from = name_arcs kind n (drop from firsts) seconds
+
+-- the same in the composition of two machines
+abbrev pub composition_rest : {V : Type 0} → Ordered → ArcType → (V → Cost) → Machine V → Machine V → Name ℕ ℕ → ℕ → List (Arc Cost (Name ℕ ℕ))
+composition_rest ordered kind value a b n from = rest_arcs ordered kind n ((graph_of (valued value a)).arcs n.first) ((graph_of (valued value b)).arcs n.second) from
 
 -- the arcs of this state
 abbrev pub HasArcs : {V : Type 0} → Machine V → ℕ → List (Arc V ℕ) → Type 0

@@ -7,14 +7,15 @@ ghost use Rattle.fst_machine.specs.Machine.{IsMachine, most_states, valued};
 ghost use Rattle.fst_walk.specs.Answers.{IsNamed};
 ghost use Rattle.fst_compose.specs.Answers.{IsExact, IsExactly, IsSorted, cause_of};
 ghost use Rattle.fst_compose.specs.Composition.{composition};
-ghost use Rattle.fst_compose.specs.Matching.{IsOrdered};
-ghost use Rattle.fst_compose.specs.Good.{good_arc};
+ghost use Rattle.fst_compose.specs.Matching.{IsOrdered, composition_rest};
+ghost use Rattle.fst_compose.specs.Good.{good_arc, rest_whole};
 ghost use Rattle.fst_compose.specs.Theorem.{IsComposition};
 
 use crate::expanding::key_final;
 use crate::fault::ComposeFault;
 use crate::key::{ComposeKey, KeyArc, key_at};
-use crate::matching::{Ordered, put_arcs};
+use crate::matching::Ordered;
+use crate::parts::put_part;
 use fst_machine::Fst;
 use fst_semiring::Weight;
 use fst_trim::{Side, is_sorted};
@@ -44,6 +45,8 @@ impl<'a, W: Weight> Names<W> for Composing<'a, W> {
 
     ghost graph = { λ s. composition W.KIND W.value s.a.now s.b.now };
 
+    ghost rest = { λ s n from. composition_rest s.ordered W.KIND W.value s.a.now s.b.now n from };
+
     ghost holds = { λ s. IsMachine W.value s.a.now × IsMachine W.value s.b.now × IsOrdered s.ordered s.a.now s.b.now };
 
     fn start(&self) -> Option<ComposeKey> {
@@ -55,19 +58,21 @@ impl<'a, W: Weight> Names<W> for Composing<'a, W> {
 
     fn scratch(_alloc: Global) {}
 
-    fn put_arcs(
+    fn put_part(
         &self,
         _scratch: &mut (),
         out: &mut Vec<KeyArc<W>>,
         key: &ComposeKey,
-    ) -> Result<(), AllocError> {
-        put_arcs::<W, Brand>(
+        from: u32,
+    ) -> Result<Option<u32>, AllocError> {
+        put_part::<W, Brand>(
             self.alloc,
             out,
             self.a,
             self.b,
             *key,
             self.ordered,
+            from,
             Blank::new(1),
         )
     }
@@ -75,6 +80,8 @@ impl<'a, W: Weight> Names<W> for Composing<'a, W> {
     fn final_weight(&self, key: &ComposeKey) -> W::Wide {
         key_final(self.a, self.b, *key)
     }
+
+    ghost whole = { λ s n. rest_whole s.ordered W.KIND W.value s.a.now s.b.now n };
 
     ghost good = { λ s h n near k arc e. good_arc W.KIND W.value s.a.now s.b.now h.0 h.1 n near k arc e };
 }
@@ -151,7 +158,10 @@ fn composed<W: Weight>(
 /// Time: where both machines have their arcs in order, for each name one look at the arcs of both its states, or a search
 /// of the longer of the two for each label or arc of the other where it has many times as many arcs; where one machine
 /// has, as `expand_counted` by its side. And a look-up for each arc of the result. Space: the result, and the arcs of one
-/// name.
+/// name. Where the second machine has its arcs in order and the two states of a name have more than 262,144 pairs of arcs,
+/// which have one label where the first machine has too, its arcs are put in parts, and there is room for a part beside the
+/// result: for 16,384 arcs and those that 16 arcs of the first state give. Then the arcs of the second state are searched
+/// for each arc of the first.
 pub fn compose<W: Weight>(
     alloc: Global,
     a: &Fst<W>,

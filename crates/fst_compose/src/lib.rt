@@ -16,6 +16,7 @@ mod fault;
 mod key;
 pub mod laws;
 mod matching;
+mod parts;
 
 pub use composing::{Composed, compose};
 pub use expanding::{expand, expand_counted, key_final};

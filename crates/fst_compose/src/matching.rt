@@ -58,7 +58,7 @@ fn put_found<W: Weight, L: Ledger>(
 }
 
 /// The same for each of these arcs of the first machine.
-fn put_all_found<W: Weight, L: Ledger>(
+pub(crate) fn put_all_found<W: Weight, L: Ledger>(
     out: &mut Vec<KeyArc<W>>,
     key: ComposeKey,
     arcs: &[FstArc<W>],
@@ -76,7 +76,7 @@ fn put_all_found<W: Weight, L: Ledger>(
 }
 
 /// Puts the arcs of a name after the others. The arcs of its second state are searched.
-fn put_by_second<W: Weight, L: Ledger>(
+pub(crate) fn put_by_second<W: Weight, L: Ledger>(
     out: &mut Vec<KeyArc<W>>,
     key: ComposeKey,
     arcs: &[FstArc<W>],
@@ -265,7 +265,7 @@ pub(crate) fn put_by_side<W: Weight, L: Ledger>(
 
 /// The same where both are in order: the state that has many times as many arcs as the other is searched for these, and
 /// where neither has, both are gone along at once.
-fn put_in_order<W: Weight, L: Ledger>(
+pub(crate) fn put_in_order<W: Weight, L: Ledger>(
     out: &mut Vec<KeyArc<W>>,
     key: ComposeKey,
     arcs: &[FstArc<W>],
@@ -283,32 +283,4 @@ fn put_in_order<W: Weight, L: Ledger>(
         return put_by_both(out, key, arcs, bs, steps);
     }
     put_both_merged(out, key, arcs, bs)
-}
-
-/// Puts the arcs of a name after the others, by what is known of the order of the arcs of both machines.
-pub(crate) fn put_arcs<W: Weight, L: Ledger>(
-    alloc: Global,
-    out: &mut Vec<KeyArc<W>>,
-    a: &Fst<W>,
-    b: &Fst<W>,
-    key: ComposeKey,
-    ordered: Ordered,
-    blank: Blank,
-) -> Result<(), AllocError>
-    requires first { key.first < length a.now.states }
-    requires second { key.second < length b.now.states }
-    requires ordered { IsOrdered ordered a.now b.now }
-    requires name { blank.name ≡ L.name }
-    requires parts { blank.parts ≡ L.parts }
-    requires some { 0 < blank.parts }
-    ensures { OnOk result (map (key_arc W.wide_value) out.new.items ≡ map (key_arc W.wide_value) out.old.items ++ (composition W.KIND W.value a.now b.now).arcs key) }
-{
-    let mut steps = Steps::<L>::new(blank);
-    let arcs = a.arcs(key.first);
-    let bs = b.arcs(key.second);
-    match ordered {
-        Ordered::First => put_by_side(alloc, out, key, arcs, bs, Side::Output, &mut steps),
-        Ordered::Second => put_by_side(alloc, out, key, arcs, bs, Side::Input, &mut steps),
-        Ordered::Both => put_in_order(out, key, arcs, bs, &mut steps),
-    }
 }

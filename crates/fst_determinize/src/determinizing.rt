@@ -1,6 +1,6 @@
 //! The machine of the subsets that the start reaches.
 
-ghost use Rattle.std.specs.Prelude.{◌≡◌, ◌<◌, ◌≤◌, ◌++◌, IfOk, OnOk, length, map};
+ghost use Rattle.std.specs.Prelude.{◌≡◌, ◌<◌, ◌≤◌, ◌++◌, IfOk, OnOk, length, map, refl};
 ghost use Rattle.fst_machine.specs.Graph.{graph_of};
 ghost use Rattle.fst_machine.specs.Machine.{most_states, valued};
 ghost use Rattle.fst_walk.specs.Answers.{IsExactly, IsNamed};
@@ -126,6 +126,8 @@ impl<'a, W: Weight, R: Residual<W>> Names<W> for Determinizing<'a, W, R> {
 
     ghost graph = { λ s. subsets W.KIND (graph_of (valued W.value s.fst.now)) };
 
+    ghost rest = { λ s n from. (subsets W.KIND (graph_of (valued W.value s.fst.now))).arcs n };
+
     ghost holds = { λ s. IsWeighed W.KIND W.value s.fst.now × HasGoodArcs W.KIND (graph_of (valued W.value s.fst.now)) };
 
     fn start(&self) -> Option<SubsetOf<R>> {
@@ -136,18 +138,23 @@ impl<'a, W: Weight, R: Residual<W>> Names<W> for Determinizing<'a, W, R> {
         no_ways(alloc)
     }
 
-    fn put_arcs(
+    fn put_part(
         &self,
         scratch: &mut Scratch<R, W::Wide>,
         out: &mut Vec<NameArc<SubsetOf<R>, W>>,
         key: &SubsetOf<R>,
-    ) -> Result<(), ArcFault> {
-        put_subset_arcs(scratch, out, self.fst, key)
+        _from: u32,
+    ) -> Result<Option<u32>, ArcFault> {
+        // A subset has one arc for each label, so they are put at once.
+        put_subset_arcs(scratch, out, self.fst, key)?;
+        Ok(None)
     }
 
     fn final_weight(&self, key: &SubsetOf<R>) -> W::Wide {
         last_weight(self.fst, key)
     }
+
+    ghost whole = { λ s n. refl };
 
     ghost good = { λ s h n near k a at. h.1 n near k a at };
 }

@@ -34,7 +34,7 @@ module _ {N : Type 0} (g : Graph N) (limit : ℕ) (names : List N) (states : Lis
             let short = path.2 in
             record { start = h.start; starts = h.starts; path = path.0; leads = path.1; short = omega (arith, low, few, short, small) };
         counted = subst (λ ns. IsCounted total (arcs_of g ns)) all h.counted;
-        range = subst (λ ns. MatchOption overflow (All (Fits g) ns) (IsFirstOut g ns)) all h.range;
+        range = λ low. subst (λ ns. MatchOption overflow (All (Fits g) ns) (IsFirstOut g ns)) all (h.range low);
         made = λ none low. subst (λ (ns : List N). AllZip (IsNumberedState g names) ns states) all (h.made none low);
       }
 
@@ -44,7 +44,7 @@ module _ {N : Type 0} (g : Graph N) (limit : ℕ) (names : List N) (states : Lis
 
 -- a weight out of range
 pub done_out : {N : Type 0} (g : Graph N) (limit : ℕ) (names : List N) (states : List (State Cost)) (total place : ℕ) → IsDone g limit names states total (Some place) → total ≤ most_arcs → IsOut g limit place
-done_out g limit names states total place h low = record { names = names; reached = h.reached; few = subst (λ (n : ℕ). n ≤ most_arcs) (h.counted.0 low) low; out = h.range }
+done_out g limit names states total place h low = record { names = names; reached = h.reached; few = subst (λ (n : ℕ). n ≤ most_arcs) (h.counted.0 low) low; out = h.range low }
 
 -- a list that begins has a first number
 starts_at : {N : Type 0} (names : List N) (start : N) → slice_get names 0 ≡ Some start → start_of names ≡ Some 0
@@ -121,7 +121,7 @@ module _ {N : Type 0} (g : Graph N) (limit : ℕ) (names : List N) (states : Lis
 
   -- nothing stands against the machine
   pub done_fine : IsFine g limit names
-  done_fine = record { reached = h.reached; few = few; range = h.range }
+  done_fine = record { reached = h.reached; few = few; range = h.range low }
 
   -- which is the graph of the names, numbered
   pub done_made : IsNamed g names (record { start = Some 0; states = states })

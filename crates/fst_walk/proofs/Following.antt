@@ -1,5 +1,6 @@
 -- A walk on its way: its start, its steps and its stop.
 use Rattle.std.proofs.Common.{◌≡◌, ◌⊎◌, inl, inr, ℕ, ◌+◌, ◌<◌, ◌≤◌, Bool, true, List, [], ◌∷◌, ◌++◌, Option, None, Some, length, take, slice_get, refl, sym, ap, subst, ◌∙◌, append-nil, arith}
+use Rattle.std.specs.Bool.{Decides}
 use Rattle.std.specs.Prelude.{MatchOption}
 use Rattle.std.specs.List.{All, AllZip}
 use Rattle.std.proofs.lemmas.Bool.{cases_lt}
@@ -22,7 +23,7 @@ use Rattle.fst_machine.proofs.Walks.{Grows-Apart, Grows-front, Grows-only}
 use Rattle.fst_walk.specs.Answers.{ReachesMore}
 use Rattle.fst_walk.specs.Making.{Fits, IsMaking, IsCounted, IsFirstOut, IsFound, IsNumberedArc, IsNumberedState, NextRange, Passes, PutsArcs, PutsState, arcs_of}
 use Rattle.fst_walk.specs.Names.{IsNear}
-use Rattle.fst_walk.proofs.Putting.{later_arc, zip_push, zip_weaker}
+use Rattle.fst_walk.proofs.Putting.{later_arc, puts_whole, zip_push, zip_weaker}
 
 -- numbered states have the arcs of their names
 pub zip_total : {N : Type 0} (g : Graph N) (names ns : List N) (states : List (State Cost)) → AllZip (IsNumberedState g names) ns states → arc_total states ≡ arcs_of g ns
@@ -46,7 +47,7 @@ module _ {N : Type 0} (g : Graph N) (limit : ℕ) where
     reached = λ i z at. by_part i z (Grows-only (start ∷ []) [] names z grows (at_Has names i z at));
     few = few;
     counted = ((λ low. refl), (λ over. absurd (omega (arith, over))));
-    range = All-nil (Fits g);
+    range = λ low. All-nil (Fits g);
     made = λ none low. tt;
   }
     where
@@ -118,16 +119,16 @@ module _ {N : Type 0} (g : Graph N) (limit : ℕ) where
     size = length-take-le taken names (omega (arith, below))
 
     -- the first name out of range, if there is one
-    range_next : (before : List N) (o next : Option ℕ) (fits : Bool) (last : Cost) → length before ≡ taken → last ≡ g.final n → ((fits ≡ true → All (λ a. InRange a.weight) (g.arcs n)) × (All (λ a. InRange a.weight) (g.arcs n) → fits ≡ true))
+    range_next : (before : List N) (o next : Option ℕ) (fits : Bool) (last : Cost) → length before ≡ taken → last ≡ g.final n → Decides fits ((o ≡ None) × All (λ a. InRange a.weight) (g.arcs n))
         → MatchOption o (All (Fits g) before) (IsFirstOut g before) → NextRange taken ((fits ≡ true) × InRange last) o next → MatchOption next (All (Fits g) (before ++ n ∷ [])) (IsFirstOut g (before ++ n ∷ []))
     range_next before None next fits last long final arcs all (inl fine) =
         subst (λ o. MatchOption o (All (Fits g) (before ++ n ∷ [])) (IsFirstOut g (before ++ n ∷ []))) (sym fine.1)
-        (All-push (Fits g) before n all (arcs.0 fine.0.0, subst InRange final fine.0.1))
+        (All-push (Fits g) before n all ((arcs.0 fine.0.0).1, subst InRange final fine.0.1))
     range_next before None next fits last long final arcs all (inr out) =
         subst (λ o. MatchOption o (All (Fits g) (before ++ n ∷ [])) (IsFirstOut g (before ++ n ∷ []))) (sym out.1) (record {
           name = n;
           there = let here : length before + 0 ≡ taken = omega (arith, long) in ap (slice_get (before ++ n ∷ [])) (sym here) ∙ at_append_right before (n ∷ []) 0 n refl;
-          out = λ fit. out.0 (arcs.1 fit.0, subst InRange (sym final) fit.1);
+          out = λ fit. out.0 (arcs.1 (refl, fit.0), subst InRange (sym final) fit.1);
           first = λ i m low e.
               let early : slice_get before i ≡ Some m = at_append_front before (n ∷ []) i m (omega (arith, low, long)) e in
               subst (Fits g) (get_or_from_slice_get before i m m early) (all i m (slice_get_within before i m early));
@@ -141,23 +142,22 @@ module _ {N : Type 0} (g : Graph N) (limit : ℕ) where
         })
 
     -- the arcs before were not too many
-    few_before : (count : ℕ) → count ≤ most_arcs → IsCounted count (arcs_of g (take taken names) + length (g.arcs n)) → total ≤ most_arcs
-    few_before count low counted = by_size (cases_lt most_arcs total)
+    pub few_before : (count more : ℕ) → count ≤ most_arcs → IsCounted count (arcs_of g (take taken names) + more) → total ≤ most_arcs
+    few_before count more low counted = by_size (cases_lt most_arcs total)
       where
         by_size : (most_arcs < total) ⊎ (total ≤ most_arcs) → total ≤ most_arcs
         by_size (inl many) = absurd (let over = h.counted.1 many in let is = counted.0 low in omega (arith, over, is, low))
         by_size (inr few) = few
 
-    -- there is room for the arcs of its state
-    pub room : (new : List N) (out : List (Arc Cost ℕ)) (fits : Bool) (count : ℕ) → PutsArcs limit (g.arcs n) names new out fits → IsCounted count (arcs_of g (take taken names) + length (g.arcs n)) → overflow ≡ None → fits ≡ true → count ≤ most_arcs → arc_total states + length out ≤ most_arcs
-    room new out fits count puts counted none own low =
-        let many = AllZip-long (IsNumberedArc new) (g.arcs n) out (puts.put own) in
-        let total_is = zip_total g names (take taken names) states (h.made none (few_before count low counted)) in
+    -- there is room for so many of its arcs
+    pub room : (count more : ℕ) → IsCounted count (arcs_of g (take taken names) + more) → overflow ≡ None → count ≤ most_arcs → arc_total states + more ≤ most_arcs
+    room count more counted none low =
+        let total_is = zip_total g names (take taken names) states (h.made none (few_before count more low counted)) in
         let is = counted.0 low in
-        omega (arith, many, total_is, is, low)
+        omega (arith, total_is, is, low)
 
     -- the name's arcs are followed, and its state is put
-    pub making_goes : (new : List N) (out : List (Arc Cost ℕ)) (fits : Bool) (last : Cost) (count : ℕ) (next : Option ℕ) (more : List (State Cost)) → PutsArcs limit (g.arcs n) names new out fits → last ≡ g.final n
+    pub making_goes : (new : List N) (out : List (Arc Cost ℕ)) (fits : Bool) (last : Cost) (count : ℕ) (next : Option ℕ) (more : List (State Cost)) → PutsArcs limit ((overflow ≡ None) × (count ≤ most_arcs)) (g.arcs n) names new [] out fits → last ≡ g.final n
         → IsCounted count (arcs_of g (take taken names) + length (g.arcs n)) → PutsState taken fits last out count overflow next states more → IsMaking g limit new more count next (taken + 1)
     making_goes new out fits last count next more puts final counted state = record {
       start = h.start;
@@ -166,23 +166,26 @@ module _ {N : Type 0} (g : Graph N) (limit : ℕ) where
       reached = λ i z there. found_placed (nexts (g.arcs n)) [] new (sym (append-nil (nexts (g.arcs n)))) puts.grown i z there;
       few = puts.few;
       counted = subst (IsCounted count) (sym sum) counted;
-      range = subst (λ ns. MatchOption next (All (Fits g) ns) (IsFirstOut g ns)) (sym (followed new puts.grown)) (range_next (take taken names) overflow next fits last size final puts.range h.range state.range);
+      range = λ low. subst (λ ns. MatchOption next (All (Fits g) ns) (IsFirstOut g ns)) (sym (followed new puts.grown)) (range_next (take taken names) overflow next fits last size final (decides low) (h.range (few_before count (length (g.arcs n)) low counted)) (state.range low));
       made = λ none low. made overflow refl none low;
     }
       where
         sum : arcs_of g (take (taken + 1) new) ≡ arcs_of g (take taken names) + length (g.arcs n)
         sum = ap (arcs_of g) (followed new puts.grown) ∙ sum_by_push (λ m. length (g.arcs m)) (take taken names) n
 
+        decides : count ≤ most_arcs → Decides fits ((overflow ≡ None) × All (λ a. InRange a.weight) (g.arcs n))
+        decides low = ((λ t. let is = puts.range.0 t in (is.0.0, is.1)), (λ all. puts.range.1 ((all.0, low), all.1)))
+
         later : (m : N) (s : State Cost) → IsNumberedState g names m s → IsNumberedState g new m s
         later m s numbered = record { arcs = zip_weaker (IsNumberedArc names) (IsNumberedArc new) (later_arc names (nexts (g.arcs n)) new puts.grown) (g.arcs m) s.arcs numbered.arcs; final = numbered.final }
 
         made : (o : Option ℕ) → overflow ≡ o → next ≡ None → count ≤ most_arcs → AllZip (IsNumberedState g new) (take (taken + 1) new) more
-        made (Some k) was none low = absurd (let same = subst (λ o. NextRange taken ((fits ≡ true) × InRange last) o next) was state.range in let wrong : ◌≡◌ {A = Option ℕ} (Some k) None = sym same ∙ none in cc)
+        made (Some k) was none low = absurd (let same = subst (λ o. NextRange taken ((fits ≡ true) × InRange last) o next) was (state.range low) in let wrong : ◌≡◌ {A = Option ℕ} (Some k) None = sym same ∙ none in cc)
         made None was none low =
-            let few : total ≤ most_arcs = few_before count low counted in
-            let own = in_range (subst (λ o. NextRange taken ((fits ≡ true) × InRange last) o next) was state.range) none in
+            let few : total ≤ most_arcs = few_before count (length (g.arcs n)) low counted in
+            let own = in_range (subst (λ o. NextRange taken ((fits ≡ true) × InRange last) o next) was (state.range low)) none in
             let old = zip_weaker (IsNumberedState g names) (IsNumberedState g new) later (take taken names) states (h.made was few) in
-            let both = zip_push (IsNumberedState g new) (take taken names) states n (record { final = last; arcs = out }) old (record { arcs = puts.put own; final = final }) in
+            let both = zip_push (IsNumberedState g new) (take taken names) states n (record { final = last; arcs = out }) old (record { arcs = puts_whole limit ((overflow ≡ None) × (count ≤ most_arcs)) (g.arcs n) names new out fits puts own; final = final }) in
             subst (λ (ns : List N). AllZip (IsNumberedState g new) ns more) (sym (followed new puts.grown)) (subst (λ (zs : List (State Cost)). AllZip (IsNumberedState g new) (take taken names ++ n ∷ []) zs) (sym (state.put none low)) both)
           where
             in_range : NextRange taken ((fits ≡ true) × InRange last) None next → next ≡ None → fits ≡ true

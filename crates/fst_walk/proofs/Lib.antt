@@ -2,6 +2,7 @@ pub mod Keys
 pub mod Tables
 pub mod Putting
 pub mod Following
+pub mod Parts
 pub mod Ending
 pub mod Refusing
 pub mod Numbered

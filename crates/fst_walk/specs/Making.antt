@@ -1,5 +1,5 @@
 -- A walk that is being made.
-use Rattle.std.specs.Prelude.{◌≡◌, ◌⊎◌, ◌<◌, ◌≤◌, ◌++◌, ◌∷◌, ℕ, Bool, true, List, [], Option, None, Some, All, MatchOption, length, slice_get, sum_by, take}
+use Rattle.std.specs.Prelude.{◌≡◌, ◌⊎◌, ◌<◌, ◌≤◌, ◌+◌, ◌++◌, ◌∷◌, ℕ, Bool, true, List, [], Option, None, Some, All, MatchOption, length, slice_get, sum_by, take}
 use Rattle.std.specs.Bool.{Decides}
 use Rattle.std.specs.List.{AllZip}
 use Rattle.fst_semiring.specs.Cost.{Cost}
@@ -21,10 +21,11 @@ abbrev pub NextRange : ℕ → Type 0 → Option ℕ → Option ℕ → Type 0
 NextRange place fine None next = (fine × (next ≡ None)) ⊎ ((fine → ⊥) × (next ≡ Some place))
 NextRange place fine (Some first) next = next ≡ Some first
 
--- A state is put after the others, if its weights and those before it are in range and the arcs are not too many.
+-- The open state, which has these arcs, is put after the others, if its weights and those before it are in range and the
+-- arcs are not too many. Where they are too many, no weight is looked at.
 module _ (place : ℕ) (fits : Bool) (last : Cost) (out : List (Arc Cost ℕ)) (total : ℕ) where
   pub record PutsState (overflow next : Option ℕ) (old new : List (State Cost)) : Type 0 where
-    pub range : NextRange place ((fits ≡ true) × InRange last) overflow next
+    pub range : total ≤ most_arcs → NextRange place ((fits ≡ true) × InRange last) overflow next
     pub put : next ≡ None → total ≤ most_arcs → new ≡ old ++ record { final = last; arcs = out } ∷ []
 
 -- the arc to this number in place of its name
@@ -54,12 +55,13 @@ module _ {N : Type 0} where
     pub weight : c.weight ≡ a.weight
     pub next : slice_get names c.next ≡ Some a.next
 
-  -- The names grow by those to which these arcs lead. The arcs out stand for these arcs, if their weights are in range.
-  pub record PutsArcs (limit : ℕ) (arcs : List (Arc Cost N)) (old new : List N) (out : List (Arc Cost ℕ)) (fits : Bool) : Type 0 where
+  -- The names grow by those to which these arcs lead. Where arcs may be put, and the weights of these are in range, the
+  -- arcs out grow by those that stand for them.
+  pub record PutsArcs (limit : ℕ) (may : Type 0) (arcs : List (Arc Cost N)) (old new : List N) (out more : List (Arc Cost ℕ)) (fits : Bool) : Type 0 where
     pub grown : Grows old (nexts arcs) new
     pub few : length new ≤ limit
-    pub range : Decides fits (All (λ a. InRange a.weight) arcs)
-    pub put : fits ≡ true → AllZip (IsNumberedArc new) arcs out
+    pub range : Decides fits (may × All (λ a. InRange a.weight) arcs)
+    pub put : fits ≡ true → (added : List (Arc Cost ℕ)) × (more ≡ out ++ added) × AllZip (IsNumberedArc new) arcs added
 
   -- the weights of a name are in range
   abbrev pub Fits : Graph N → N → Type 0
@@ -89,8 +91,8 @@ module _ {N : Type 0} where
     pub few : length names ≤ limit
 
   -- A walk from the start of the graph that has found these names and followed so many of them, with the states and
-  -- the count of the arcs of these, and the first that has a weight out of range. A name in place i is reached by no
-  -- more than i arcs.
+  -- the count of the arcs of these, and the first that has a weight out of range, as long as the arcs are not too many. A
+  -- name in place i is reached by no more than i arcs.
   pub record IsMaking (g : Graph N) (limit : ℕ) (names : List N) (states : List (State Cost)) (total : ℕ) (overflow : Option ℕ) (taken : ℕ) : Type 0 where
     pub start : N
     pub starts : g.start ≡ Some start
@@ -98,13 +100,27 @@ module _ {N : Type 0} where
     pub reached : (i : ℕ) (n : N) → slice_get names i ≡ Some n → (path : List (Transition N)) × IsPath g start path n × (length path ≤ i)
     pub few : length names ≤ limit
     pub counted : IsCounted total (arcs_of g (take taken names))
-    pub range : MatchOption overflow (All (Fits g) (take taken names)) (IsFirstOut g (take taken names))
+    pub range : total ≤ most_arcs → MatchOption overflow (All (Fits g) (take taken names)) (IsFirstOut g (take taken names))
     pub made : overflow ≡ None → total ≤ most_arcs → AllZip (IsNumberedState g names) (take taken names) states
+
+  -- A walk that has followed so many names, and some arcs of the next; of these the rest is left. Its names, the arcs of
+  -- the open state and the count of the arcs have grown by those. They fit, where the names before do and their own weights
+  -- are in range, and they are not too many.
+  pub record IsTaking (g : Graph N) (limit place : ℕ) (rest : N → List (Arc Cost N)) (names : List N) (states : List (State Cost)) (out : List (Arc Cost ℕ)) (total : ℕ) (overflow : Option ℕ) (fits : Bool) : Type 0 where
+    pub old : List N
+    pub before : ℕ
+    pub making : IsMaking g limit old states before overflow place
+    pub name : N
+    pub there : slice_get old place ≡ Some name
+    pub so_far : List (Arc Cost N)
+    pub whole : so_far ++ rest name ≡ g.arcs name
+    pub puts : PutsArcs limit ((overflow ≡ None) × (total ≤ most_arcs)) so_far old names [] out fits
+    pub counted : IsCounted total (arcs_of g (take place old) + length so_far)
 
   -- the end of such a walk
   pub record IsDone (g : Graph N) (limit : ℕ) (names : List N) (states : List (State Cost)) (total : ℕ) (overflow : Option ℕ) : Type 0 where
     pub reached : IsReached g limit names
     pub near : limit ≤ most_states → (n : N) → Has names n → IsNear g n
     pub counted : IsCounted total (arcs_of g names)
-    pub range : MatchOption overflow (All (Fits g) names) (IsFirstOut g names)
+    pub range : total ≤ most_arcs → MatchOption overflow (All (Fits g) names) (IsFirstOut g names)
     pub made : overflow ≡ None → total ≤ most_arcs → AllZip (IsNumberedState g names) names states

@@ -1,10 +1,10 @@
 //! What a walk asks of a graph of names.
 
-ghost use Rattle.std.specs.Prelude.{◌≡◌, ◌++◌, ◌≤◌, ℕ, OnOk, Some, slice_get, map};
+ghost use Rattle.std.specs.Prelude.{◌≡◌, ◌++◌, ◌≤◌, ℕ, List, IfOk, Some, slice_get, map};
 ghost use Rattle.fst_semiring.specs.Cost.{Cost};
 ghost use Rattle.fst_machine.specs.Graph.{Graph};
 ghost use Rattle.fst_machine.specs.Machine.{Arc};
-ghost use Rattle.fst_walk.specs.Names.{IsGoodArc, IsNear, key_arc};
+ghost use Rattle.fst_walk.specs.Names.{IsGoodArc, IsLater, IsNear, key_arc, left_from};
 
 use fst_keys::Coded;
 use fst_semiring::Weight;
@@ -48,6 +48,9 @@ pub trait Names<W: Weight> {
     /// The graph.
     ghost graph: { Self → Graph Self.Key };
 
+    /// The arcs of a name that are left from a place on. Which places a name has, the operation says; from 0 on all are left.
+    ghost rest: { Self → Self.Key → ℕ → List (Arc Cost Self.Key) };
+
     /// What has to hold of the operation.
     ghost holds: { Self → Type 0 };
 
@@ -58,22 +61,30 @@ pub trait Names<W: Weight> {
     /// What the arcs of the first name are made in.
     fn scratch(alloc: Global) -> Self::Scratch;
 
-    /// Puts the arcs of a name after the others.
-    fn put_arcs(
+    /// Puts the arcs of a name that are left from a place on after the others, or only the first of them. Gives the place
+    /// from which on others are left, which is a later one; `None` where none are.
+    ///
+    /// So a name with very many arcs needs no room for all of them beside those that are numbered.
+    fn put_part(
         &self,
         scratch: &mut Self::Scratch,
         out: &mut Vec<NameArc<Self::Key, W>>,
         key: &Self::Key,
-    ) -> Result<(), Self::Fault>
+        from: u32,
+    ) -> Result<Option<u32>, Self::Fault>
         requires holds { holds self.now }
         requires near { IsNear (graph self.now) key.now }
-        ensures { OnOk result (map (key_arc W.wide_value) out.new.items ≡ map (key_arc W.wide_value) out.old.items ++ (graph self.now).arcs key.now) };
+        ensures put { IfOk result (λ next. map (key_arc W.wide_value) out.new.items ++ left_from (rest self.now key.now) next ≡ map (key_arc W.wide_value) out.old.items ++ rest self.now key.now from) }
+        ensures later { IfOk result (IsLater from) };
 
     /// The final weight of a name.
     fn final_weight(&self, key: &Self::Key) -> W::Wide
         requires holds { holds self.now }
         requires near { IsNear (graph self.now) key.now }
         ensures { W.wide_value result ≡ (graph self.now).final key.now };
+
+    /// All arcs are left from 0 on.
+    ghost whole: { (s : Self) (n : Self.Key) → rest s n 0 ≡ (graph s).arcs n };
 
     /// Arcs of names that the start reaches have labels in range and weights that are not Zero.
     ghost good: { (s : Self) → holds s → (n : Self.Key) → IsNear (graph s) n → (k : ℕ) (a : Arc Cost Self.Key) → slice_get ((graph s).arcs n) k ≡ Some a → IsGoodArc a };

@@ -1,28 +1,31 @@
 //! Arcs to numbers in place of names.
 
-ghost use Rattle.std.specs.Prelude.{◌≡◌, ◌≤◌, ◌++◌, ◌∷◌, [], true, IfOk, MatchOption, length, map};
+ghost use Rattle.std.specs.Prelude.{◌≡◌, ◌<◌, ◌≤◌, ◌+◌, ◌++◌, ◌∷◌, [], true, IfOk, MatchOption, length, map};
 ghost use Rattle.std.specs.Bool.{Decides};
 ghost use Rattle.fst_semiring.specs.Semiring.{InRange};
 ghost use Rattle.fst_machine.specs.Graph.{nexts};
-ghost use Rattle.fst_machine.specs.Machine.{valued_arc};
+ghost use Rattle.fst_machine.specs.Machine.{arc_total, most_arcs, valued_arc};
 ghost use Rattle.fst_walk.specs.Making.{Passes, PutsArcs};
 ghost use Rattle.fst_walk.specs.Names.{key_arc};
 
 use crate::names::NameArc;
 use crate::table::{NameTable, find};
 use fst_keys::Coded;
-use fst_machine::{FstArc, WideArc};
+use fst_machine::{FstArc, OpenList, WideArc};
 use fst_semiring::Weight;
 use std::alloc::AllocError;
 
-/// Puts an arc after the others, if those before it were in range and its weight is; and gives whether this is so.
+/// Puts an arc behind those of the open state, if those before it fit and its weight is in range; and gives whether this
+/// is so.
 fn put_arc<W: Weight>(
-    out: &mut Vec<FstArc<W>>,
+    states: &mut OpenList<W>,
     fits: bool,
     arc: WideArc<W>,
 ) -> Result<bool, AllocError>
+    requires room { fits ≡ true → arc_total states.old.states + length states.old.arcs < most_arcs }
     ensures range { IfOk result (λ r. Decides r ((fits ≡ true) × InRange (W.wide_value arc.weight))) }
-    ensures put { IfOk result (λ r. r ≡ true → map (valued_arc W.value) out.new.items ≡ map (valued_arc W.value) out.old.items ++ valued_arc W.wide_value arc ∷ []) }
+    ensures put { IfOk result (λ r. r ≡ true → map (valued_arc W.value) states.new.arcs ≡ map (valued_arc W.value) states.old.arcs ++ valued_arc W.wide_value arc ∷ []) }
+    ensures others { states.new.states ≡ states.old.states }
 {
     if !fits {
         return Ok(false);
@@ -30,7 +33,7 @@ fn put_arc<W: Weight>(
     let Some(weight) = W::narrow(arc.weight) else {
         return Ok(false);
     };
-    out.push(FstArc {
+    states.put_arc(FstArc {
         ilabel: arc.ilabel,
         olabel: arc.olabel,
         weight,
@@ -39,19 +42,22 @@ fn put_arc<W: Weight>(
     Ok(true)
 }
 
-/// Finds the names to which these arcs lead, and fills a list with the arcs, numbered, as far as their weights are in
-/// range. Gives whether all are; `None` where there are more names than the limit. The names move into the table.
+/// Finds the names to which these arcs lead, and puts the arcs, numbered, behind those of the open state, if those before
+/// them fit, and as far as their weights are in range. Gives whether all are put; `None` where there are more names than the
+/// limit. The names move into the table.
 pub(crate) fn number_arcs<K: Coded, W: Weight>(
-    out: &mut Vec<FstArc<W>>,
+    states: &mut OpenList<W>,
     names: &mut NameTable<K>,
     made: &mut Vec<NameArc<K, W>>,
+    fits: bool,
     limit: u32,
 ) -> Result<Option<bool>, AllocError>
     requires few { length names.old ≤ limit }
-    ensures { IfOk result (λ found. MatchOption found (Passes limit names.old (nexts (map (key_arc W.wide_value) made.old.items))) (PutsArcs limit (map (key_arc W.wide_value) made.old.items) names.old names.new (map (valued_arc W.value) out.new.items))) }
+    requires room { fits ≡ true → arc_total states.old.states + length states.old.arcs + length made.old.items ≤ most_arcs }
+    ensures put { IfOk result (λ found. MatchOption found (Passes limit names.old (nexts (map (key_arc W.wide_value) made.old.items))) (PutsArcs limit (fits ≡ true) (map (key_arc W.wide_value) made.old.items) names.old names.new (map (valued_arc W.value) states.old.arcs) (map (valued_arc W.value) states.new.arcs))) }
+    ensures others { states.new.states ≡ states.old.states }
 {
-    out.clear();
-    let mut fits = true;
+    let mut fits = fits;
     for arc in made.drain(..) {
         let NameArc {
             ilabel,
@@ -68,7 +74,7 @@ pub(crate) fn number_arcs<K: Coded, W: Weight>(
             weight,
             next,
         };
-        fits = put_arc(out, fits, arc)?;
+        fits = put_arc(states, fits, arc)?;
     }
     Ok(Some(fits))
 }

@@ -1,13 +1,14 @@
 //! What a walk has made so far.
 
-ghost use Rattle.std.specs.Prelude.{◌≡◌, ◌≤◌, ◌+◌, ℕ, true, None, OnOk, length, map};
-ghost use Rattle.fst_machine.specs.Machine.{arc_total, most_arcs, valued_arc, valued_state};
+ghost use Rattle.std.specs.Prelude.{◌≡◌, ◌≤◌, ◌+◌, [], ℕ, true, None, OnOk, map};
+ghost use Rattle.std.specs.Bool.{Decides};
+ghost use Rattle.fst_machine.specs.Machine.{most_arcs, valued_arc, valued_state};
 ghost use Rattle.fst_walk.specs.Making.{IsCounted, PutsState};
 
 use crate::names::NameArc;
 use crate::table::NameTable;
 use fst_keys::Coded;
-use fst_machine::{FstArc, MOST_ARCS, StateList};
+use fst_machine::{MOST_ARCS, OpenList};
 use fst_semiring::Weight;
 use std::alloc::AllocError;
 
@@ -30,31 +31,41 @@ pub(crate) fn counted(total: u32, more: usize) -> u32
 pub(crate) struct Output<K: Coded, W: Weight> {
     /// The names that were found.
     pub(crate) names: NameTable<K>,
-    /// The states of those whose arcs were followed, up to the first that does not fit.
-    pub(crate) states: StateList<W>,
+    /// The states of those whose arcs were followed, up to the first that does not fit, and the arcs of the next, which are
+    /// put where they stay.
+    pub(crate) states: OpenList<W>,
     /// How many arcs those whose arcs were followed have, as `counted` gives it.
     pub(crate) total: u32,
-    /// The first of them that has a weight out of range.
+    /// The first of them that has a weight out of range, as long as the arcs are not too many.
     pub(crate) overflow: Option<u32>,
     /// The arcs of one name, to names.
     pub(crate) made: Vec<NameArc<K, W>>,
-    /// The arcs of one name, to numbers.
-    pub(crate) arcs: Vec<FstArc<W>>,
 }
 
-/// Puts the state of a name after the others, if all states so far fit.
+/// Whether all fits so far and the arcs are not too many. Else no machine is made, and no arc is put.
+pub(crate) fn still_fits(fits: bool, total: u32) -> bool
+    ensures { Decides result ((fits ≡ true) × (total ≤ most_arcs)) }
+{
+    if total > MOST_ARCS {
+        return false;
+    }
+    fits
+}
+
+/// Puts the open state, which is that of a name, after the others, if all states so far fit. Where they do not, it stays
+/// open.
 pub(crate) fn put_state<K: Coded, W: Weight>(
     output: &mut Output<K, W>,
     place: u32,
     fits: bool,
     last: W::Wide,
 ) -> Result<(), AllocError>
-    requires room { output.old.overflow ≡ None → fits ≡ true → output.old.total ≤ most_arcs → arc_total output.old.states + length output.old.arcs.items ≤ most_arcs }
-    ensures put { OnOk result (PutsState place fits (W.wide_value last) (map (valued_arc W.value) output.old.arcs.items) output.old.total output.old.overflow output.new.overflow (map (valued_state W.value) output.old.states) (map (valued_state W.value) output.new.states)) }
+    ensures put { OnOk result (PutsState place fits (W.wide_value last) (map (valued_arc W.value) output.old.states.arcs) output.old.total output.old.overflow output.new.overflow (map (valued_state W.value) output.old.states.states) (map (valued_state W.value) output.new.states.states)) }
+    ensures closed { OnOk result (output.new.overflow ≡ None → output.new.total ≤ most_arcs → output.new.states.arcs ≡ []) }
     ensures names { output.new.names ≡ output.old.names }
     ensures total { output.new.total ≡ output.old.total }
 {
-    if output.overflow.is_some() {
+    if output.total > MOST_ARCS || output.overflow.is_some() {
         return Ok(());
     }
     if !fits {
@@ -65,8 +76,6 @@ pub(crate) fn put_state<K: Coded, W: Weight>(
         output.overflow = Some(place);
         return Ok(());
     };
-    if output.total <= MOST_ARCS {
-        output.states.push(last, output.arcs.as_slice())?;
-    }
+    output.states.close(last)?;
     Ok(())
 }

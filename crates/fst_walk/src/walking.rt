@@ -1,18 +1,20 @@
 //! The machine of all names that the start reaches.
 
-ghost use Rattle.std.specs.Prelude.{◌≡◌, ◌<◌, ◌≤◌, ◌+◌, ◌∷◌, [], ℕ, true, false, IfOk, IfErr, None, OnOk, Some, length, map};
+ghost use Rattle.std.specs.Prelude.{◌≡◌, ◌<◌, ◌≤◌, ◌+◌, ◌∷◌, [], ℕ, true, false, IfOk, IfErr, IfSome, None, OnOk, Some, length, map};
 ghost use Rattle.fst_machine.specs.BreadthFirst.{Grows};
-ghost use Rattle.fst_machine.specs.Machine.{most_arcs, most_states, valued, valued_state};
+ghost use Rattle.fst_machine.specs.Machine.{most_arcs, most_states, valued, valued_arc, valued_state};
+ghost use Rattle.fst_machine.specs.OpenStates.{none_open};
 ghost use Rattle.fst_walk.specs.Answers.{IsExactly, IsFine, IsNamed, ReachesMore, Stops};
-ghost use Rattle.fst_walk.specs.Making.{IsDone, IsMaking};
+ghost use Rattle.fst_walk.specs.Making.{IsDone, IsMaking, IsTaking};
+ghost use Rattle.fst_walk.specs.Names.{IsLater, left_from};
 
 use crate::fault::WalkFault;
 use crate::names::Names;
 use crate::numbering::number_arcs;
-use crate::output::{Output, counted, put_state};
+use crate::output::{Output, counted, put_state, still_fits};
 use crate::table::{NameTable, find};
 use fst_keys::Coded;
-use fst_machine::{Fst, MOST_ARCS, StateList};
+use fst_machine::{Fst, MOST_ARCS, OpenList};
 use fst_semiring::Weight;
 use std::alloc::{AllocError, Global};
 
@@ -35,6 +37,46 @@ pub struct Room {
     pub arcs: usize,
 }
 
+/// Follows a part of the arcs of the name in a place, which is open, from a place among them on. `fits` says whether all
+/// fits that was followed before. Gives the same with this part, and from where on arcs are left; `None` where there are
+/// then more names than the limit.
+fn follow_part<W: Weight, N: Names<W>>(
+    output: &mut Output<N::Key, W>,
+    scratch: &mut N::Scratch,
+    graph: &N,
+    place: usize,
+    from: u32,
+    fits: bool,
+    limit: u32,
+) -> Result<Option<(bool, Option<u32>)>, N::Fault>
+    requires holds { N.holds graph.now }
+    requires few { limit ≤ most_states }
+    requires taking { IsTaking (N.graph graph.now) limit place (λ n. N.rest graph.now n from) output.old.names (map (valued_state W.value) output.old.states.states) (map (valued_arc W.value) output.old.states.arcs) output.old.total output.old.overflow fits }
+    requires total { output.old.total ≤ most_arcs + 1 }
+    ensures taking { IfOk result (λ r. IfSome r (λ p. IsTaking (N.graph graph.now) limit place (λ n. left_from (N.rest graph.now n) p.1) output.new.names (map (valued_state W.value) output.new.states.states) (map (valued_arc W.value) output.new.states.arcs) output.new.total output.new.overflow p.0)) }
+    ensures later { IfOk result (λ r. IfSome r (λ p. IsLater from p.1)) }
+    ensures total { OnOk result (output.new.total ≤ most_arcs + 1) }
+    ensures stops { IfOk result (λ r. r ≡ None → ReachesMore (N.graph graph.now) limit) }
+{
+    let key = output.names.item(place);
+    output.made.clear();
+    let next = graph.put_part(scratch, &mut output.made, key, from)?;
+    let more = output.made.len();
+    output.total = counted(output.total, more);
+    let so_far = still_fits(fits, output.total);
+    let Some(fits) = number_arcs(
+        &mut output.states,
+        &mut output.names,
+        &mut output.made,
+        so_far,
+        limit,
+    )?
+    else {
+        return Ok(None);
+    };
+    Ok(Some((fits, next)))
+}
+
 /// Follows the arcs of the name in a place. False where there are then more names than the limit.
 fn follow<W: Weight, N: Names<W>>(
     output: &mut Output<N::Key, W>,
@@ -46,22 +88,25 @@ fn follow<W: Weight, N: Names<W>>(
     requires holds { N.holds graph.now }
     requires few { limit ≤ most_states }
     requires place { place < length output.old.names }
-    requires making { IsMaking (N.graph graph.now) limit output.old.names (map (valued_state W.value) output.old.states) output.old.total output.old.overflow place }
+    requires making { IsMaking (N.graph graph.now) limit output.old.names (map (valued_state W.value) output.old.states.states) output.old.total output.old.overflow place }
     requires total { output.old.total ≤ most_arcs + 1 }
-    ensures goes { IfOk result (λ more. more ≡ true → IsMaking (N.graph graph.now) limit output.new.names (map (valued_state W.value) output.new.states) output.new.total output.new.overflow (place + 1)) }
+    requires closed { output.old.overflow ≡ None → output.old.total ≤ most_arcs → output.old.states.arcs ≡ [] }
+    ensures goes { IfOk result (λ more. more ≡ true → IsMaking (N.graph graph.now) limit output.new.names (map (valued_state W.value) output.new.states.states) output.new.total output.new.overflow (place + 1)) }
     ensures total { OnOk result (output.new.total ≤ most_arcs + 1) }
+    ensures closed { IfOk result (λ more. more ≡ true → output.new.overflow ≡ None → output.new.total ≤ most_arcs → output.new.states.arcs ≡ []) }
     ensures stops { IfOk result (λ more. more ≡ false → ReachesMore (N.graph graph.now) limit) }
 {
-    let key = output.names.item(place);
-    output.made.clear();
-    graph.put_arcs(scratch, &mut output.made, key)?;
-    let last = graph.final_weight(key);
-    let more = output.made.len();
-    let Some(fits) = number_arcs(&mut output.arcs, &mut output.names, &mut output.made, limit)?
-    else {
-        return Ok(false);
-    };
-    output.total = counted(output.total, more);
+    let mut fits = still_fits(output.overflow.is_none(), output.total);
+    let mut next = Some(0);
+    while let Some(from) = next {
+        let Some((fit, later)) = follow_part(output, scratch, graph, place, from, fits, limit)?
+        else {
+            return Ok(false);
+        };
+        fits = fit;
+        next = later;
+    }
+    let last = graph.final_weight(output.names.item(place));
     put_state(output, place as u32, fits, last)?;
     Ok(true)
 }
@@ -75,9 +120,11 @@ fn follow_all<W: Weight, N: Names<W>>(
 ) -> Result<bool, N::Fault>
     requires holds { N.holds graph.now }
     requires few { limit ≤ most_states }
-    requires making { IsMaking (N.graph graph.now) limit output.old.names (map (valued_state W.value) output.old.states) output.old.total output.old.overflow 0 }
+    requires making { IsMaking (N.graph graph.now) limit output.old.names (map (valued_state W.value) output.old.states.states) output.old.total output.old.overflow 0 }
     requires total { output.old.total ≤ most_arcs + 1 }
-    ensures done { IfOk result (λ all. all ≡ true → IsDone (N.graph graph.now) limit output.new.names (map (valued_state W.value) output.new.states) output.new.total output.new.overflow) }
+    requires closed { output.old.overflow ≡ None → output.old.total ≤ most_arcs → output.old.states.arcs ≡ [] }
+    ensures done { IfOk result (λ all. all ≡ true → IsDone (N.graph graph.now) limit output.new.names (map (valued_state W.value) output.new.states.states) output.new.total output.new.overflow) }
+    ensures closed { IfOk result (λ all. all ≡ true → output.new.overflow ≡ None → output.new.total ≤ most_arcs → output.new.states.arcs ≡ []) }
     ensures stops { IfOk result (λ all. all ≡ false → ReachesMore (N.graph graph.now) limit) }
 {
     let mut taken = 0;
@@ -99,7 +146,7 @@ fn begin<K: Coded, W: Weight>(
 ) -> Result<Output<K, W>, AllocError>
     requires some { 0 < limit }
     ensures names { IfOk result (λ o. Grows [] (start ∷ []) o.names × (length o.names ≤ limit)) }
-    ensures states { IfOk result (λ o. o.states ≡ []) }
+    ensures states { IfOk result (λ o. o.states ≡ none_open) }
     ensures total { IfOk result (λ o. o.total ≡ 0) }
     ensures overflow { IfOk result (λ o. o.overflow ≡ None) }
 {
@@ -107,11 +154,10 @@ fn begin<K: Coded, W: Weight>(
     let _place = find(&mut names, start, limit)?;
     Ok(Output {
         names,
-        states: StateList::with_capacity(alloc, room.states, room.arcs)?,
+        states: OpenList::with_capacity(alloc, room.states, room.arcs)?,
         total: 0,
         overflow: None,
         made: Vec::new(alloc),
-        arcs: Vec::new(alloc),
     })
 }
 
@@ -143,7 +189,7 @@ fn walk_from<W: Weight, N: Names<W>>(
         return Ok(Err(WalkFault::Overflow { state }));
     }
     Ok(Ok(Walked {
-        fst: output.states.into_machine(Some(0)),
+        fst: output.states.into_list().into_machine(Some(0)),
         names: output.names,
     }))
 }
@@ -157,7 +203,8 @@ fn walk_from<W: Weight, N: Names<W>>(
 /// names, of which one is that memory has run out, stand apart from these causes. States after the first that does not
 /// fit are not kept.
 ///
-/// Time: that of the arcs of each name, and a look-up for each arc. Space: the result, and the arcs of one name.
+/// Time: that of the arcs of each name, and a look-up for each arc. Space: the result, and the arcs that the operation puts
+/// at once.
 pub fn walk<W: Weight, N: Names<W>>(
     alloc: Global,
     graph: &N,

@@ -1,8 +1,0 @@
-use Rattle.fst_compose.specs.Good.{near_inside}
-use Rattle.fst_compose.proofs.composing.ComposingNames.put_arcs.Goals as goal
-
-pub put_arcs-requires-clause-first : goal.put_arcs-requires-clause-first
-put_arcs-requires-clause-first g c = (near_inside g.W.Weight.KIND g.W.Weight.value c.args.self.now.a.now c.args.self.now.b.now c.requires.holds.0 c.requires.holds.1 c.args.key.now c.requires.near).0
-
-pub put_arcs-requires-clause-second : goal.put_arcs-requires-clause-second
-put_arcs-requires-clause-second g c = (near_inside g.W.Weight.KIND g.W.Weight.value c.args.self.now.a.now c.args.self.now.b.now c.requires.holds.0 c.requires.holds.1 c.args.key.now c.requires.near).1
