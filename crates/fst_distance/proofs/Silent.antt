@@ -39,10 +39,10 @@ module _ {V : Type 0} (kind : ArcType) (value : V → Cost) (m : Machine V) (goo
   class_epsilon : (a : Arc V ℕ) → EpsilonArc (valued_arc value a) → has_both_epsilons a ≡ true
   class_epsilon a e = and_from _ _ (eq-eqb a.ilabel 0 e.0) (eq-eqb a.olabel 0 e.1)
 
-  goes_silent : (h : Hop) → IsHop value [] (epsilon_links m.states) h → Along (graph_of (valued value m)) EpsilonArc h
+  pub goes_silent : (h : Hop) → IsHop value [] (epsilon_links m.states) h → Along (graph_of (valued value m)) EpsilonArc h
   goes_silent h hop = (along_only value m [] has_both_epsilons EpsilonArc epsilon_class h hop).0
 
-  silent_goes : (h : Hop) → Along (graph_of (valued value m)) EpsilonArc h → IsHop value [] (epsilon_links m.states) h
+  pub silent_goes : (h : Hop) → Along (graph_of (valued value m)) EpsilonArc h → IsHop value [] (epsilon_links m.states) h
   silent_goes h along = along_all value m [] has_both_epsilons EpsilonArc class_epsilon h along refl
 
   pub silent_net : (marks : List Bool) (links : List (List (Link V))) → marks ≡ [] → links ≡ epsilon_links m.states → IsNet (IsHop value marks links) (length links)

@@ -7,3 +7,4 @@ pub mod Cycles
 pub mod Distances
 pub mod Laws
 pub mod Closure
+pub mod Near

@@ -1,6 +1,6 @@
 //! Searches along epsilon arcs, one state after the other, in one table.
 
-ghost use Rattle.std.specs.Prelude.{◌≡◌, ◌*◌, ◌<◌, [], IfErr, IfOk, OnOk, length, map};
+ghost use Rattle.std.specs.Prelude.{◌≡◌, ◌*◌, ◌<◌, [], true, IfErr, IfOk, OnOk, length, map};
 ghost use Rattle.fst_machine.specs.Graph.{graph_of};
 ghost use Rattle.fst_machine.specs.Machine.{valued};
 ghost use Rattle.fst_trim.specs.Links.{epsilon_links};
@@ -9,6 +9,7 @@ ghost use Rattle.fst_distance.specs.Trying.{AreBelow};
 
 use crate::beginning::blank_table;
 use crate::closing::closure;
+use crate::spreading::near;
 use crate::table::Table;
 use crate::unmeeting::Reached;
 use fst_machine::{Fst, Path};
@@ -21,10 +22,11 @@ use std::marker::Model;
 /// A search along the epsilon arcs of a machine that serves one state after the other. Contracts see the epsilon links
 /// of the machine.
 ///
-/// It takes 36 bytes for each state with weights of 8 bytes, and 16 for each epsilon arc.
+/// It takes 40 bytes for each state with weights of 8 bytes, and 16 for each epsilon arc.
 #[derive(Drop)]
 pub struct Closures<W: Weight> {
     table: Table<W>,
+    places: Vec<u32>,
     links: Links<W>,
 }
 
@@ -32,13 +34,14 @@ impl<W: Weight> Model for Closures<W> {
     ghost use Rattle.std.specs.Prelude.{◌≡◌, List, [], length, map};
     ghost use Rattle.fst_trim.specs.Links.{Link};
     ghost use Rattle.fst_distance.specs.Beginning.{IsBlank};
+    ghost use Rattle.fst_distance.specs.Near.{HasNoPlaces};
     ghost use Rattle.fst_distance.specs.Searching.{valued_node};
 
     ghost Value = { List (List (Link W)) };
 
     ghost view = { λ c. c.links };
 
-    ghost invariant = { λ c. IsBlank (length c.links) (map (valued_node W.wide_value) c.table.nodes.items) × (c.table.later.items ≡ []) × (c.table.met.items ≡ []) };
+    ghost invariant = { λ c. IsBlank (length c.links) (map (valued_node W.wide_value) c.table.nodes.items) × (c.table.later.items ≡ []) × (c.table.met.items ≡ []) × HasNoPlaces (length c.links) c.places.items };
 }
 
 /// What epsilon arcs reach from a state, and the search, which may go on with another state.
@@ -57,7 +60,31 @@ impl<W: Weight> Closures<W> {
     {
         let links = Links::epsilons(alloc, fst)?;
         let table = blank_table::<W>(alloc, links.len())?;
-        Ok(Closures { table, links })
+        let places = vec![in alloc; 0u32; links.len()]?;
+        Ok(Closures {
+            table,
+            places,
+            links,
+        })
+    }
+
+    /// The states that epsilon arcs of the machine reach from a state, the state itself among them, each once and with
+    /// its distance over such arcs, where a short search without a queue finds them; it tells whether it does. If not,
+    /// `closure` finds them.
+    ///
+    /// Time: linear in what is met of states, and in their epsilon arcs as often as they hand on. Space: the answer.
+    pub fn near(
+        &mut self,
+        fst: &Fst<W>,
+        state: u32,
+        reached: &mut Vec<Reached<W>>,
+    ) -> Result<bool, AllocError>
+        requires links { self.old ≡ epsilon_links fst.now.states }
+        requires state { state < length fst.now.states }
+        ensures same { self.new ≡ self.old }
+        ensures closure { IfOk result (λ soon. soon ≡ true → IsClosure W.KIND (graph_of (valued W.value fst.now)) state (length fst.now.states * 1000000000000000000) (map (valued_reached W.value) reached.new.items)) }
+    {
+        near(fst, &mut self.places, reached, &self.links, state)
     }
 
     /// The states that epsilon arcs of the machine reach from a state, the state itself among them, each once and with
@@ -81,10 +108,18 @@ impl<W: Weight> Closures<W> {
         ensures empty { IfOk result (λ r. OnOk r (Q.members queue.new ≡ [])) }
         ensures below { AreBelow (length fst.now.states) (Q.members queue.new) }
     {
-        let Closures { mut table, links } = self;
+        let Closures {
+            mut table,
+            places,
+            links,
+        } = self;
         match closure(alloc, fst, &mut table, &links, queue, state)? {
             Ok(reached) => Ok(Ok(Closed {
-                closures: Closures { table, links },
+                closures: Closures {
+                    table,
+                    places,
+                    links,
+                },
                 reached,
             })),
             Err(cycle) => Ok(Err(cycle)),

@@ -20,6 +20,7 @@ pub mod laws;
 mod measuring;
 mod node;
 mod searching;
+mod spreading;
 mod table;
 mod unmeeting;
 mod useful;
