@@ -1,6 +1,7 @@
 -- The states of an operand, carried over one by one where they stand.
 use Rattle.std.proofs.Common.{◌≡◌, ℕ, ◌+◌, ◌<◌, ◌≤◌, suc, Bool, true, List, [], ◌∷◌, ◌++◌, Option, None, Some, length, map, take, drop, slice_get, refl, sym, ap, ap₂, subst, ◌∙◌, append-nil, append_assoc, arith}
 use Rattle.std.specs.List.{All}
+use Rattle.std.specs.Prelude.{Result, Ok, IfOk}
 use Rattle.std.specs.Option.{option_map}
 use Rattle.std.proofs.lemmas.List.{length-map, map-append}
 use Rattle.std.proofs.lemmas.List.Sums.{sum_by-cons}
@@ -8,6 +9,7 @@ use Rattle.std.proofs.lemmas.Option.{same_Some}
 use Rattle.fst_semiring.specs.Cost.{Cost}
 use Rattle.fst_machine.specs.Extending.{shifted}
 use Rattle.fst_machine.specs.Machine.{Arc, State, Machine, IsArc, IsMachine, arc_total, most_arcs, most_states, valued_arc, valued_state}
+use Rattle.fst_machine.specs.Spreading.{Spread}
 use Rattle.fst_machine.proofs.Valued.{arc_total-valued}
 use Rattle.fst_rational.specs.Changing.{goings, onward}
 use Rattle.fst_rational.specs.Constructions.{carried, kept}
@@ -18,6 +20,10 @@ use Rattle.fst_rational.proofs.Carrying.{has_places, valued_shifted}
 pub none_left : {X : Type 0} (xs : List X) → (0 < length xs → ⊥) → xs ≡ []
 none_left [] none = refl
 none_left (x ∷ xs) none = absurd (none (omega arith))
+
+-- what is left at first are the states of the machine
+pub first_left : {V E : Type 0} (r : Result (Spread V) E) (s : Spread V) (states : List (State V)) (more : ℕ) → IfOk r (λ t. (t.done ≡ []) × (t.left ≡ states) × (more ≤ t.room)) → r ≡ Ok s → s.left ≡ states
+first_left {V} {E} r s states more h e = (subst (λ (q : Result (Spread V) E). IfOk q (λ t. (t.done ≡ []) × (t.left ≡ states) × (more ≤ t.room))) e h).1
 
 -- all but the first
 pub all_behind : {X : Type 0} (P : X → Type 0) (xs : List X) → All P xs → All P (drop 1 xs)
