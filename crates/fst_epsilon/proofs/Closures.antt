@@ -118,7 +118,7 @@ all_from P xs each k d low = each (get_or xs k d) (at_Has xs k (get_or xs k d) (
 pub all_has : {X : Type 0} (P : X → Type 0) (xs : List X) (x : X) → All P xs → Has xs x → P x
 all_has P xs x all h = let at = Has_at xs x h in all_at P xs at.0 x at.1 all
 
-abbrev pair : Reached Cost → ℕ × Cost
+abbrev pub pair : Reached Cost → ℕ × Cost
 pair r = (r.state, r.distance)
 
 pub pairs_same : {D : Type 0} (value : D → Cost) (list : List (Reached D)) → pairs_of value list ≡ map pair (map (valued_reached value) list)

@@ -26,7 +26,7 @@ use Rattle.fst_epsilon.specs.Gathering.{pairs_of, rank}
 use Rattle.fst_epsilon.specs.Making.{IsMade, IsRemoving}
 use Rattle.fst_epsilon.specs.declared.fault.EpsilonFault.{EpsilonFault}
 use Rattle.fst_epsilon.specs.declared.fault.EpsilonFault.TheVariants.{Overflow, TooManyArcs}
-use Rattle.fst_epsilon.proofs.Closures.{Stands, all_from, all_has, all_stand, closure_list, pairs_same}
+use Rattle.fst_epsilon.proofs.Closures.{Has_map, Stands, all_from, all_has, all_stand, closure_list, pair, pairs_same}
 use Rattle.fst_epsilon.proofs.Exact.{least_reached}
 use Rattle.fst_epsilon.proofs.Finished.{path_low, removed_fair, removed_graph, removed_keeps, removed_machine}
 use Rattle.fst_epsilon.proofs.Growing.{removed_more}
@@ -198,3 +198,16 @@ in_err r f P e h = subst (λ (s : Result _ _). IfErr s P) e h
 
 pub in_some : {T : Type 0} (o : Option T) (x : T) (P : T → Type 0) → o ≡ Some x → IfSome o P → P x
 in_some o x P e h = subst (λ (s : Option _). IfSome s P) e h
+
+-- ---- a closure in the wide form
+
+module _ {D E : Type 0} (value : D → Cost) (wide : E → Cost) (list : List (Reached D)) (other : List (Reached E)) (same : map (valued_reached wide) other ≡ map (valued_reached value) list) where
+  pub pairs_moved : pairs_of wide other ≡ pairs_of value list
+  pairs_moved = pairs_same wide other ∙ (ap (map pair) same ∙ sym (pairs_same value list))
+
+  pub states_moved : (n : ℕ) → All (λ (r : Reached D). r.state < n) list → All (λ (r : Reached E). r.state < n) other
+  states_moved n all = all_from (λ (r : Reached E). r.state < n) other (λ r h.
+      let from = Has_map (valued_reached value) list (valued_reached wide r) (subst (λ (zs : List (Reached Cost)). Has zs (valued_reached wide r)) same (Has_mapped (valued_reached wide) other r h)) in
+      let low = all_has (λ (x : Reached D). x.state < n) list from.0 all from.1 in
+      let is : from.0.state ≡ r.state = ap (λ (z : Reached Cost). z.state) from.2 in
+      omega (arith, low, is))

@@ -20,12 +20,10 @@ fn rank_of(own: u32, state: u32) -> u64
 
 /// Puts what epsilon arcs reach from a state in order: the state itself, then the others by number. Takes no memory.
 ///
-/// A search lists the state last, and before it what it met, mostly lesser numbers later. So it is turned round first, and
-/// little is then left to move.
+/// A short search lists the state first, and behind it what it met, mostly greater numbers later. So little is left to move.
 pub(crate) fn sort_closure<D: Copy>(reached: &mut Vec<Reached<D>>, own: u32)
     ensures same { IsPermutation reached.old.items reached.new.items }
     ensures ranked { IsNonDecreasingBy (λ (r : ReachedValue D). rank own r.state) reached.new.items }
 {
-    reached.reverse();
     reached.sort_unstable_by_key(|item| rank_of(own, item.state));
 }

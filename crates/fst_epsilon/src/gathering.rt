@@ -6,7 +6,7 @@ ghost use Rattle.fst_semiring.specs.Semiring.{times, InRange, IsWide};
 ghost use Rattle.fst_machine.specs.Graph.{graph_of};
 ghost use Rattle.fst_machine.specs.Machine.{valued, valued_arc, valued_state};
 ghost use Rattle.fst_machine.specs.Narrowing.{IsInRange};
-ghost use Rattle.fst_distance.specs.Closure.{Reached as ReachedValue};
+ghost use Rattle.fst_distance.specs.Closure.{Reached as ReachedValue, valued_reached};
 ghost use Rattle.fst_epsilon.specs.Construction.{best_final, collected, merged, spoken};
 ghost use Rattle.fst_epsilon.specs.Gathering.{pairs_of};
 ghost use Rattle.fst_epsilon.specs.Merging.{AreMarked, ArePaired};
@@ -16,7 +16,7 @@ use crate::merged::Merged;
 use fst_distance::Reached;
 use fst_machine::{Fst, FstArc, WideArc};
 use fst_semiring::{Weight, is_zero};
-use std::alloc::AllocError;
+use std::alloc::{AllocError, Global};
 
 /// Whether both labels of an arc are 0.
 fn is_epsilon<V>(arc: &FstArc<V>) -> bool
@@ -108,33 +108,66 @@ pub(crate) fn gather<W: Weight>(
     Ok(last)
 }
 
-/// The same where the arcs are few and all weights are in range; `None` where they are not. No weight of an arc has the wide
-/// form here.
+/// The better of a final weight and another with a distance before it; `None` where a number is out of range. Most states
+/// are not final, and change nothing.
+fn better_few<W: Weight>(last: W, distance: W, ends: W) -> Option<W>
+    requires { InRange (W.value last) }
+    ensures range { IfSome result (λ w. InRange (W.value w)) }
+    ensures better { IfSome result (λ w. W.value w ≡ plus (W.value last) (times W.KIND (W.value distance) (W.value ends))) }
+{
+    if is_zero(ends) {
+        return Some(last);
+    }
+    let weight = W::narrow(distance.times(ends))?;
+    let better = last.plus(weight);
+    let _range = better.widen();
+    Some(better)
+}
+
+/// The same where the arcs are few and all weights are in range; `None` where they are not. No weight has the wide form
+/// here.
 pub(crate) fn gather_few<W: Weight>(
     out: &mut Few<W>,
     fst: &Fst<W>,
-    closure: &[Reached<W::Wide>],
+    closure: &[Reached<W>],
 ) -> Result<Option<W>, AllocError>
-    requires states { All (λ (r : ReachedValue W.Wide). r.state < length fst.now.states) closure.now }
-    requires wide { All (λ (r : ReachedValue W.Wide). IsWide (W.wide_value r.distance)) closure.now }
+    requires states { All (λ (r : ReachedValue W). r.state < length fst.now.states) closure.now }
     ensures range { IfOk result (λ o. IfSome o (λ last. IsInRange (valued_state W.value (record { final = last; arcs = out.new.arcs.items })))) }
-    ensures arcs { IfOk result (λ o. IfSome o (λ last. map (valued_arc W.value) out.new.arcs.items ≡ merged [] (collected W.KIND (graph_of (valued W.value fst.now)) (pairs_of W.wide_value closure.now)))) }
-    ensures ends { IfOk result (λ o. IfSome o (λ last. W.value last ≡ best_final W.KIND (graph_of (valued W.value fst.now)) (pairs_of W.wide_value closure.now))) }
+    ensures arcs { IfOk result (λ o. IfSome o (λ last. map (valued_arc W.value) out.new.arcs.items ≡ merged [] (collected W.KIND (graph_of (valued W.value fst.now)) (pairs_of W.value closure.now)))) }
+    ensures ends { IfOk result (λ o. IfSome o (λ last. W.value last ≡ best_final W.KIND (graph_of (valued W.value fst.now)) (pairs_of W.value closure.now))) }
 {
     out.clear();
-    let mut ends = W::zero().widen();
+    let mut last = W::zero();
     for item in closure {
         let arcs = fst.arcs(item.state);
         if !out.has_room(arcs.len()) {
             return Ok(None);
         }
-        let Some(distance) = W::narrow(item.distance) else {
-            return Ok(None);
-        };
-        if !put_few(out, arcs, distance)? {
+        if !put_few(out, arcs, item.distance)? {
             return Ok(None);
         }
-        ends = better_end(ends, item.distance, fst.final_weight(item.state));
+        let Some(better) = better_few(last, item.distance, fst.final_weight(item.state)) else {
+            return Ok(None);
+        };
+        last = better;
     }
-    Ok(W::narrow(ends))
+    Ok(Some(last))
+}
+
+/// A closure with the distances in the wide form.
+pub(crate) fn widened<W: Weight>(
+    alloc: Global,
+    closure: &[Reached<W>],
+) -> Result<Vec<Reached<W::Wide>>, AllocError>
+    ensures same { IfOk result (λ wide. map (valued_reached W.wide_value) wide.items ≡ map (valued_reached W.value) closure.now) }
+    ensures wide { IfOk result (λ wide. All (λ (r : ReachedValue W.Wide). IsWide (W.wide_value r.distance)) wide.items) }
+{
+    let mut wide = Vec::with_capacity(alloc, closure.len())?;
+    for item in closure {
+        wide.push(Reached {
+            state: item.state,
+            distance: item.distance.widen(),
+        })?;
+    }
+    Ok(wide)
 }

@@ -18,7 +18,7 @@ ghost use Rattle.fst_epsilon.specs.Making.{IsMade, IsRemoving, gathered};
 use crate::closing::sort_closure;
 use crate::fault::EpsilonFault;
 use crate::few::Few;
-use crate::gathering::{gather, gather_few};
+use crate::gathering::{gather, gather_few, widened};
 use crate::making::{Output, put_near, put_state};
 use crate::merged::Merged;
 use fst_distance::{Closures, Reached};
@@ -28,19 +28,21 @@ use fst_semiring::Weight;
 use fst_trim::accessible;
 use std::alloc::{AllocError, Global};
 
-/// Room for the arcs of one state while they are gathered.
+/// Room for one state while its closure and its arcs are gathered.
 #[derive(Drop)]
 struct Room<W: Weight> {
-    /// Where they are few and in range.
+    /// The closure, where it is soon found.
+    near: Vec<Reached<W>>,
+    /// The arcs, where they are few and in range.
     few: Few<W>,
-    /// Where they are not.
+    /// The arcs, where they are not.
     many: Merged<W>,
 }
 
 /// Puts the state that its closure makes after the others.
 fn put_gathered<W: Weight>(
     fst: &Fst<W>,
-    room: &mut Room<W>,
+    many: &mut Merged<W>,
     output: &mut Output<W>,
     state: u32,
     closure: &[Reached<W::Wide>],
@@ -50,13 +52,31 @@ fn put_gathered<W: Weight>(
     requires made { (all : List (State Cost)) × (length all ≡ state) × IsMade all (map (valued_state W.value) output.old.states) output.old.total output.old.overflow }
     ensures { OnOk result ((all : List (State Cost)) → length all ≡ state → IsMade all (map (valued_state W.value) output.old.states) output.old.total output.old.overflow → IsMade (all ++ gathered W.KIND (graph_of (valued W.value fst.now)) (pairs_of W.wide_value closure.now) ∷ []) (map (valued_state W.value) output.new.states) output.new.total output.new.overflow) }
 {
-    if let Some(last) = gather_few(&mut room.few, fst, closure)? {
-        put_near(output, last, room.few.arcs.as_slice())?;
+    let last = gather(many, fst, closure)?;
+    put_state(output, state, last, many.arcs.as_slice())?;
+    Ok(())
+}
+
+/// The same where the distances are in range: mostly the arcs are few, and their weights in range too.
+fn put_soon<W: Weight>(
+    alloc: Global,
+    fst: &Fst<W>,
+    few: &mut Few<W>,
+    many: &mut Merged<W>,
+    output: &mut Output<W>,
+    state: u32,
+    closure: &[Reached<W>],
+) -> Result<(), AllocError>
+    requires states { All (λ (r : ReachedValue W). r.state < length fst.now.states) closure.now }
+    requires made { (all : List (State Cost)) × (length all ≡ state) × IsMade all (map (valued_state W.value) output.old.states) output.old.total output.old.overflow }
+    ensures { OnOk result ((all : List (State Cost)) → length all ≡ state → IsMade all (map (valued_state W.value) output.old.states) output.old.total output.old.overflow → IsMade (all ++ gathered W.KIND (graph_of (valued W.value fst.now)) (pairs_of W.value closure.now) ∷ []) (map (valued_state W.value) output.new.states) output.new.total output.new.overflow) }
+{
+    if let Some(last) = gather_few(few, fst, closure)? {
+        put_near(output, last, few.arcs.as_slice())?;
         return Ok(());
     }
-    let last = gather(&mut room.many, fst, closure)?;
-    put_state(output, state, last, room.many.arcs.as_slice())?;
-    Ok(())
+    let wide = widened::<W>(alloc, closure)?;
+    put_gathered(fst, many, output, state, wide.as_slice())
 }
 
 /// Makes the state of the result that stands for a state which the start reaches, and gives back the search; or a cycle
@@ -64,7 +84,7 @@ fn put_gathered<W: Weight>(
 fn put_closure<W: Weight, Q: StateQueue>(
     alloc: Global,
     fst: &Fst<W>,
-    closures: Closures<W>,
+    mut closures: Closures<W>,
     queue: &mut Q,
     room: &mut Room<W>,
     output: &mut Output<W>,
@@ -82,12 +102,31 @@ fn put_closure<W: Weight, Q: StateQueue>(
     ensures below { AreBelow (length fst.now.states) (Q.members queue.new) }
 {
     let _states = fst.states();
+    if closures.near(fst, state, &mut room.near)? {
+        sort_closure(&mut room.near, state);
+        put_soon(
+            alloc,
+            fst,
+            &mut room.few,
+            &mut room.many,
+            output,
+            state,
+            room.near.as_slice(),
+        )?;
+        return Ok(Ok(closures));
+    }
     let mut closed = match closures.closure(alloc, fst, queue, state)? {
         Ok(closed) => closed,
         Err(cycle) => return Ok(Err(cycle)),
     };
     sort_closure(&mut closed.reached, state);
-    put_gathered(fst, room, output, state, closed.reached.as_slice())?;
+    put_gathered(
+        fst,
+        &mut room.many,
+        output,
+        state,
+        closed.reached.as_slice(),
+    )?;
     Ok(Ok(closed.closures))
 }
 
@@ -109,14 +148,15 @@ fn put_all<W: Weight, Q: StateQueue>(
     ensures below { AreBelow (length fst.now.states) (Q.members queue.new) }
 {
     let mut room = Room {
+        near: Vec::new(alloc),
         few: Few::new(alloc),
         many: Merged::new(alloc),
     };
+    let none = Vec::new(alloc);
     let mut closures = Closures::new(alloc, fst)?;
     for state in 0..fst.states() {
         if !marks[state as usize] {
-            room.many.clear();
-            put_state(output, state, W::zero().widen(), room.many.arcs.as_slice())?;
+            put_near(output, W::zero(), none.as_slice())?;
             continue;
         }
         match put_closure(alloc, fst, closures, queue, &mut room, output, state)? {
@@ -181,10 +221,11 @@ fn removed<W: Weight, Q: StateQueue>(
 /// lists such a cycle. Else `TooManyArcs` exactly where the result has more than 33,554,432 arcs; else `Overflow` exactly
 /// where a weight has a number of absolute value above 10 to the 18, with the first state that has such a weight. `Memory`
 /// may come in place of any answer. After an `Ok` the queue is empty; after a refusal it may hold states of the machine.
-/// The queue gives the order in which states are looked at, and changes the time alone.
+/// Where a short search does not find what epsilon arcs reach from a state, the queue gives the order in which states are
+/// looked at; it changes the time alone.
 ///
 /// Time: for each state that of a search along its epsilon arcs, and of what is so collected. Space: the result, the
-/// arcs of one state, and for weights of 8 bytes 36 for each state and 16 for each epsilon arc. A chain of epsilon arcs is
+/// arcs of one state, and for weights of 8 bytes 40 for each state and 16 for each epsilon arc. A chain of epsilon arcs is
 /// gone through from each of its states.
 pub fn rmepsilon<W: Weight>(
     alloc: Global,

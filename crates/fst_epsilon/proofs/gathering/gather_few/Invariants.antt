@@ -10,11 +10,11 @@ use Rattle.fst_epsilon.proofs.gathering.gather_few.Given as goal
 abbrev pub invariant-loop-item : goal.invariant-loop-item
 invariant-loop-item g l =
     let value = g.W.Weight.value in
-    let wide = g.W.Weight.wide_value in
     let graph = graph_of (valued value l.fst) in
     record {
       marked : AreMarked l.out.spots l.out.arcs.items;
+      last : InRange (value l.last);
       range : All (λ a. InRange (value a.weight)) l.out.arcs.items;
-      arcs : map (valued_arc value) l.out.arcs.items ≡ merged [] (collected g.W.Weight.KIND graph (take l.item-index (pairs_of wide l.closure)));
-      ends : wide l.ends ≡ best_final g.W.Weight.KIND graph (take l.item-index (pairs_of wide l.closure));
+      arcs : map (valued_arc value) l.out.arcs.items ≡ merged [] (collected g.W.Weight.KIND graph (take l.item-index (pairs_of value l.closure)));
+      ends : value l.last ≡ best_final g.W.Weight.KIND graph (take l.item-index (pairs_of value l.closure));
     }
