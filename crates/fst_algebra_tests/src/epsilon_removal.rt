@@ -49,8 +49,9 @@ fn leaves(
 
 /// Tropical machines, and what is left of them. In the first two ways of epsilon arcs lead to state 1, and their best has
 /// weight 2. In the second equal arcs come from three states: their best weight stands in the place of the first. In the
-/// third the start reaches neither state 1 nor state 3.
-static TROPICAL: [(&[u8], &[u8]); 4] = [
+/// third the start reaches neither state 1 nor state 3. In the fourth a product on the way to state 3 is out of range, so
+/// that only a search by the queue finds it.
+static TROPICAL: [(&[u8], &[u8]); 5] = [
     (
         b"0 1 0 0 3\n0 2 0 0 1\n2 1 0 0 1\n1 1 0 0 0\n1 3 5 6 4\n3\n",
         b"0 3 5 6 6\n1 3 5 6 4\n2 3 5 6 5\n3\n",
@@ -62,6 +63,10 @@ static TROPICAL: [(&[u8], &[u8]); 4] = [
     (
         b"2 0 0 0 4\n1 3 0 0 1\n3 1 1 1\n0 2\n3\n",
         b"2 6\n1 Infinity\n3 Infinity\n0 2\n",
+    ),
+    (
+        b"0 1 0 0 600000000000000000\n0 2 0 0 3\n2 1 0 0 600000000000000000\n1 3 0 0 600000000000000000\n3 4 5 6 -600000000000000000\n4\n",
+        b"0 4 5 6 600000000000000000\n1 4 5 6\n2 4 5 6 600000000000000000\n3 4 5 6 -600000000000000000\n4\n",
     ),
     (b"", b""),
 ];

@@ -40,11 +40,11 @@ impl<Q: StateQueue> StateQueue for Counting<Q> {
 
 /// Commands with the queue that they take: the first, the second or the third that is handed in.
 static TAKEN: [(&str, usize); 8] = [
-    ("rmepsilon m r", 0),
-    ("rmepsilon --queue_type=auto m r", 0),
-    ("rmepsilon --queue_type=fifo m r", 0),
-    ("rmepsilon --queue_type=lifo m r", 1),
-    ("rmepsilon --queue_type=shortest m r", 2),
+    ("rmepsilon far r", 0),
+    ("rmepsilon --queue_type=auto far r", 0),
+    ("rmepsilon --queue_type=fifo far r", 0),
+    ("rmepsilon --queue_type=lifo far r", 1),
+    ("rmepsilon --queue_type=shortest far r", 2),
     ("shortestdistance m r", 0),
     ("shortestdistance --queue_type=lifo m r", 1),
     ("shortestdistance --queue_type=shortest m r", 2),
@@ -97,6 +97,12 @@ fn a_command_takes_one_queue(rt: HostRuntime) -> Result<(), Fail> {
     let mut desk = MemoryDesk::new(alloc);
     desk.put("text", b"0 1 0 0 3\n0 2 0 0 1\n2 1 0 0 1\n1 3 5 6 4\n3\n")?;
     ends(&rt, alloc, &mut desk, "compile text m", 0, b"")?;
+    // A product on the way is out of range, so that no short search finds what epsilon arcs reach.
+    desk.put(
+        "far.text",
+        b"0 1 0 0 600000000000000000\n1 2 0 0 600000000000000000\n2 3 5 6 -600000000000000000\n3\n",
+    )?;
+    ends(&rt, alloc, &mut desk, "compile far.text far", 0, b"")?;
     for (line, wanted) in &TAKEN {
         takes(&rt, alloc, &mut desk, line, *wanted)?;
     }
