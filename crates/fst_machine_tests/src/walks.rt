@@ -56,7 +56,7 @@ impl Coded for Mark {
 struct Lone;
 
 impl Names<Tropical> for Lone {
-    ghost use Rattle.std.specs.Prelude.{[], Some};
+    ghost use Rattle.std.specs.Prelude.{[], Some, refl};
     ghost use Rattle.fst_semiring.specs.Cost.{infinite};
 
     type Key = Mark;
@@ -67,6 +67,8 @@ impl Names<Tropical> for Lone {
 
     ghost graph = { λ s. record { start = Some 7; arcs = λ n. []; final = λ n. infinite } };
 
+    ghost rest = { λ s n from. [] };
+
     ghost holds = { λ s. Unit {0} };
 
     fn start(&self) -> Option<Mark> {
@@ -75,18 +77,21 @@ impl Names<Tropical> for Lone {
 
     fn scratch(_alloc: Global) {}
 
-    fn put_arcs(
+    fn put_part(
         &self,
         _scratch: &mut (),
         _out: &mut Vec<NameArc<Mark, Tropical>>,
         _key: &Mark,
-    ) -> Result<(), AllocError> {
-        Ok(())
+        _from: u32,
+    ) -> Result<Option<u32>, AllocError> {
+        Ok(None)
     }
 
     fn final_weight(&self, _key: &Mark) -> <Tropical as Weight>::Wide {
         Tropical::zero().widen()
     }
+
+    ghost whole = { λ s n. refl };
 
     ghost good = { λ s h n near k a e. absurd (Prim.cc) };
 }
