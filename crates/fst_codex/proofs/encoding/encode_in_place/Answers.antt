@@ -16,6 +16,6 @@ returns-clause-again g c =
     let m = valued value c.args.machine in
     let codex = c.put_in_place.new.coder in
     let made : Machine g.row.W.Denot = c.put_in_place.new.machine in
-    let put = subst (λ (t : Table g.row.W.Denot). PutsStates kind t.weights m.states (valued_table value t) (valued_table value codex) (map (valued_state value) made.states)) c.new-coder.ensures c.in_ok-put_in_place.ensures.put in
+    let put = subst (λ (t : Table g.row.W.Denot). PutsStates kind t.weights m.states (valued_table value t) (valued_table value codex) (map (valued_state value) made.states)) c.in_ok-coder.ensures c.in_ok-put_in_place.ensures.put in
     let encoded : IsEncoded kind c.args.weights m (valued value made) (valued_table value codex) = record { flag = put.flag; entries = put.grown; start = c.in_ok-put_in_place.ensures.start; states = put.put } in
     subst₂ (λ (d : Machine g.row.W.Denot) (t : Table g.row.W.Denot). (back : Result (Machine Cost) DecodeFault) → Decodes kind value d (valued_table value t) back → GivesBack m back) (sym c.into_machine.ensures) (sym c.into_codex.ensures) (gives_back kind c.args.weights value m made (valued_table value codex) encoded put.range)

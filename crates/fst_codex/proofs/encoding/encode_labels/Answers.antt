@@ -15,7 +15,7 @@ use Rattle.fst_codex.proofs.encoding.encode_labels.Goals as goal
 
 -- what was put, from no entries on
 put : (g : given.Over) (c : goal.After-start g) → PutsStates g.W.Weight.KIND c.args.weights (map (valued_state g.W.Weight.value) c.args.fst.now.states) (record { weights = c.args.weights; entries = [] }) (valued_table g.W.Weight.value c.put_states.new.coder) (map (valued_state g.W.Weight.value) c.put_states.new.states)
-put g c = subst (λ (t : Table g.row.W.Denot). PutsStates g.W.Weight.KIND t.weights (map (valued_state g.W.Weight.value) c.args.fst.now.states) (valued_table g.W.Weight.value t) (valued_table g.W.Weight.value c.put_states.new.coder) (map (valued_state g.W.Weight.value) c.put_states.new.states)) c.new-coder.ensures c.in_ok-put_states.ensures.put
+put g c = subst (λ (t : Table g.row.W.Denot). PutsStates g.W.Weight.KIND t.weights (map (valued_state g.W.Weight.value) c.args.fst.now.states) (valued_table g.W.Weight.value t) (valued_table g.W.Weight.value c.put_states.new.coder) (map (valued_state g.W.Weight.value) c.put_states.new.states)) c.in_ok-coder.ensures c.in_ok-put_states.ensures.put
 
 pub into_machine-requires : goal.into_machine-requires
 into_machine-requires g c =
@@ -32,6 +32,6 @@ returns-clause-again g c =
     let m = valued value c.args.fst.now in
     let codex = c.put_states.new.coder in
     let made : Machine g.row.W.Denot = record { start = c.start.result; states = c.put_states.new.states } in
-    let put = subst (λ (t : Table g.row.W.Denot). PutsStates kind t.weights m.states (valued_table value t) (valued_table value codex) (map (valued_state value) c.put_states.new.states)) c.new-coder.ensures c.in_ok-put_states.ensures.put in
+    let put = subst (λ (t : Table g.row.W.Denot). PutsStates kind t.weights m.states (valued_table value t) (valued_table value codex) (map (valued_state value) c.put_states.new.states)) c.in_ok-coder.ensures c.in_ok-put_states.ensures.put in
     let encoded : IsEncoded kind c.args.weights m (valued value made) (valued_table value codex) = record { flag = put.flag; entries = put.grown; start = c.start.ensures.value; states = put.put } in
     subst₂ (λ (d : Machine g.row.W.Denot) (t : Table g.row.W.Denot). (back : Result (Machine Cost) DecodeFault) → Decodes kind value d (valued_table value t) back → GivesBack m back) (sym c.into_machine.ensures) (sym c.into_codex.ensures) (gives_back kind c.args.weights value m made (valued_table value codex) encoded put.range)
