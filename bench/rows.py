@@ -41,13 +41,13 @@ CALLS = "--call_arc_labeling=neither --return_arc_labeling=neither"
 RULES = f"{{root}} {ROOT} {{rule}} {CALL}"
 # The operations, on a random machine where no other is said.
 OPERATIONS = [
-    Row("union", "union {dense} {dense} {out}"),
-    Row("concat", "concat {dense} {dense} {out}"),
-    Row("closure", "closure {dense} {out}"),
+    Row("union", "union {dense} {dense} {out}", TIME, 1.0),
+    Row("concat", "concat {dense} {dense} {out}", TIME, 1.0),
+    Row("closure", "closure {dense} {out}", TIME, 1.1),
     Row("invert", "invert {dense} {out}"),
     Row("project", "project {dense} {out}"),
     Row("project, the output side", "project --project_output {dense} {out}", theirs="project --project_type=output {dense} {out}"),
-    Row("reverse", "reverse {dense} {out}"),
+    Row("reverse", "reverse {dense} {out}", TIME, 0.8),
     Row("relabel", "relabel --relabel_ipairs={pairs.text} --relabel_opairs={pairs.text} {dense} {out}"),
     Row("arcsort", "arcsort --sort_type=ilabel {dense} {out}"),
     Row("arcsort, by output labels", "arcsort --sort_type=olabel {dense} {out}"),
@@ -57,8 +57,8 @@ OPERATIONS = [
     Row("shortestdistance", "shortestdistance {dense} {out}"),
     Row("shortestdistance, best first", "shortestdistance --queue_type=shortest {dense} {out}", 1.0),
     Row("shortestdistance, backward", "shortestdistance --reverse {dense} {out}"),
-    Row("encode", "encode --encode_labels {dense} {out}.codex {out}"),
-    Row("encode, labels and weights", "encode --encode_labels --encode_weights {dense} {out}.codex {out}"),
+    Row("encode", "encode --encode_labels {dense} {out}.codex {out}", 0.3, 0.7),
+    Row("encode, labels and weights", "encode --encode_labels --encode_weights {dense} {out}.codex {out}", 0.3, 0.7),
     Row("encode --decode", "encode --decode {dense.encoded} {dense.codex} {out}", TIME, 0.6),
     Row("replace", f"replace {RULES} {{out}}", 0.17, 0.8, f"replace {CALLS} {RULES} {{out}}"),
     Row("compose", f"compose {MOST} {{first}} {{second}} {{out}}", TIME, 1.2, "compose {first} {second} {out}"),
