@@ -2,12 +2,13 @@
 """fst beside OpenFst's tools on the same inputs, in one run.
 
     side_by_side.py [--fst PATH] [--sizes 10000,100000,1000000] [--rounds 5] [--only PART] [--rows PATTERN] [--keys 20000]
-                    [--large] [--table | --growth] [--gate]
+                    [--large] [--table | --growth | --floors] [--gate]
 
 The runs of the two programs alternate, so that a slow minute of the machine falls on both. For each run the processor time (user
 and system) and the peak resident size are taken; the tables show medians. The parts are forms, operations, algebra, cliffs,
 crafted and batch; without --only all are shown. --table shows the first three in one table with a line for each command, --growth their
-instructions, which no load changes. With --large the machine of the cliffs is added that takes gigabytes.
+instructions, which no load changes, --floors what a program in C takes for the same bytes. With --large the machine of the cliffs
+is added that takes gigabytes.
 
 With --gate the status is 1 where a ratio passes the bound of its row at 10^6 arcs, where an operation takes more than GROWTH times
 as long for ten times the arcs, where instructions grow by more than the power 1.1, where crafted keys take more than four times as
@@ -25,6 +26,7 @@ import tables
 from batch import LINES, batch
 from cliffs import CLIFFS, LARGE
 from crafted import KEYS, crafted
+from floors import floors
 from growth import LIMIT, growth
 from inputs import Inputs
 from measuring import adopt, compared, in_turn, lacks, measured
@@ -173,13 +175,15 @@ def read_words():
     words.add_argument("--lines", type=int, default=LINES, help="how many lines a batch has")
     words.add_argument("--limit", type=int, default=LIMIT, help="the most seconds for counting the instructions of a row")
     words.add_argument("--folder", default="/dev/shm", help="where the files stand meanwhile")
-    for flag in "--large", "--table", "--growth", "--gate":
+    for flag in "--large", "--table", "--growth", "--floors", "--gate":
         words.add_argument(flag, action="store_true")
     return words.parse_args()
 
 
 def measure(words, scratch):
     """Shows what the words ask for. Gives whether a bound is passed."""
+    if words.floors:
+        return floors(words, scratch)
     wanted = {"forms": FORMS, "operations": OPERATIONS, "algebra": ALGEBRA, "cliffs": CLIFFS}
     wanted = {part: [row for row in rows if words.rows.search(row.name)] for part, rows in wanted.items()}
     if words.only:

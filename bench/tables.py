@@ -1,4 +1,5 @@
 """What the tables look like."""
+from statistics import median
 
 
 def size_name(size):
@@ -18,6 +19,14 @@ def side_by_side_line(size, name, sides):
     least, most = sides.spread()
     seconds = f"{s:.3f}, {k / 1024:.0f} | {t:.3f}, {m / 1024:.0f}"
     return f"| {size} | {name} | {seconds} | {sides.time():.2f} | {least:.2f} to {most:.2f} | {sides.memory():.2f} |"
+
+
+def floor_line(size, name, theirs, floor, ours):
+    """A row of floors: medians of the runs of OpenFst, of the C program and of ours, and their ratios to OpenFst's."""
+    seconds, peaks = ([median(getattr(run, field) for run in runs) for runs in (theirs, floor, ours)] for field in ("seconds", "peak"))
+    figures = [f"{s:.4f}, {k / 1024:.0f}" for s, k in zip(seconds, peaks)]
+    ratios = [f"{s / seconds[0]:.3f}, {k / peaks[0]:.2f}" for s, k in zip(seconds, peaks)]
+    return f"| {size} | {name} | {figures[0]} | {figures[1]} | {ratios[1]} | {figures[2]} | {ratios[2]} |"
 
 
 def missing_line(size, name):
