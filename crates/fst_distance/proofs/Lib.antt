@@ -21,5 +21,5 @@ pub mod Accessed
 pub mod Relaxed
 pub mod Unmet
 pub mod Silent
-pub mod Spread
+pub mod ShortSearch
 pub mod NearClosure

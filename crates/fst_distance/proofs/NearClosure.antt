@@ -21,14 +21,14 @@ use Rattle.fst_trim.specs.Links.{epsilon_links}
 use Rattle.fst_distance.specs.Beginning.{IsOnly}
 use Rattle.fst_distance.specs.Closure.{IsClosure, Reached, states_of, valued_reached}
 use Rattle.fst_distance.specs.Hops.{Hop, Arrives, IsBack, IsHop, IsNet, NoWorse, hops_product, value_by}
-use Rattle.fst_distance.specs.Near.{ArePlaced, Spreading, costs_of, distance_by, names_of, one_at, place_of}
+use Rattle.fst_distance.specs.Near.{ArePlaced, ShortSearch, costs_of, distance_by, names_of, one_at, place_of}
 use Rattle.fst_distance.proofs.HopPaths.{forward_back}
 use Rattle.fst_distance.proofs.MachineHops.{along_net}
 use Rattle.fst_distance.proofs.Measured.{class_distance}
 use Rattle.fst_distance.proofs.Order.{after_infinite}
 use Rattle.fst_distance.proofs.Rounds.{arrives_finite}
 use Rattle.fst_distance.proofs.Silent.{goes_silent, silent_goes}
-use Rattle.fst_distance.proofs.Spread.{apart_by, distance_listed, distance_none, only_one, place_low}
+use Rattle.fst_distance.proofs.ShortSearch.{apart_by, distance_listed, distance_none, only_one, place_low}
 
 names_valued : {D : Type 0} (value : D → Cost) (items : List (Reached D)) → states_of (map (valued_reached value) items) ≡ names_of items
 names_valued value [] = refl
@@ -45,7 +45,7 @@ closed_no_worse kind Goes source D begins closed (h ∷ back) q p leads =
     (plus_trans (D h.to) (times kind h.weight (D h.from)) _ (closed h leads.0) (times_keeps kind h.weight (D h.from) _ rest)))
 
 module _ {V : Type 0} (kind : ArcType) (value : V → Cost) (m : Machine V) (good : IsMachine value m) (q : ℕ) (low : q < length m.states) (items : List (Reached V)) (places : List ℕ)
-    (are : ArePlaced places (names_of items)) (s : Spreading kind (IsHop value [] (epsilon_links m.states)) (one_at kind q) (length items) places (costs_of value items)) where
+    (are : ArePlaced places (names_of items)) (s : ShortSearch kind (IsHop value [] (epsilon_links m.states)) (one_at kind q) (length items) places (costs_of value items)) where
   abbrev Goes : Hop → Type 0
   Goes h = IsHop value [] (epsilon_links m.states) h
 
@@ -110,8 +110,8 @@ module _ {V : Type 0} (kind : ArcType) (value : V → Cost) (m : Machine V) (goo
       by zero e = absurd (arrives_finite kind Goes (one_at kind q) (length m.states) net p _ a (after_infinite _ _ (no_worse p _ a) (distance_none places (costs_of value items) p e)))
       by (suc i) e = at_Has (names_of items) i p (are.listed p i (e ∙ (let same : suc i ≡ i + 1 = omega arith in same)))
 
-  pub spread_closure : IsClosure kind (graph_of (valued value m)) q (length m.states * 1000000000000000000) (map (valued_reached value) items)
-  spread_closure = record {
+  pub near_closure : IsClosure kind (graph_of (valued value m)) q (length m.states * 1000000000000000000) (map (valued_reached value) items)
+  near_closure = record {
     apart = subst Apart (sym (names_valued value items)) (apart_by (place_of places) 1 (names_of items) (λ i p e. are.placed i p e ∙ (let same : i + 1 ≡ 1 + i = omega arith in same)));
     distances = λ r has. subst (IsDistance kind (graph_of (valued value m)) EpsilonArc q r.state) (listed r has).here (distance r.state);
     finite = λ r has zero_here. finite r.state (listed r has).met ((listed r has).here ∙ zero_here);

@@ -61,7 +61,7 @@ pub record Offered (state : ℕ) (value : Cost) (next after : ℕ) (places now :
   pub change : Keeps state value next after places now costs more ⊎ Gives state value next after places now costs more
 
 -- A search on its way, where the states with these places have handed on their distances.
-pub record Spreading (kind : ArcType) (Goes : Hop → Type 0) (source : ℕ → Cost) (done : ℕ) (places : List ℕ) (costs : List Cost) : Type 0 where
+pub record ShortSearch (kind : ArcType) (Goes : Hop → Type 0) (source : ℕ → Cost) (done : ℕ) (places : List ℕ) (costs : List Cost) : Type 0 where
   pub begins : (q : ℕ) → NoWorse (distance_by places costs q) (source q)
   pub reached : (q : ℕ) → (place_of places q ≡ 0) ⊎ Arrives kind Goes source q (distance_by places costs q)
   pub closed : (h : Hop) → Goes h → place_of places h.from ≤ done → NoWorse (distance_by places costs h.to) (times kind h.weight (distance_by places costs h.from))

@@ -9,7 +9,7 @@ ghost use Rattle.fst_distance.specs.Trying.{AreBelow};
 
 use crate::beginning::blank_table;
 use crate::closing::closure;
-use crate::spreading::near;
+use crate::short_search::near;
 use crate::table::Table;
 use crate::unmeeting::Reached;
 use fst_machine::{Fst, Path};

@@ -49,8 +49,8 @@ fn measured<W: Weight, Q: StateQueue>(
 /// After an `Ok` the queue is empty; after a refusal it may hold states of the machine.
 ///
 /// Time: each round looks at each state at most once and along each arc, and there is at most one round more than
-/// states; with few rounds, as is common, linear. Space: for weights of 8 bytes 52 for each state, 16 for each arc, and
-/// the queue.
+/// states; with few rounds, as is common, linear. Space: for weights of 8 bytes 52 for each state, 4 for each that
+/// something comes to and for each that is put off, with room for as many more, 16 for each arc, and the queue.
 pub fn distance<W: Weight, Q: StateQueue>(
     alloc: Global,
     fst: &Fst<W>,

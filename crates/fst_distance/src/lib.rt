@@ -20,7 +20,7 @@ pub mod laws;
 mod measuring;
 mod node;
 mod searching;
-mod spreading;
+mod short_search;
 mod table;
 mod unmeeting;
 mod useful;

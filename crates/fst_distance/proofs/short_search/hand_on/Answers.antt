@@ -6,8 +6,8 @@ use Rattle.fst_trim.specs.Links.{Link}
 use Rattle.fst_distance.specs.Closure.{Reached}
 use Rattle.fst_distance.specs.Hops.{Hop, IsHop, link_hop}
 use Rattle.fst_distance.specs.Near.{costs_of, names_of}
-use Rattle.fst_distance.proofs.Spread.{Handing, after_low, handing_begins, handing_ends, handing_more, item_read, link_leads, links_done, links_more, met_low}
-use Rattle.fst_distance.proofs.spreading.hand_on.Goals as goal
+use Rattle.fst_distance.proofs.ShortSearch.{Handing, after_low, handing_begins, handing_ends, handing_more, item_read, link_leads, links_done, links_more, met_low}
+use Rattle.fst_distance.proofs.short_search.hand_on.Goals as goal
 
 pub loop-link-init : goal.loop-link-init
 loop-link-init g c =
@@ -68,8 +68,8 @@ loop-link-preserved g c =
           (handing_more kind goes source c.args.at state so_far c.loop-link.next (map (link_hop value state) (take i items)) c.loop-link.places.items (costs_of value c.loop-link.reached.items) (old.handing source s) (link_hop value state l) leads refl v product c.in-Some.ensures.range cost c.in_ok-next.next c.offer.new.places.items (costs_of value c.offer.new.reached.items) c.in_ok-next.ensures.offered);
     }
 
-pub returns-clause-spreads : goal.returns-clause-spreads
-returns-clause-spreads g c = λ source s.
+pub returns-clause-goes_on : goal.returns-clause-goes_on
+returns-clause-goes_on g c = λ source s.
     let value = g.W.Weight.value in
     let items = c.links-link-items.result.now in
     handing_ends g.W.Weight.KIND (IsHop value [] c.args.links.now) source c.args.at c.behind-reached.inside.state (value c.behind-reached-2.inside.distance) c.loop-link.next (map (link_hop value c.behind-reached.inside.state) (take c.loop-link.link-index items)) c.loop-link.places.items (costs_of value c.loop-link.reached.items) (c.loop-link.invariant.handing source s)

@@ -4,8 +4,8 @@ use Rattle.std.proofs.lemmas.Option.{slice_get_read}
 use Rattle.fst_machine.proofs.Arcs.{at_mapped}
 use Rattle.fst_distance.specs.Closure.{Reached}
 use Rattle.fst_distance.specs.Near.{names_of}
-use Rattle.fst_distance.proofs.Spread.{left_begins, left_ends, left_more, met_low}
-use Rattle.fst_distance.proofs.spreading.displace.Goals as goal
+use Rattle.fst_distance.proofs.ShortSearch.{left_begins, left_ends, left_more, met_low}
+use Rattle.fst_distance.proofs.short_search.displace.Goals as goal
 
 pub loop-item-init : goal.loop-item-init
 loop-item-init g c = record { size = refl; left = left_begins c.args.places.now.items (names_of c.args.reached.now) c.requires }

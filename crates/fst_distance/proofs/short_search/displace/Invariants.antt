@@ -1,7 +1,7 @@
 use Rattle.std.proofs.Common.{◌≡◌, length}
 use Rattle.fst_distance.specs.Near.{names_of}
-use Rattle.fst_distance.proofs.Spread.{IsLeft}
-use Rattle.fst_distance.proofs.spreading.displace.Given as goal
+use Rattle.fst_distance.proofs.ShortSearch.{IsLeft}
+use Rattle.fst_distance.proofs.short_search.displace.Given as goal
 
 abbrev pub invariant-loop-item : goal.invariant-loop-item
 invariant-loop-item g l = record {

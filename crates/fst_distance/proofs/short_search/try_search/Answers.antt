@@ -3,9 +3,9 @@ use Rattle.std.specs.Prelude.{IfSome}
 use Rattle.std.proofs.lemmas.List.{length-map}
 use Rattle.fst_distance.specs.Closure.{Reached}
 use Rattle.fst_distance.specs.Hops.{IsHop}
-use Rattle.fst_distance.specs.Near.{ArePlaced, IsMet, Spreading, costs_of, names_of, one_at}
-use Rattle.fst_distance.proofs.Spread.{met_few, none_placed, spreading_begins}
-use Rattle.fst_distance.proofs.spreading.spread.Goals as goal
+use Rattle.fst_distance.specs.Near.{ArePlaced, IsMet, ShortSearch, costs_of, names_of, one_at}
+use Rattle.fst_distance.proofs.ShortSearch.{met_few, none_placed, short_search_begins}
+use Rattle.fst_distance.proofs.short_search.try_search.Goals as goal
 
 pub meet-requires-clause-placed : goal.meet-requires-clause-placed
 meet-requires-clause-placed g c = subst (λ (zs : List (Reached g.row.W.Denot)). ArePlaced c.args.places.now.items (names_of zs)) (sym c.requires.empty) (none_placed (length c.args.links.now) c.args.places.now.items c.requires.blank)
@@ -20,7 +20,7 @@ loop-at-init g c =
       size = c.meet.ensures.size ∙ c.requires.blank.0;
       inside = omega arith;
       takes = omega arith;
-      spreading = spreading_begins kind (IsHop value [] c.args.links.now) c.args.state (length c.args.links.now) (value c.one.result) c.args.places.now.items c.meet.new.places.items (costs_of value c.meet.new.reached.items) c.one.ensures c.requires.blank m;
+      searching = short_search_begins kind (IsHop value [] c.args.links.now) c.args.state (length c.args.links.now) (value c.one.result) c.args.places.now.items c.meet.new.places.items (costs_of value c.meet.new.reached.items) c.one.ensures c.requires.blank m;
     }
 
 -- what holds of the value of an option
@@ -39,14 +39,14 @@ loop-at-preserved g c =
       size = c.hand_on.ensures.states;
       inside = in_some _ c.in-Some.next _ c.in-Some.is c.in_ok-next.ensures.next;
       takes = omega (arith, few, many, test, is);
-      spreading = in_some _ c.in-Some.next _ c.in-Some.is c.in_ok-next.ensures.spreads (one_at g.W.Weight.KIND c.args.state) c.loop-at.invariant.spreading;
+      searching = in_some _ c.in-Some.next _ c.in-Some.is c.in_ok-next.ensures.goes_on (one_at g.W.Weight.KIND c.args.state) c.loop-at.invariant.searching;
     }
 
-pub returns-clause-spread : goal.returns-clause-spread
-returns-clause-spread g c = λ yes.
+pub returns-clause-found : goal.returns-clause-found
+returns-clause-found g c = λ yes.
     let value = g.W.Weight.value in
     let same : c.loop-at.at ≡ length c.loop-at.reached.items = (let low = c.loop-at.invariant.inside in let high = c.loop-at-test.false in omega (arith, low, high)) in
-    subst (λ (n : ℕ). Spreading g.W.Weight.KIND (IsHop value [] c.args.links.now) (one_at g.W.Weight.KIND c.args.state) n c.loop-at.places.items (costs_of value c.loop-at.reached.items)) same c.loop-at.invariant.spreading
+    subst (λ (n : ℕ). ShortSearch g.W.Weight.KIND (IsHop value [] c.args.links.now) (one_at g.W.Weight.KIND c.args.state) n c.loop-at.places.items (costs_of value c.loop-at.reached.items)) same c.loop-at.invariant.searching
 
 pub overflow_add-len : goal.overflow_add-len
 overflow_add-len g c =

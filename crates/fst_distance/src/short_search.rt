@@ -12,7 +12,7 @@ ghost use Rattle.fst_machine.specs.Machine.{most_states, valued};
 ghost use Rattle.fst_trim.specs.Links.{epsilon_links};
 ghost use Rattle.fst_distance.specs.Closure.{IsClosure, valued_reached};
 ghost use Rattle.fst_distance.specs.Hops.{Better, IsHop, IsNet};
-ghost use Rattle.fst_distance.specs.Near.{ArePlaced, HasNoPlaces, IsMet, Offered, Spreading, costs_of, names_of, one_at, place_of};
+ghost use Rattle.fst_distance.specs.Near.{ArePlaced, HasNoPlaces, IsMet, Offered, ShortSearch, costs_of, names_of, one_at, place_of};
 
 use crate::unmeeting::Reached;
 use fst_machine::Fst;
@@ -101,7 +101,7 @@ fn hand_on<W: Weight>(
     ensures placed { ArePlaced places.new.items (names_of reached.new.items) }
     ensures states { length places.new.items ≡ length links.now }
     ensures next { IfOk result (λ o. IfSome o (λ next. next ≤ length reached.new.items)) }
-    ensures spreads { IfOk result (λ o. IfSome o (λ next. (source : ℕ → Cost) → Spreading W.KIND (IsHop W.value [] links.now) source at places.old.items (costs_of W.value reached.old.items) → Spreading W.KIND (IsHop W.value [] links.now) source next places.new.items (costs_of W.value reached.new.items))) }
+    ensures goes_on { IfOk result (λ o. IfSome o (λ next. (source : ℕ → Cost) → ShortSearch W.KIND (IsHop W.value [] links.now) source at places.old.items (costs_of W.value reached.old.items) → ShortSearch W.KIND (IsHop W.value [] links.now) source next places.new.items (costs_of W.value reached.new.items))) }
 {
     let state = reached[at].state;
     let so_far = reached[at].distance;
@@ -116,7 +116,7 @@ fn hand_on<W: Weight>(
 }
 
 /// Searches from a state, and tells whether each state has its distance; if not, the search was given up.
-fn spread<W: Weight>(
+fn try_search<W: Weight>(
     places: &mut Vec<u32>,
     reached: &mut Vec<Reached<W>>,
     links: &Links<W>,
@@ -129,7 +129,7 @@ fn spread<W: Weight>(
     requires blank { HasNoPlaces (length links.now) places.old.items }
     ensures placed { ArePlaced places.new.items (names_of reached.new.items) }
     ensures states { length places.new.items ≡ length links.now }
-    ensures spread { IfOk result (λ soon. soon ≡ true → Spreading W.KIND (IsHop W.value [] links.now) (one_at W.KIND state) (length reached.new.items) places.new.items (costs_of W.value reached.new.items)) }
+    ensures found { IfOk result (λ soon. soon ≡ true → ShortSearch W.KIND (IsHop W.value [] links.now) (one_at W.KIND state) (length reached.new.items) places.new.items (costs_of W.value reached.new.items)) }
 {
     meet(places, reached, state, W::one())?;
     let mut at = 0;
@@ -174,7 +174,7 @@ pub(crate) fn near<W: Weight>(
 {
     let _states = fst.states();
     reached.clear();
-    let soon = spread(places, reached, links, state);
+    let soon = try_search(places, reached, links, state);
     displace(places, reached.as_slice());
     soon
 }

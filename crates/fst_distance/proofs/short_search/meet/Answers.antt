@@ -3,10 +3,10 @@ use Rattle.std.proofs.lemmas.List.{length-append, length-map, map-append}
 use Rattle.fst_semiring.specs.Cost.{Cost}
 use Rattle.fst_distance.specs.Closure.{Reached}
 use Rattle.fst_distance.specs.Near.{ArePlaced, IsMet, costs_of, names_of}
-use Rattle.fst_distance.proofs.Spread.{met_few, met_listed, met_placed}
-use Rattle.fst_distance.proofs.spreading.meet.Goals.{In_ok-push}
-use Rattle.fst_distance.proofs.spreading.meet.Given.{Over}
-use Rattle.fst_distance.proofs.spreading.meet.Goals as goal
+use Rattle.fst_distance.proofs.ShortSearch.{met_few, met_listed, met_placed}
+use Rattle.fst_distance.proofs.short_search.meet.Goals.{In_ok-push}
+use Rattle.fst_distance.proofs.short_search.meet.Given.{Over}
+use Rattle.fst_distance.proofs.short_search.meet.Goals as goal
 
 -- how many have been met
 counted : (g : Over) (c : In_ok-push g) → length c.push.new.self.items ≡ length c.args.reached.now.items + 1

@@ -18,7 +18,7 @@ use Rattle.fst_trim.specs.Links.{Link}
 use Rattle.fst_distance.specs.Beginning.{IsOnly}
 use Rattle.fst_distance.specs.Closure.{Reached}
 use Rattle.fst_distance.specs.Hops.{Hop, Arrives, IsHop, NoWorse, link_hop}
-use Rattle.fst_distance.specs.Near.{ArePlaced, Gives, HasNoPlaces, IsMet, Keeps, Offered, Spreading, costs_of, distance_by, names_of, one_at, place_of}
+use Rattle.fst_distance.specs.Near.{ArePlaced, Gives, HasNoPlaces, IsMet, Keeps, Offered, ShortSearch, costs_of, distance_by, names_of, one_at, place_of}
 use Rattle.fst_distance.proofs.Looking.{Has-map, read_Has}
 use Rattle.fst_distance.proofs.Order.{before_infinite}
 use Rattle.fst_distance.proofs.Rounds.{arrives_on}
@@ -248,8 +248,8 @@ only_one kind state = record {
 
 module _ (kind : ArcType) (Goes : Hop → Type 0) where
   -- the first state is met
-  pub spreading_begins : (state n : ℕ) (value : Cost) (places now : List ℕ) (more : List Cost) → value ≡ one_of kind → HasNoPlaces n places → IsMet state value 0 places now [] more → Spreading kind Goes (one_at kind state) 0 now more
-  spreading_begins state n value places now more is blank m = record {
+  pub short_search_begins : (state n : ℕ) (value : Cost) (places now : List ℕ) (more : List Cost) → value ≡ one_of kind → HasNoPlaces n places → IsMet state value 0 places now [] more → ShortSearch kind Goes (one_at kind state) 0 now more
+  short_search_begins state n value places now more is blank m = record {
     begins = λ q. begins q (cases_eq q state);
     reached = λ q. reached q (cases_eq q state);
     closed = λ h goes low. closed h low (cases_eq h.from state);
@@ -306,7 +306,7 @@ module _ (kind : ArcType) (Goes : Hop → Type 0) where
       pub least : next ≤ at + 1
       pub place : place_of places state ≡ at + 1
 
-    pub handing_begins : (at state : ℕ) (places names : List ℕ) (costs : List Cost) → ArePlaced places names → place_of places state ≡ at + 1 → Spreading kind Goes source at places costs
+    pub handing_begins : (at state : ℕ) (places names : List ℕ) (costs : List Cost) → ArePlaced places names → place_of places state ≡ at + 1 → ShortSearch kind Goes source at places costs
         → Handing at state (distance_by places costs state) (at + 1) [] places costs
     handing_begins at state places names costs are here s = record {
       begins = s.begins;
@@ -433,7 +433,7 @@ module _ (kind : ArcType) (Goes : Hop → Type 0) where
 
     -- all hops of the state have been looked at
     pub handing_ends : (at state : ℕ) (so_far : Cost) (next : ℕ) (looked : List Hop) (places : List ℕ) (costs : List Cost) → Handing at state so_far next looked places costs
-        → ((h : Hop) → Goes h → h.from ≡ state → Has looked h) → Spreading kind Goes source next places costs
+        → ((h : Hop) → Goes h → h.from ≡ state → Has looked h) → ShortSearch kind Goes source next places costs
     handing_ends at state so_far next looked places costs t all = record {
       begins = t.begins;
       reached = t.reached;

@@ -7,8 +7,8 @@ use Rattle.fst_distance.specs.Closure.{Reached}
 use Rattle.fst_distance.specs.Hops.{NoWorse}
 use Rattle.fst_distance.specs.Near.{ArePlaced, Offered, costs_of, distance_by, names_of, place_of}
 use Rattle.fst_distance.proofs.Order.{better_no_worse, better_or_not_at}
-use Rattle.fst_distance.proofs.Spread.{changed_offered, costs_set, distance_listed, kept_offered, names_set, place_low}
-use Rattle.fst_distance.proofs.spreading.offer.Goals as goal
+use Rattle.fst_distance.proofs.ShortSearch.{changed_offered, costs_set, distance_listed, kept_offered, names_set, place_low}
+use Rattle.fst_distance.proofs.short_search.offer.Goals as goal
 
 read_place : (places : List ℕ) (state place : ℕ) → state < length places → place ≡ get_or places state place → place_of places state ≡ place
 read_place places state place low is = get_or_from_slice_get places state place 0 (slice_get_read places (length places) state place refl low is)

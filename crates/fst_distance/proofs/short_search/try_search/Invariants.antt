@@ -1,7 +1,7 @@
 use Rattle.std.proofs.Common.{◌≡◌, ◌+◌, ◌-◌, ◌*◌, ◌≤◌, [], length}
 use Rattle.fst_distance.specs.Hops.{IsHop}
-use Rattle.fst_distance.specs.Near.{ArePlaced, Spreading, costs_of, names_of, one_at}
-use Rattle.fst_distance.proofs.spreading.spread.Given as goal
+use Rattle.fst_distance.specs.Near.{ArePlaced, ShortSearch, costs_of, names_of, one_at}
+use Rattle.fst_distance.proofs.short_search.try_search.Given as goal
 
 abbrev pub invariant-loop-at : goal.invariant-loop-at
 invariant-loop-at g l =
@@ -11,7 +11,7 @@ invariant-loop-at g l =
       size : length l.places.items ≡ length l.links;
       inside : l.at ≤ length l.reached.items;
       takes : l.takes ≤ 2 * length l.links + 65;
-      spreading : Spreading g.W.Weight.KIND (IsHop value [] l.links) (one_at g.W.Weight.KIND l.state) l.at l.places.items (costs_of value l.reached.items);
+      searching : ShortSearch g.W.Weight.KIND (IsHop value [] l.links) (one_at g.W.Weight.KIND l.state) l.at l.places.items (costs_of value l.reached.items);
     }
 
 abbrev pub decreases-loop-at : goal.decreases-loop-at
