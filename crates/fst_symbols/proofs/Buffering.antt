@@ -1,9 +1,10 @@
 -- Names that stand one behind the other in one buffer, with one more.
 use Rattle.std.proofs.Common.{◌≡◌, ℕ, zero, suc, ◌+◌, ◌-◌, ◌≤◌, false, List, [], ◌∷◌, ◌++◌, length, take, drop, Option, None, Some, refl, sym, ap, ◌∙◌, subst, arith}
-use Rattle.std.specs.Prelude.{slice_get}
+use Rattle.std.specs.Prelude.{slice_get, sum_by}
 use Rattle.std.specs.Option.{option_map}
 use Rattle.std.specs.Str.{bytes_eq}
-use Rattle.std.proofs.lemmas.List.{drop-append-le, take-append-le}
+use Rattle.std.proofs.lemmas.List.{drop-append-le, length-drop, length-take-le, take-append-le}
+use Rattle.std.proofs.lemmas.List.Sums.{sum_by-cons}
 use Rattle.std.proofs.lemmas.Option.{same_Some}
 use Rattle.std.proofs.Math.Seq.{drop-append_seam, take-length}
 use Rattle.fst_symbols.specs.declared.row_list.Row.{Row}
@@ -108,6 +109,22 @@ Fills-push first rows end behind number h more =
 
 pub symbols-push : (first : ℕ) (bytes name : List ℕ) (rows : List Row) (behind number : ℕ) → Fills first rows (length bytes) → behind ≡ length bytes + length name → symbols_from first (bytes ++ name) (rows ++ record { behind = behind; number = number } ∷ []) ≡ symbols_from first bytes rows ++ record { name = name; number = number } ∷ []
 symbols-push first bytes name rows behind number h last = symbols-push-by first bytes name rows behind number (by-recursion first rows (length bytes) h) last
+
+-- the names have as many bytes together as they fill
+length-part : (bytes : List ℕ) (first behind : ℕ) → first ≤ behind → behind ≤ length bytes → length (part_of bytes first behind) ≡ behind - first
+length-part bytes first behind order high = length-take-le (behind - first) (drop first bytes) (omega (arith, length-drop first bytes))
+
+name_bytes-by : (first : ℕ) (bytes : List ℕ) (rows : List Row) (end : ℕ) → FillsBy first rows end → end ≤ length bytes → first + sum_by (λ s. length s.name) (symbols_from first bytes rows) ≡ end
+name_bytes-by first bytes [] end h high = omega (arith, h)
+name_bytes-by first bytes (r ∷ rows) end h high =
+    let more = name_bytes-by r.behind bytes rows end h.1 high in
+    let low = ends r.behind rows end h.1 in
+    let own = length-part bytes first r.behind h.0 (omega (arith, low, high)) in
+    let all = sum_by-cons (λ (s : Symbol). length s.name) (record { name = part_of bytes first r.behind; number = r.number }) (symbols_from r.behind bytes rows) in
+    omega (arith, more, own, all, h.0)
+
+pub name_bytes : (bytes : List ℕ) (rows : List Row) → Fills 0 rows (length bytes) → sum_by (λ s. length s.name) (symbols_from 0 bytes rows) ≡ length bytes
+name_bytes bytes rows h = let all = name_bytes-by 0 bytes rows (length bytes) (by-recursion 0 rows (length bytes) h) (omega arith) in omega (arith, all)
 
 -- whether a place has a name, by its own
 pub name_told : (symbols : List Symbol) (place : ℕ) (name own : List ℕ) → option_map (λ s. s.name) (slice_get symbols place) ≡ Some own → bytes_eq name own ≡ has_name symbols place name

@@ -62,6 +62,15 @@ IsNamed-nil code firsts others none no-other = record {
   numbered = λ m. ap (λ (o : Option ℕ). number_in [] (option_and_then (λ first. beside [] others first m) o)) (none (code m));
 }
 
+-- a table that tells the same
+pub IsNamed-same : (code : List ℕ → ℕ) (symbols : List Symbol) (firsts codes : ℕ → Option ℕ) (others : List ℕ → Option ℕ) → ((n : ℕ) → codes n ≡ firsts n) → IsNamedAmong code symbols firsts others → IsNamedAmong code symbols codes others
+IsNamed-same code symbols firsts codes others same h = record {
+  first_within = λ n p e. h.first_within n p (sym (same n) ∙ e);
+  other_within = h.other_within;
+  later = λ m e. h.later m (sym (same (code m)) ∙ e);
+  numbered = λ m. ap (λ (o : Option ℕ). number_in symbols (option_and_then (λ first. beside symbols others first m) o)) (same (code m)) ∙ h.numbered m;
+}
+
 module _ (code : List ℕ → ℕ) (symbols : List Symbol) (firsts : ℕ → Option ℕ) (others : List ℕ → Option ℕ) (h : IsNamedAmong code symbols firsts others) where
   -- a place of a name is one of a row
   beside-within : (f p : ℕ) (m : List ℕ) → f < length symbols → beside symbols others f m ≡ Some p → p < length symbols

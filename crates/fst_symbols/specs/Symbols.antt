@@ -1,6 +1,7 @@
 -- Symbol tables: names of labels. (OpenFst Quick Tour, "Creating FSTs": a table maps symbols to label
 -- numbers, and number 0 is epsilon. The range of the numbers is this project's own.)
-use Rattle.std.specs.Prelude.{◌≡◌, ℕ, ◌<◌, ◌≤◌, ◌==◌, false, List, [], ◌∷◌, length, map, nat_eq, Option, None, Some, All, if◌then◌else◌}
+use Rattle.std.specs.Prelude.{◌≡◌, ℕ, ◌<◌, ◌≤◌, ◌==◌, false, List, [], ◌∷◌, length, map, nat_eq, Option, None, Some, All, sum_by, if◌then◌else◌}
+use Rattle.std.specs.Int.{div_ceil}
 use Rattle.std.specs.List.{IsDistinct}
 use Rattle.std.specs.Str.{bytes_eq}
 use Rattle.fst_fields.specs.Lines.{is_line_end, is_separator}
@@ -37,3 +38,7 @@ number_of (s ∷ symbols) name = if bytes_eq name s.name then Some s.number else
 abbrev pub name_of : List Symbol → ℕ → Option (List ℕ)
 name_of [] label = None
 name_of (s ∷ symbols) label = if label == s.number then Some s.name else name_of symbols label
+
+-- the mean length of a name, rounded up; 0 where there are none
+abbrev pub mean_name_length : List Symbol → ℕ
+mean_name_length symbols = div_ceil (sum_by (λ s. length s.name) symbols) (length symbols)

@@ -91,8 +91,7 @@ impl NameIndex {
         ensures noted { IfOk result (λ new. new ≡ true → (number : ℕ) → IsIndexOf (take place (symbols_of rows.now) ++ record { name = name.now; number = number } ∷ []) self.new) }
     {
         let code = self.coding.code(name);
-        let Some(first) = self.firsts.find(code) else {
-            self.firsts.add(code, place)?;
+        let Some(first) = self.firsts.find_or_add(code, place)? else {
             return Ok(true);
         };
         if self.beside(rows, first, name).is_some() {

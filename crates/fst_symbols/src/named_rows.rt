@@ -7,7 +7,8 @@ ghost use Rattle.std.specs.Str.{bytes_eq};
 ghost use Rattle.fst_table.specs.Placed.{room_in};
 ghost use Rattle.fst_symbols.specs.Codes.{seeded_by};
 ghost use Rattle.fst_symbols.specs.Listed.{symbols_of};
-ghost use Rattle.fst_symbols.specs.Symbols.{number_of};
+ghost use Rattle.fst_symbols.specs.Places.{is_own};
+ghost use Rattle.fst_symbols.specs.Symbols.{mean_name_length, number_of};
 ghost use Rattle.fst_symbols.specs.Named.{IsAdded, IsNamed};
 
 use crate::coding::Coding;
@@ -53,6 +54,20 @@ impl NamedRows {
             return None;
         }
         Some(self.rows.name(place))
+    }
+
+    /// Whether a number is the place of the row that has it. Takes no memory.
+    pub fn is_own(&self, number: u32) -> bool
+        ensures { result ≡ is_own (symbols_of self.now.rows) number }
+    {
+        (number as usize) < self.rows.len() && self.rows.number(number) == number
+    }
+
+    /// The mean length of the names, rounded up; 0 where there are none. Takes no memory.
+    pub fn mean_name_length(&self) -> usize
+        ensures { result ≡ mean_name_length (symbols_of self.now.rows) }
+    {
+        self.rows.mean_name_length()
     }
 
     /// Adds a row after the others, and returns its place; `None` where a row has its name. After an `Err` or `None` the

@@ -4,6 +4,7 @@ ghost use Rattle.std.specs.Prelude.{◌≡◌, ◌<◌, ◌≤◌, ◌∷◌, �
 ghost use Rattle.std.specs.Option.{option_map};
 ghost use Rattle.fst_symbols.specs.Buffered.{Fills, first_of, part_of};
 ghost use Rattle.fst_symbols.specs.Places.{has_name};
+ghost use Rattle.fst_symbols.specs.Symbols.{mean_name_length};
 
 use std::alloc::{AllocError, Global};
 
@@ -87,6 +88,16 @@ impl RowList {
         ensures { option_map (λ s. s.number) (slice_get (symbols_of self.now) place) ≡ Some result }
     {
         self.rows[place as usize].number
+    }
+
+    /// The mean length of the names, rounded up; 0 where there are none. Takes no memory.
+    pub fn mean_name_length(&self) -> usize
+        ensures { result ≡ mean_name_length (symbols_of self.now) }
+    {
+        if self.rows.is_empty() {
+            return 0;
+        }
+        self.bytes.len().div_ceil(self.rows.len())
     }
 
     /// Whether a row has a name. Takes no memory.

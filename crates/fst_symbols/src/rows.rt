@@ -1,14 +1,16 @@
 //! The rows of a table in order, found by name and by number.
 
-ghost use Rattle.std.specs.Prelude.{◌≡◌, ◌*◌, ◌≤◌, min, [], false, All, IfOk, IfSome, OnOk, vec_capacity};
+ghost use Rattle.std.specs.Prelude.{◌≡◌, ◌*◌, ◌<◌, ◌≤◌, ◌==◌, ℕ, if◌then◌else◌, min, [], false, All, IfOk, IfSome, None, OnOk, vec_capacity};
 ghost use Rattle.std.specs.Option.{option_map};
 ghost use Rattle.fst_fields.specs.Decimal.{greatest_label};
 ghost use Rattle.fst_fields.specs.Lines.{fields_of, is_line_end};
 ghost use Rattle.fst_fields.specs.Texts.{IsRead};
+ghost use Rattle.fst_table.specs.Found.{found_in};
 ghost use Rattle.fst_table.specs.Placed.{room_in};
-ghost use Rattle.fst_symbols.specs.Symbols.{IsName, name_of, number_of};
+ghost use Rattle.fst_symbols.specs.Places.{noted_place};
+ghost use Rattle.fst_symbols.specs.Symbols.{IsName, mean_name_length, name_of, number_of};
 ghost use Rattle.fst_symbols.specs.Reading.{after_line, symbol_of, with_symbol};
-ghost use Rattle.fst_symbols.specs.Kept.{IsKept, symbols_in};
+ghost use Rattle.fst_symbols.specs.Kept.{IsKept, place_in, symbols_in};
 
 use crate::fault::SymbolsFault;
 use crate::named_rows::NamedRows;
@@ -59,8 +61,42 @@ impl Rows {
         requires { IsKept self.now }
         ensures { option_map (λ name. name.now) result ≡ name_of (symbols_in self.now) number }
     {
-        let place = self.places.find(u64::from(number))?;
+        let place = self.place(number)?;
         self.named.name(place)
+    }
+
+    /// The mean length of the names, rounded up; 0 where there are none.
+    pub fn mean_name_length(&self) -> usize
+        ensures { result ≡ mean_name_length (symbols_in self.now) }
+    {
+        self.named.mean_name_length()
+    }
+
+    /// The place of a number. Mostly it is the number itself.
+    fn place(&self, number: u32) -> Option<u32>
+        ensures { result ≡ place_in self.now number }
+    {
+        if self.named.is_own(number) {
+            return Some(number);
+        }
+        self.places.find(u64::from(number))
+    }
+
+    /// The place of the number of the last row, if an earlier row has it; else the number is noted with its place, where
+    /// that is not the number itself.
+    fn find_or_note(&mut self, number: u32, place: u32) -> Result<Option<u32>, AllocError>
+        requires { place < 4294967295 }
+        ensures rows { self.new.named ≡ self.old.named }
+        ensures place { IfOk result (λ o. o ≡ (if number == place then found_in self.old.places number else place_in self.old number)) }
+        ensures noted { IfOk result (λ o. o ≡ None → (n : ℕ) → found_in self.new.places n ≡ noted_place (found_in self.old.places) number place n) }
+    {
+        if number == place {
+            return Ok(self.places.find(u64::from(number)));
+        }
+        if self.named.is_own(number) {
+            return Ok(Some(number));
+        }
+        self.places.find_or_add(u64::from(number), place)
     }
 
     /// Adds a symbol; the fault, where its name or its number is there. After a fault the rows are no table.
@@ -80,11 +116,9 @@ impl Rows {
         let Some(place) = self.named.add(alloc, name, number)? else {
             return Ok(Err(SymbolsFault::DuplicateSymbol { line }));
         };
-        let number = u64::from(number);
-        if self.places.find(number).is_some() {
+        if self.find_or_note(number, place)?.is_some() {
             return Ok(Err(SymbolsFault::DuplicateNumber { line }));
         }
-        self.places.add(number, place)?;
         Ok(Ok(()))
     }
 

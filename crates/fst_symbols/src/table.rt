@@ -3,9 +3,9 @@
 ghost use Rattle.std.specs.Prelude.{◌≡◌, ◌+◌, ◌-◌, ◌/◌, ◌≤◌, min, [], IfOk, length, vec_capacity};
 ghost use Rattle.std.specs.List.{count_by};
 ghost use Rattle.std.specs.Option.{option_map};
-ghost use Rattle.fst_fields.specs.Lines.{is_line_end};
+ghost use Rattle.fst_fields.specs.Lines.{is_line_end, lines_of};
 ghost use Rattle.fst_fields.specs.Texts.{IsRead};
-ghost use Rattle.fst_symbols.specs.Symbols.{IsTable, name_of, number_of};
+ghost use Rattle.fst_symbols.specs.Symbols.{IsTable, mean_name_length, name_of, number_of};
 ghost use Rattle.fst_symbols.specs.Reading.{Gives, table_of_text};
 ghost use Rattle.fst_symbols.specs.Kept.{IsKept, symbols_in};
 
@@ -67,19 +67,34 @@ impl SymbolTable {
     {
         self.rows.name(label)
     }
+
+    /// The mean length of the names in bytes, rounded up; 0 where there are none. Takes no memory, and no time by the names.
+    pub fn mean_name_length(&self) -> usize
+        ensures { result ≡ mean_name_length self.now }
+    {
+        self.rows.mean_name_length()
+    }
 }
 
-/// How many line ends a text has.
-fn line_ends(bytes: &[u8]) -> usize
-    ensures { result ≡ count_by is_line_end bytes.now }
+/// How many lines a text has.
+fn line_count(bytes: &[u8]) -> usize
+    ensures { result ≡ length (lines_of bytes.now) }
 {
-    let mut ends = 0;
-    for c in bytes {
-        if *c == b'\n' {
-            ends += 1;
-        }
+    let mut lines = 0;
+    let mut rest = bytes;
+    while let Some((_, behind)) = next_line(rest) {
+        lines += 1;
+        rest = behind;
     }
-    ends
+    lines
+}
+
+/// As many as the line ends of a text, or one more, which the last line has that has no end.
+fn most_rows(bytes: &[u8]) -> usize
+    ensures least { count_by is_line_end bytes.now ≤ result }
+    ensures most { result ≤ count_by is_line_end bytes.now + 1 }
+{
+    line_count(bytes)
 }
 
 /// No rows, with room for those of a text. A line has one symbol at most, and takes four bytes then with its end; no name
@@ -90,9 +105,10 @@ fn with_room_for(alloc: Global, bytes: &[u8]) -> Result<Rows, AllocError>
     ensures room { IfOk result (λ r. min (count_by is_line_end bytes.now) (length bytes.now / 4) + 1 ≤ vec_capacity r.named.rows.rows) }
     ensures bytes { IfOk result (λ r. length bytes.now - count_by is_line_end bytes.now ≤ vec_capacity r.named.rows.bytes) }
 {
-    let ends = line_ends(bytes);
-    let rows = ends.min(bytes.len() / 4) + 1;
-    Rows::with_room(alloc, rows, bytes.len().saturating_sub(ends))
+    let lines = most_rows(bytes);
+    let rows = lines.min(bytes.len() / 4) + 1;
+    let ends = lines.saturating_sub(1);
+    Ok(Rows::with_room(alloc, rows, bytes.len().saturating_sub(ends))?)
 }
 
 /// The rows of a text, or the first fault of its first faulty line.

@@ -1,5 +1,5 @@
 -- The printed text of a machine. (OpenFst manual, `fstprint`.)
-use Rattle.std.specs.Prelude.{◌≡◌, ℕ, ◌+◌, ◌==◌, Bool, List, [], ◌∷◌, ◌++◌, map, slice_get, Option, Some, None, Result, Ok, Err, ◌&&◌, ◌||◌, if◌then◌else◌}
+use Rattle.std.specs.Prelude.{◌≡◌, ℕ, ◌+◌, ◌-◌, ◌*◌, ◌^◌, length, min, ◌==◌, Bool, List, [], ◌∷◌, ◌++◌, map, slice_get, Option, Some, None, Result, Ok, Err, ◌&&◌, ◌||◌, if◌then◌else◌}
 use Rattle.std.specs.Option.{is_none, option_map}
 use Rattle.std.specs.List.{flat_map}
 use Rattle.std.specs.Fmt.{decimal}
@@ -8,9 +8,9 @@ use Rattle.fst_semiring.specs.declared.arc_type.ArcType.{ArcType}
 use Rattle.fst_semiring.specs.Cost.{Cost, cost_cmp, is_infinite}
 use Rattle.fst_semiring.specs.Semiring.{one_of}
 use Rattle.fst_semiring.specs.WeightText.{text_of_cost}
-use Rattle.fst_symbols.specs.Symbols.{Symbol, name_of}
+use Rattle.fst_symbols.specs.Symbols.{Symbol, mean_name_length, name_of}
 use Rattle.fst_fields.specs.Reading as reading
-use Rattle.fst_machine.specs.Machine.{Arc, State, Machine}
+use Rattle.fst_machine.specs.Machine.{Arc, State, Machine, arc_total}
 use Rattle.fst_text.specs.Entries.{Entry, arc_entry, final_entry}
 use Rattle.fst_text.specs.declared.fault.PrintFault.{PrintFault}
 use Rattle.fst_text.specs.declared.fault.PrintFault.TheVariants.{NotAcceptor, UnknownSymbol, Memory}
@@ -126,6 +126,20 @@ refusal options m = elim (split_machine options m) [ None ↦ option_map Unknown
 -- the printed text of a machine, or why there is none
 abbrev pub text_of_machine : ArcType → Options → Machine Cost → Result (List ℕ) PrintFault
 text_of_machine kind options m = elim (refusal options m) [ None ↦ Ok (text_of_entries kind options (entries_of_machine m)) | Some fault ↦ Err fault ]
+
+-- the mean length of the names of a side; 0 where it has no symbol table
+abbrev pub mean_length : Option (List Symbol) → ℕ
+mean_length symbols = elim symbols [ None ↦ 0 | Some symbols ↦ mean_name_length symbols ]
+
+-- that of output labels, where these are printed
+abbrev pub output_length : Options → ℕ
+output_length options = if options.acceptor then 0 else mean_length options.osymbols
+
+-- how many bytes are reserved for the text of states: what numbers take, and for each name the mean of its table
+abbrev pub named_room : {V : Type 0} → Options → List (State V) → ℕ
+named_room options states =
+    let arcs = arc_total states in
+    min (arcs * 32 + length states * 16 + arcs * mean_length options.isymbols + arcs * output_length options) (2 ^ 64 - 1)
 
 -- what was returned, seen by view, is this text or this refusal, or memory ran out
 abbrev pub Prints : {X : Type 0} → (X → List ℕ) → Result X PrintFault → Result (List ℕ) PrintFault → Type 0

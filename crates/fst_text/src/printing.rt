@@ -1,11 +1,11 @@
 //! The text of a machine.
 
-ghost use Rattle.std.specs.Prelude.{◌≡◌, ◌<◌, ◌≤◌, ◌+◌, ◌*◌, ◌==◌, ◌∷◌, ◌++◌, if◌then◌else◌, [], length, map, true, None, Some, IfOk, OnOk};
+ghost use Rattle.std.specs.Prelude.{◌≡◌, ◌<◌, ◌≤◌, ◌+◌, ◌*◌, ◌==◌, ◌∷◌, ◌++◌, if◌then◌else◌, [], length, map, true, None, Some, IfOk, OnOk, vec_capacity};
 ghost use Rattle.std.specs.Fmt.{decimal};
 ghost use Rattle.std.specs.Option.{option_map};
 ghost use Rattle.fst_machine.specs.Machine.{arc_total, most_arcs, valued, valued_arc, valued_state};
 ghost use Rattle.fst_text.specs.Entries.{arc_entry};
-ghost use Rattle.fst_text.specs.Printed.{Names, Prints, behind_tabs, entries_at, field_of_label, final_entries, first_unnamed, is_numbered, label_fields, labels_of_arc, other_entries, split_arc, split_state, text_of_entries, text_of_machine, unnamed_label, weight_fields};
+ghost use Rattle.fst_text.specs.Printed.{Names, Prints, behind_tabs, entries_at, field_of_label, final_entries, first_unnamed, is_numbered, label_fields, labels_of_arc, mean_length, named_room, other_entries, output_length, split_arc, split_state, text_of_entries, text_of_machine, unnamed_label, weight_fields};
 
 use crate::fault::PrintFault;
 use crate::line::{
@@ -323,11 +323,64 @@ fn split_state<W: Weight>(fst: &Fst<W>) -> Option<PrintFault>
     None
 }
 
-/// The bytes that are reserved for a text: most machines fit, and room that stays empty costs no memory.
+/// The bytes that are reserved for a text whose labels are numbers: most machines fit, and room that stays empty costs no
+/// memory.
 fn text_room<W: Weight>(fst: &Fst<W>) -> usize
     ensures { result ≡ arc_total fst.now.states * 32 + length fst.now.states * 16 }
 {
     fst.arc_count() as usize * ARC_ROOM + fst.states() as usize * STATE_ROOM
+}
+
+/// The mean length of the names of a side; 0 where it has no symbol table.
+fn mean_length(symbols: Option<&SymbolTable>) -> usize
+    ensures { result ≡ mean_length (option_map (λ t. t.now) symbols.entry) }
+{
+    match symbols {
+        Some(symbols) => symbols.mean_name_length(),
+        None => 0,
+    }
+}
+
+/// The mean length of the names of output labels; 0 where these are not printed, or printed as numbers.
+fn output_length(options: &TextOptions) -> usize
+    ensures { result ≡ output_length options.now }
+{
+    if options.acceptor {
+        0
+    } else {
+        mean_length(options.osymbols)
+    }
+}
+
+/// The bytes that are reserved for a text: for each name that is printed the mean length of those of its table, beside what
+/// numbers take. So a text with long names is not copied while it grows.
+fn named_room<W: Weight>(fst: &Fst<W>, options: &TextOptions) -> usize
+    ensures { result ≡ named_room options.now fst.now.states }
+{
+    let arcs = fst.arc_count() as usize;
+    let inputs = arcs.saturating_mul(mean_length(options.isymbols));
+    let outputs = arcs.saturating_mul(output_length(options));
+    text_room::<W>(fst)
+        .saturating_add(inputs)
+        .saturating_add(outputs)
+}
+
+/// Makes an empty room large enough for most texts of the machine. Where there is no memory for that, it is as large as if
+/// all labels were numbers, since the names that are printed may be far shorter than the mean.
+fn reserve<W: Weight>(
+    room: &mut Vec<u8>,
+    fst: &Fst<W>,
+    options: &TextOptions,
+) -> Result<(), AllocError>
+    ensures same { room.new.items ≡ room.old.items }
+    ensures room { OnOk result (arc_total fst.now.states * 32 + length fst.now.states * 16 ≤ vec_capacity room.new) }
+{
+    let numbers = text_room::<W>(fst);
+    let names = named_room::<W>(fst, options);
+    if names > numbers && room.reserve_exact(names).is_ok() {
+        return Ok(());
+    }
+    room.reserve_exact(numbers)
 }
 
 /// The text of a machine with a start, in an empty room; the fault, where a label has no name.
@@ -343,7 +396,7 @@ fn print_from<W: Weight>(
     ensures named { IfOk result (λ r. Names r (unnamed_label options.now (entries_at start (map (valued_state W.value) fst.now.states) ++ other_entries start 0 (map (valued_state W.value) fst.now.states)))) }
 {
     let mut out = room;
-    out.reserve_exact(text_room::<W>(fst))?;
+    reserve::<W>(&mut out, fst, options)?;
     match push_state::<W>(&mut out, options, fst, start)? {
         Ok(()) => {}
         Err(fault) => return Ok(Err(fault)),
