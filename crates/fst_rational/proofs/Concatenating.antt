@@ -1,5 +1,5 @@
 -- What a concatenation relates, and that it is a machine.
-use Rattle.std.proofs.Common.{◌≡◌, ◌⊎◌, inl, inr, ℕ, ◌+◌, ◌<◌, ◌≤◌, true, false, List, [], ◌++◌, Option, None, Some, length, map, refl, sym, ap, ap₂, subst, ◌∙◌, append-nil, arith}
+use Rattle.std.proofs.Common.{◌≡◌, ◌⊎◌, inl, inr, ℕ, ◌+◌, ◌<◌, ◌≤◌, true, false, [], ◌++◌, Option, None, Some, length, map, refl, sym, ap, ap₂, subst, ◌∙◌, append-nil, arith}
 use Rattle.std.specs.Prelude.{IfSome}
 use Rattle.std.specs.List.{All}
 use Rattle.std.specs.Option.{option_map}
@@ -10,7 +10,7 @@ use Rattle.std.proofs.lemmas.List.Sums.{sum_by-append}
 use Rattle.fst_semiring.specs.Cost.{Cost, infinite}
 use Rattle.fst_semiring.specs.declared.arc_type.ArcType.{ArcType}
 use Rattle.fst_semiring.specs.Semiring.{times}
-use Rattle.fst_machine.specs.Machine.{State, Machine, IsArc, IsMachine, arc_total, most_states, valued, valued_state}
+use Rattle.fst_machine.specs.Machine.{State, Machine, IsArc, IsMachine, arc_total, valued, valued_state}
 use Rattle.fst_machine.specs.Graph.{Graph, graph_of, renamed}
 use Rattle.fst_machine.specs.Relation.{Rel, RelFrom}
 use Rattle.fst_machine.specs.Renaming.{Renames}
@@ -141,10 +141,7 @@ IsMachine-concat a b good fine small =
 
 -- ---- as it is made
 
-module _ {V : Type 0} (value : V → Cost) (a b : Machine V) (small : IsSmall (concat_of (valued value a) (valued value b))) where
-  pub concat_ready : (behind : ℕ) → behind ≡ length a.states → behind ≤ most_states
-  concat_ready behind count = omega (arith, count, length-map a.states (valued_state value), concat_states (valued value a) (valued value b), small.states)
-
+module _ {V : Type 0} (value : V → Cost) (a b : Machine V) where
   -- the states of the one, and those of the other behind them
   pub concat_made : {first second : Machine V} {behind : ℕ} {goal start : Option ℕ} → first ≡ a → second ≡ b → behind ≡ length first.states → start ≡ second.start → goal ≡ option_map (λ s. behind + s) start → map (carried 0 false goal) (valued value a).states ++ map (carried behind true None) (valued value b).states ≡ (concat_of (valued value a) (valued value b)).states
   concat_made {first} {second} {behind} {goal} {start} one two count begins there =

@@ -1,5 +1,5 @@
 -- The states of an operand, carried over one by one where they stand.
-use Rattle.std.proofs.Common.{◌≡◌, ℕ, ◌+◌, ◌<◌, ◌≤◌, suc, Bool, true, List, [], ◌∷◌, ◌++◌, Option, None, Some, length, map, take, drop, slice_get, refl, sym, ap, ap₂, subst, ◌∙◌, append-nil, append_assoc, arith}
+use Rattle.std.proofs.Common.{◌≡◌, ℕ, ◌+◌, ◌<◌, ◌≤◌, suc, Bool, List, [], ◌∷◌, ◌++◌, Option, Some, length, map, take, drop, slice_get, refl, sym, ap, ap₂, subst, ◌∙◌, append-nil, append_assoc, arith}
 use Rattle.std.specs.List.{All}
 use Rattle.std.specs.Prelude.{Result, Ok, IfOk}
 use Rattle.std.specs.Option.{option_map}
@@ -8,12 +8,10 @@ use Rattle.std.proofs.lemmas.List.Sums.{sum_by-cons}
 use Rattle.std.proofs.lemmas.Option.{same_Some}
 use Rattle.fst_semiring.specs.Cost.{Cost}
 use Rattle.fst_machine.specs.Extending.{shifted}
-use Rattle.fst_machine.specs.Machine.{Arc, State, Machine, IsArc, IsMachine, arc_total, most_arcs, most_states, valued_arc, valued_state}
+use Rattle.fst_machine.specs.Machine.{Arc, State, IsArc, most_states, valued_arc, valued_state}
 use Rattle.fst_machine.specs.Spreading.{Spread}
-use Rattle.fst_machine.proofs.Valued.{arc_total-valued}
 use Rattle.fst_rational.specs.Changing.{goings, onward}
 use Rattle.fst_rational.specs.Constructions.{carried, kept}
-use Rattle.fst_rational.proofs.Blocks.{arc_total-carried, goings-none}
 use Rattle.fst_rational.proofs.Carrying.{has_places, valued_shifted}
 
 -- a list without an element

@@ -1,9 +1,8 @@
 -- States behind a new start, where there is one.
-use Rattle.std.proofs.Common.{◌≡◌, ℕ, ◌+◌, ◌≤◌, Bool, List, [], ◌∷◌, ◌++◌, Option, None, Some, length, map, refl, sym, ap, ◌∙◌, arith}
-use Rattle.std.proofs.lemmas.List.{length-map}
-use Rattle.std.proofs.lemmas.List.Sums.{sum_by-append, sum_by-cons}
+use Rattle.std.proofs.Common.{◌≡◌, ℕ, ◌+◌, ◌≤◌, Bool, List, [], ◌++◌, Option, None, Some, length, map, refl, sym, ap, ◌∙◌, arith}
+use Rattle.std.proofs.lemmas.List.Sums.{sum_by-append}
 use Rattle.fst_semiring.specs.Cost.{Cost}
-use Rattle.fst_machine.specs.Machine.{Arc, State, arc_total, most_arcs, valued_arc, valued_state}
+use Rattle.fst_machine.specs.Machine.{Arc, State, arc_total, most_arcs, valued_state}
 use Rattle.fst_machine.proofs.Valued.{arc_total-valued}
 use Rattle.fst_rational.specs.Changing.{goings}
 use Rattle.fst_rational.specs.Constructions.{carried, headed}
@@ -17,30 +16,11 @@ module _ {V : Type 0} (value : V → Cost) where
   headed-total : (head : Option V) (arcs : List (Arc V ℕ)) (xs : List (State Cost)) → arc_total (headed value head arcs xs) ≡ arc_total (headed value head arcs []) + arc_total xs
   headed-total head arcs xs = ap arc_total (sym (headed-append head arcs [] xs)) ∙ sum_by-append (λ (t : State Cost). length t.arcs) (headed value head arcs []) xs
 
-  -- there is room for the new start in front of others
-  pub front_fits : {head : Option V} (last : V) (arcs : List (Arc V ℕ)) (old now : List (State V)) → head ≡ Some last → now ≡ old → arc_total (headed value head arcs (map (valued_state value) old)) ≤ most_arcs → arc_total now + length arcs ≤ most_arcs
-  front_fits {head} last arcs old now is same few =
-      let whole = ap (λ (o : Option V). arc_total (headed value o arcs (map (valued_state value) old))) is in
-      let all = sum_by-cons (λ (t : State Cost). length t.arcs) (record { final = value last; arcs = map (valued_arc value) arcs }) (map (valued_state value) old) in
-      omega (arith, few, whole, all, length-map arcs (valued_arc value), arc_total-valued value old, ap arc_total same)
-
-  module _ (head : Option V) (arcs : List (Arc V ℕ)) {none : List (State V)} (empty : none ≡ []) (xs : List (State Cost)) (few : arc_total (headed value head arcs xs) ≤ most_arcs) where
-    -- for it alone
-    pub head_fits : arc_total (headed value head arcs (map (valued_state value) none)) ≤ most_arcs
-    head_fits =
-        let alone = ap (λ (ss : List (State V)). arc_total (headed value head arcs (map (valued_state value) ss))) empty in
-        omega (arith, few, alone, headed-total head arcs xs)
-
-    -- and for others behind it
-    module _ (list : List (State V)) (front : map (valued_state value) list ≡ headed value head arcs (map (valued_state value) none)) where
-      begins : map (valued_state value) list ≡ headed value head arcs []
-      begins = front ∙ ap (λ (ss : List (State V)). headed value head arcs (map (valued_state value) ss)) empty
-
-      pub behind_fits : arc_total list + arc_total xs ≤ most_arcs
-      behind_fits = omega (arith, few, headed-total head arcs xs, ap arc_total begins, arc_total-valued value list)
-
-      pub behind_put : (new : List (State V)) → map (valued_state value) new ≡ map (valued_state value) list ++ xs → map (valued_state value) new ≡ headed value head arcs xs
-      behind_put new put = put ∙ (ap (λ (ss : List (State Cost)). ss ++ xs) begins ∙ headed-append head arcs [] xs)
+  -- there is room for others behind the new start, which stands alone
+  pub behind_fits : (head : Option V) (arcs : List (Arc V ℕ)) {none : List (State V)} → none ≡ [] → (xs : List (State Cost)) → arc_total (headed value head arcs xs) ≤ most_arcs → (list : List (State V)) → map (valued_state value) list ≡ headed value head arcs (map (valued_state value) none) → arc_total list + arc_total xs ≤ most_arcs
+  behind_fits head arcs empty xs few list front =
+      let begins : map (valued_state value) list ≡ headed value head arcs [] = front ∙ ap (λ (ss : List (State V)). headed value head arcs (map (valued_state value) ss)) empty in
+      omega (arith, few, headed-total head arcs xs, ap arc_total begins, arc_total-valued value list)
 
   -- there is room for the states of an operand themselves
   pub own_fits : (head : Option V) (arcs : List (Arc V ℕ)) (by : ℕ) (keeps : Bool) (target : Option ℕ) (states : List (State V)) {room : ℕ} → arc_total (headed value head arcs (map (carried by keeps target) (map (valued_state value) states))) ≤ room → arc_total states + goings target (map (valued_state value) states) ≤ room

@@ -11,7 +11,7 @@ use Rattle.fst_semiring.specs.declared.arc_type.ArcType.{ArcType}
 use Rattle.fst_semiring.specs.declared.arc_type.ArcType.TheVariants.{Boolean, Tropical, MinMax, Lexicographic}
 use Rattle.fst_semiring.specs.Semiring.{one_of, times}
 use Rattle.fst_semiring.proofs.Laws.{one_times}
-use Rattle.fst_machine.specs.Machine.{Arc, State, Machine, IsArc, IsMachine, arc_total, most_states, valued, valued_arc, valued_state}
+use Rattle.fst_machine.specs.Machine.{Arc, State, Machine, IsArc, IsMachine, arc_total, valued, valued_arc, valued_state}
 use Rattle.fst_machine.specs.Graph.{Graph, graph_of}
 use Rattle.fst_machine.specs.Letters.{before}
 use Rattle.fst_machine.specs.Relation.{Rel, RelFrom}
@@ -145,18 +145,11 @@ IsMachine-union kind a b good fine small =
 
 -- ---- as it is made
 
-module _ {V : Type 0} (value : V → Cost) (kind : ArcType) (a b : Machine V) (small : IsSmall (union_of kind (valued value a) (valued value b))) where
-  -- where the states after those of the first operand stand
-  places : {k : ℕ} → k ≡ length a.states → k + 1 ≡ length (valued value a).states + 1
-  places {k} count = omega (arith, count, length-map a.states (valued_state value))
-
-  pub union_ready : {k : ℕ} → k ≡ length a.states → k + 1 ≤ most_states
-  union_ready {k} count = omega (arith, places count, union_states kind (valued value a) (valued value b), small.states)
-
+module _ {V : Type 0} (value : V → Cost) (kind : ArcType) (a b : Machine V) where
   -- the states of the one behind the new start with its arcs, and those of the other behind them
   pub union_made : {first second : Machine V} {k : ℕ} {own arcs : List (Arc V ℕ)} {s t : Option ℕ} {z : V} → first ≡ a → second ≡ b → k ≡ length first.states → s ≡ first.start → t ≡ second.start → map (valued_arc value) own ≡ entry kind 1 s ++ entry kind (k + 1) t → arcs ≡ own → value z ≡ infinite → headed value (Some z) arcs (map (carried 1 true None) (valued value a).states) ++ map (carried (k + 1) true None) (valued value b).states ≡ (union_of kind (valued value a) (valued value b)).states
   union_made {first} {second} {k} {own} {arcs} {s} {t} {z} one two count begins starts enters same last =
-      let stand = places (count ∙ ap (λ (m : Machine V). length m.states) one) in
+      let stand : k + 1 ≡ length (valued value a).states + 1 = omega (arith, count, ap (λ (m : Machine V). length m.states) one, length-map a.states (valued_state value)) in
       let heads : map (valued_arc value) own ≡ (union_start kind (valued value a) (valued value b)).arcs = enters ∙ (ap₂ (λ (o p : Option ℕ). entry kind 1 o ++ entry kind (k + 1) p) (begins ∙ ap (λ (m : Machine V). m.start) one) (starts ∙ ap (λ (m : Machine V). m.start) two) ∙ ap (λ (j : ℕ). entry kind 1 a.start ++ entry kind j b.start) stand) in
       ap (λ (j : ℕ). headed value (Some z) arcs (map (carried 1 true None) (valued value a).states) ++ map (carried j true None) (valued value b).states) stand
       ∙ ap₂ (λ (w : Cost) (os : List (Arc Cost ℕ)). record { final = w; arcs = os } ∷ (map (carried 1 true None) (valued value a).states ++ map (carried (length (valued value a).states + 1) true None) (valued value b).states)) last (ap (map (valued_arc value)) same ∙ heads)

@@ -21,7 +21,7 @@ carry-requires-clause-all g c =
     let value = g.W.Weight.value in
     let one = g.P.Operands.one c.args.pair in
     let two = g.P.Operands.two c.args.pair in
-    let parts = concat_made value one two c.requires.small c.first-first.ensures c.second-second.ensures c.states-behind.ensures.value c.start.ensures.value c.shifted.ensures in
+    let parts = concat_made value one two c.first-first.ensures c.second-second.ensures c.states-behind.ensures.value c.start.ensures.value c.shifted.ensures in
     let rest = c.arc_count.ensures ∙ ap (λ (m : Machine g.row.W.Denot). arc_total m.states) c.second-second.ensures in
     omega (arith, front_sized value (map (carried 0 false c.shifted.result) (valued value one).states) c.states-behind.result two (concat_of (valued value one) (valued value two)) c.requires.size parts rest)
 
@@ -30,7 +30,7 @@ carry-requires-clause-machine g c =
     let value = g.W.Weight.value in
     let one = g.P.Operands.one c.args.pair in
     let two = g.P.Operands.two c.args.pair in
-    let parts = concat_made value one two c.requires.small c.first-first.ensures c.second-second.ensures c.states-behind.ensures.value c.start.ensures.value c.shifted.ensures in
+    let parts = concat_made value one two c.first-first.ensures c.second-second.ensures c.states-behind.ensures.value c.start.ensures.value c.shifted.ensures in
     let starts = c.start-start.ensures.value ∙ ap (λ (m : Machine g.row.W.Denot). m.start) c.first-first.ensures in
     let good = same_good value c.first-first.ensures c.states-behind.ensures.machine in
     let fine = same_good value c.second-second.ensures c.states-back.ensures.machine in
@@ -41,6 +41,6 @@ returns g c =
     let value = g.W.Weight.value in
     let one = g.P.Operands.one c.args.pair in
     let two = g.P.Operands.two c.args.pair in
-    let parts = concat_made value one two c.requires.small c.first-first.ensures c.second-second.ensures c.states-behind.ensures.value c.start.ensures.value c.shifted.ensures in
+    let parts = concat_made value one two c.first-first.ensures c.second-second.ensures c.states-behind.ensures.value c.start.ensures.value c.shifted.ensures in
     let starts = c.start-start.ensures.value ∙ ap (λ (m : Machine g.row.W.Denot). m.start) c.first-first.ensures in
     subst (λ (m : Machine Cost). IfOk c.carry.result (λ r. g.P.Operands.seen r ≡ m)) (put_whole (concat_of (valued value one) (valued value two)) c.start-start.result _ starts parts) c.carry.ensures

@@ -23,7 +23,7 @@ carry-requires-clause-all g c =
     let one = g.P.Operands.one c.args.pair in
     let two = g.P.Operands.two c.args.pair in
     let kind = g.W.Weight.KIND in
-    let parts = union_made value kind one two c.requires.small c.first-first.ensures c.second-second.ensures c.states-behind.ensures.value c.start.ensures.value c.start-2.ensures.value c.in_ok-arcs.ensures c.deref.ensures.value c.zero.ensures in
+    let parts = union_made value kind one two c.first-first.ensures c.second-second.ensures c.states-behind.ensures.value c.start.ensures.value c.start-2.ensures.value c.in_ok-arcs.ensures c.deref.ensures.value c.zero.ensures in
     let rest = c.arc_count.ensures ∙ ap (λ (m : Machine g.row.W.Denot). arc_total m.states) c.second-second.ensures in
     omega (arith, front_sized value (headed value (Some c.zero.result) c.deref.result.now (map (carried 1 true None) (valued value one).states)) (c.states-behind.result + 1) two (union_of kind (valued value one) (valued value two)) c.requires.size parts rest)
 
@@ -33,7 +33,7 @@ carry-requires-clause-machine g c =
     let one = g.P.Operands.one c.args.pair in
     let two = g.P.Operands.two c.args.pair in
     let kind = g.W.Weight.KIND in
-    let parts = union_made value kind one two c.requires.small c.first-first.ensures c.second-second.ensures c.states-behind.ensures.value c.start.ensures.value c.start-2.ensures.value c.in_ok-arcs.ensures c.deref.ensures.value c.zero.ensures in
+    let parts = union_made value kind one two c.first-first.ensures c.second-second.ensures c.states-behind.ensures.value c.start.ensures.value c.start-2.ensures.value c.in_ok-arcs.ensures c.deref.ensures.value c.zero.ensures in
     let good = same_good value c.first-first.ensures c.states-behind.ensures.machine in
     let fine = same_good value c.second-second.ensures c.states-back.ensures.machine in
     subst (IsMachine (λ v. v)) (sym (put_whole (union_of kind (valued value one) (valued value two)) (Some 0) _ refl parts)) (IsMachine-union kind (valued value one) (valued value two) good fine c.requires.small)
@@ -44,5 +44,5 @@ returns g c =
     let one = g.P.Operands.one c.args.pair in
     let two = g.P.Operands.two c.args.pair in
     let kind = g.W.Weight.KIND in
-    let parts = union_made value kind one two c.requires.small c.first-first.ensures c.second-second.ensures c.states-behind.ensures.value c.start.ensures.value c.start-2.ensures.value c.in_ok-arcs.ensures c.deref.ensures.value c.zero.ensures in
+    let parts = union_made value kind one two c.first-first.ensures c.second-second.ensures c.states-behind.ensures.value c.start.ensures.value c.start-2.ensures.value c.in_ok-arcs.ensures c.deref.ensures.value c.zero.ensures in
     subst (λ (m : Machine Cost). IfOk c.carry.result (λ r. g.P.Operands.seen r ≡ m)) (put_whole (union_of kind (valued value one) (valued value two)) (Some 0) _ refl parts) c.carry.ensures
