@@ -1,5 +1,5 @@
 -- What star and plus relate, and that they are machines.
-use Rattle.std.proofs.Common.{◌≡◌, ◌⊎◌, ◌↔◌, inl, inr, ℕ, ◌+◌, ◌<◌, ◌≤◌, zero, suc, Bool, true, false, List, [], ◌∷◌, ◌++◌, Option, Some, length, map, slice_get, refl, sym, ap, ap₂, subst, ◌∙◌, append-nil, arith}
+use Rattle.std.proofs.Common.{◌≡◌, ◌⊎◌, ◌↔◌, inl, inr, ℕ, ◌+◌, ◌<◌, zero, suc, Bool, true, false, List, [], ◌∷◌, ◌++◌, Option, Some, length, map, slice_get, refl, sym, ap, ap₂, subst, ◌∙◌, append-nil, arith}
 use Rattle.std.specs.Prelude.{IfSome}
 use Rattle.std.specs.List.{All}
 use Rattle.std.proofs.lemmas.Option.{IfSome_then}
@@ -10,7 +10,7 @@ use Rattle.fst_semiring.specs.Cost.{Cost, infinite}
 use Rattle.fst_semiring.specs.declared.arc_type.ArcType.{ArcType}
 use Rattle.fst_semiring.specs.Semiring.{one_of, times}
 use Rattle.fst_semiring.proofs.Laws.{one_times, times_one}
-use Rattle.fst_machine.specs.Machine.{Arc, State, Machine, IsArc, IsMachine, arc_total, most_arcs, valued, valued_arc, valued_state}
+use Rattle.fst_machine.specs.Machine.{Arc, State, Machine, IsArc, IsMachine, arc_total, valued, valued_arc, valued_state}
 use Rattle.fst_machine.specs.Graph.{Graph, graph_of}
 use Rattle.fst_machine.specs.Letters.{before, input, output, product}
 use Rattle.fst_machine.specs.Paths.{Transition, IsPath, letters}
@@ -18,13 +18,12 @@ use Rattle.fst_machine.specs.Relation.{Rel, RelFrom}
 use Rattle.fst_machine.specs.Continuing.{Continues, Stays, epsilon_arc}
 use Rattle.fst_machine.proofs.Futures.{RelFrom-end, RelFrom-epsilon}
 use Rattle.fst_rational.specs.Changing.{goings}
-use Rattle.fst_rational.specs.Constructions.{carried, closure_of, entry, plus_of, star_of, star_start}
+use Rattle.fst_rational.specs.Constructions.{carried, closure_of, entry, headed, plus_of, star_of}
 use Rattle.fst_rational.specs.Limits.{IsSize, IsSmall, start_count}
 use Rattle.fst_rational.specs.Relations.{Closes, IsFilled, IsProductOf, Said, Triple}
 use Rattle.fst_machine.proofs.Valued.{arc_total-valued}
 use Rattle.fst_rational.proofs.Blocks.{Inside, arc_total-carried, block_continues, block_final, carried-good, start_inside}
 use Rattle.fst_rational.proofs.Continued.{Splits, continue_says, continue_splits, stays_said, stays_says}
-use Rattle.fst_rational.proofs.Putting.{head_put, head_room, next_room}
 use Rattle.fst_rational.proofs.Uniting.{entry-good, entry_count, entry_low, entry_only, one_not_zero}
 
 -- what a name says, at other strings and another weight
@@ -196,64 +195,15 @@ IsMachine-plus a good small =
 
 -- ---- as they are made
 
-module _ {V : Type 0} (value : V → Cost) (kind : ArcType) (a : Machine V) (small : IsSmall (star_of kind (valued value a))) where
-  abbrev made : Machine Cost
-  made = star_of kind (valued value a)
+-- the states of the operand of a star, behind the new start with its arcs
+pub star_made : {V : Type 0} (value : V → Cost) (kind : ArcType) (a : Machine V) (one : List (Arc V ℕ)) {own arcs : List (Arc V ℕ)} {s : Option ℕ} {last : V} {first : Machine V} → first ≡ a → own ≡ [] → s ≡ first.start → map (valued_arc value) one ≡ map (valued_arc value) own ++ entry kind 1 s → arcs ≡ one → value last ≡ one_of kind → headed value (Some last) arcs (map (carried 1 false (Some 0)) (valued value a).states) ≡ (star_of kind (valued value a)).states
+star_made {V} value kind a one borrowed clear begins put same is =
+    let starts : map (valued_arc value) one ≡ entry kind 1 a.start = put ∙ ap₂ (λ (os : List (Arc V ℕ)) (o : Option ℕ). map (valued_arc value) os ++ entry kind 1 o) clear (begins ∙ ap (λ (m : Machine V). m.start) borrowed) in
+    ap₂ (λ (w : Cost) (os : List (Arc Cost ℕ)). record { final = w; arcs = os } ∷ map (carried 1 false (Some 0)) (valued value a).states) is (ap (map (valued_arc value)) same ∙ starts)
 
-  abbrev head : State Cost
-  head = star_start kind (valued value a)
-
-  abbrev round : List (State Cost)
-  round = map (carried 1 false (Some 0)) (map (valued_state value) a.states)
-
-  -- the new start is put, with its arcs
-  module _ {own one arcs : List (Arc V ℕ)} {s : Option ℕ} {old : List (State V)} (clear : own ≡ []) (begins : s ≡ a.start) (put : map (valued_arc value) one ≡ map (valued_arc value) own ++ entry kind 1 s) (empty : old ≡ []) (same : arcs ≡ one) where
-    entries : map (valued_arc value) one ≡ head.arcs
-    entries = put ∙ ap₂ (λ (os : List (Arc V ℕ)) (o : Option ℕ). map (valued_arc value) os ++ entry kind 1 o) clear begins
-
-    pub star_start_room : arc_total old + length arcs ≤ most_arcs
-    star_start_room = head_room value head round made.states old one arcs empty same entries refl small.arcs
-
-    pub star_start_put : {z : V} {new : List (State V)} → value z ≡ one_of kind → new ≡ old ++ record { final = z; arcs = arcs } ∷ [] → map (valued_state value) new ≡ head ∷ []
-    star_start_put {z} {new} last next = head_put value head old new z one arcs empty last same entries next
-
-  -- and the states of the operand after it
-  module _ (one : List (State V)) (first : map (valued_state value) one ≡ head ∷ []) where
-    pub star_room : arc_total one + arc_total round ≤ most_arcs
-    star_room = next_room value (head ∷ []) round [] made.states one first (ap (λ ss. head ∷ ss) (sym (append-nil round))) small.arcs
-
-    pub star_made : (all : List (State V)) → map (valued_state value) all ≡ map (valued_state value) one ++ round → map (valued_state value) all ≡ made.states
-    star_made all second = second ∙ ap (λ ss. ss ++ round) first
-
--- or the new start is put last, in front of the others; these are its arcs
-pub star_heads : {V : Type 0} (value : V → Cost) (kind : ArcType) (a : Machine V) {own : List (Arc V ℕ)} (one : List (Arc V ℕ)) {s : Option ℕ} → own ≡ [] → s ≡ a.start → map (valued_arc value) one ≡ map (valued_arc value) own ++ entry kind 1 s → map (valued_arc value) one ≡ (star_start kind (valued value a)).arcs
-star_heads {V} value kind a one clear begins put = put ∙ ap₂ (λ (os : List (Arc V ℕ)) (o : Option ℕ). map (valued_arc value) os ++ entry kind 1 o) clear begins
-
-pub star_parts : (kind : ArcType) (a : Machine Cost) → (star_of kind a).states ≡ star_start kind a ∷ (map (carried 1 false (Some 0)) a.states ++ [])
-star_parts kind a = ap (λ ss. star_start kind a ∷ ss) (sym (append-nil (map (carried 1 false (Some 0)) a.states)))
-
--- the states of the operand of a plus are put
-module _ {V : Type 0} (value : V → Cost) (a : Machine V) (small : IsSmall (plus_of (valued value a))) {start : Option ℕ} {none : List (State V)} (begins : start ≡ a.start) (empty : none ≡ []) where
-  abbrev all_round : List (State Cost)
-  all_round = map (carried 0 true start) (map (valued_state value) a.states)
-
-  all_parts : (plus_of (valued value a)).states ≡ all_round
-  all_parts = ap (λ (o : Option ℕ). map (carried 0 true o) (map (valued_state value) a.states)) (sym begins)
-
-  pub plus_room : arc_total none + arc_total all_round ≤ most_arcs
-  plus_room = next_room value [] all_round [] (plus_of (valued value a)).states none (ap (map (valued_state value)) empty) (all_parts ∙ sym (append-nil all_round)) small.arcs
-
-  pub plus_made : (all : List (State V)) → map (valued_state value) all ≡ map (valued_state value) none ++ all_round → map (valued_state value) all ≡ (plus_of (valued value a)).states
-  plus_made all put = put ∙ (ap (λ (ss : List (State V)). map (valued_state value) ss ++ all_round) empty ∙ sym all_parts)
-
--- how many arcs they have
-pub star_sized : {V : Type 0} (value : V → Cost) (kind : ArcType) (a : Machine V) {size : ℕ × ℕ} → IsSize (star_of kind (valued value a)) size → size.1 ≡ start_count a.start + (arc_total a.states + goings (Some 0) (map (valued_state value) a.states))
-star_sized value kind a is = omega (arith, is.arcs, star_arcs kind (valued value a), arc_total-valued value a.states)
-
-pub plus_sized : {V : Type 0} (value : V → Cost) (a : Machine V) {size : ℕ × ℕ} {start : Option ℕ} → IsSize (plus_of (valued value a)) size → start ≡ a.start → size.1 ≡ arc_total a.states + goings start (map (valued_state value) a.states)
-plus_sized value a is begins =
-    let goes = ap (λ (o : Option ℕ). goings o (map (valued_state value) a.states)) begins in
-    omega (arith, is.arcs, arc_total-carried 0 true a.start (map (valued_state value) a.states), arc_total-valued value a.states, goes)
+-- and those of the operand of a plus
+pub plus_made : {V : Type 0} (value : V → Cost) (a : Machine V) {start : Option ℕ} → start ≡ a.start → map (carried 0 true start) (valued value a).states ≡ (plus_of (valued value a)).states
+plus_made value a begins = ap (λ (o : Option ℕ). map (carried 0 true o) (valued value a).states) begins
 
 -- the sizes, as they are computed
 pub star_counted : {V : Type 0} (value : V → Cost) (kind : ArcType) (a : Machine V) (states arcs one more on first : ℕ) → one ≡ length a.states → more ≡ arc_total a.states → on ≡ goings (Some 0) (map (valued_state value) a.states) → first ≡ start_count a.start → states ≡ one + 1 → arcs ≡ more + on + first

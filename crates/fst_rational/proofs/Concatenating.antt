@@ -1,5 +1,5 @@
 -- What a concatenation relates, and that it is a machine.
-use Rattle.std.proofs.Common.{◌≡◌, ◌⊎◌, inl, inr, ℕ, ◌+◌, ◌<◌, ◌≤◌, true, false, List, [], ◌++◌, Option, None, Some, length, map, refl, sym, ap, ap₂, subst, ◌∙◌, append-nil, arith}
+use Rattle.std.proofs.Common.{◌≡◌, ◌⊎◌, inl, inr, ℕ, ◌+◌, ◌<◌, ◌≤◌, true, false, [], ◌++◌, Option, None, Some, length, map, refl, sym, ap, ap₂, subst, ◌∙◌, append-nil, arith}
 use Rattle.std.specs.Prelude.{IfSome}
 use Rattle.std.specs.List.{All}
 use Rattle.std.specs.Option.{option_map}
@@ -10,7 +10,7 @@ use Rattle.std.proofs.lemmas.List.Sums.{sum_by-append}
 use Rattle.fst_semiring.specs.Cost.{Cost, infinite}
 use Rattle.fst_semiring.specs.declared.arc_type.ArcType.{ArcType}
 use Rattle.fst_semiring.specs.Semiring.{times}
-use Rattle.fst_machine.specs.Machine.{State, Machine, IsArc, IsMachine, arc_total, most_arcs, most_states, valued, valued_state}
+use Rattle.fst_machine.specs.Machine.{State, Machine, IsArc, IsMachine, arc_total, valued, valued_state}
 use Rattle.fst_machine.specs.Graph.{Graph, graph_of, renamed}
 use Rattle.fst_machine.specs.Relation.{Rel, RelFrom}
 use Rattle.fst_machine.specs.Renaming.{Renames}
@@ -22,7 +22,6 @@ use Rattle.fst_rational.specs.Limits.{IsSize, IsSmall}
 use Rattle.fst_rational.specs.Relations.{Concatenates, IsProduct, Triple}
 use Rattle.fst_machine.proofs.Valued.{arc_total-valued}
 use Rattle.fst_rational.proofs.Blocks.{Inside, arc_total-carried, block_arcs, block_continues, block_final, block_renames, carried-good, goings-none, next_inside, start_inside}
-use Rattle.fst_rational.proofs.Putting.{next_room}
 use Rattle.fst_rational.proofs.Continued.{Splits, continue_says, continue_splits}
 
 module _ (kind : ArcType) (a b : Machine Cost) (good : IsMachine (λ v. v) a) (fine : IsMachine (λ v. v) b) where
@@ -142,47 +141,13 @@ IsMachine-concat a b good fine small =
 
 -- ---- as it is made
 
-module _ {V : Type 0} (value : V → Cost) (a b : Machine V) (small : IsSmall (concat_of (valued value a) (valued value b))) where
-  pub concat_ready : (behind : ℕ) → behind ≡ length a.states → behind ≤ most_states
-  concat_ready behind count = omega (arith, count, length-map a.states (valued_state value), concat_states (valued value a) (valued value b), small.states)
-
-  -- the states of the operands are put, from an empty list on
-  module _ {behind : ℕ} {goal start : Option ℕ} {none : List (State V)} (count : behind ≡ length a.states) (begins : start ≡ b.start) (there : goal ≡ option_map (λ s. behind + s) start) (empty : none ≡ []) where
-    abbrev fronts : List (State Cost)
-    fronts = map (carried 0 false goal) (map (valued_state value) a.states)
-
-    abbrev backs : List (State Cost)
-    backs = map (carried behind true None) (map (valued_state value) b.states)
-
-    pub concat_parts : (concat_of (valued value a) (valued value b)).states ≡ fronts ++ backs
-    concat_parts =
-        let front : behind ≡ length (map (valued_state value) a.states) = count ∙ sym (length-map a.states (valued_state value)) in
-        let leads : goal ≡ option_map (λ s. behind + s) b.start = there ∙ ap (λ (o : Option ℕ). option_map (λ s. behind + s) o) begins in
-        ap₂ (λ (o : Option ℕ) (j : ℕ). map (carried 0 false o) (map (valued_state value) a.states) ++ map (carried j true None) (map (valued_state value) b.states)) (ap (λ (j : ℕ). option_map (λ s. j + s) b.start) (sym front) ∙ sym leads) (sym front)
-
-    pub concat_first_room : arc_total none + arc_total fronts ≤ most_arcs
-    concat_first_room = next_room value [] fronts backs (concat_of (valued value a) (valued value b)).states none (ap (map (valued_state value)) empty) concat_parts small.arcs
-
-    module _ (one : List (State V)) (first : map (valued_state value) one ≡ map (valued_state value) none ++ fronts) where
-      put : map (valued_state value) one ≡ fronts
-      put = first ∙ ap (λ (ss : List (State V)). map (valued_state value) ss ++ fronts) empty
-
-      pub concat_second_room : arc_total one + arc_total backs ≤ most_arcs
-      concat_second_room = next_room value fronts backs [] (concat_of (valued value a) (valued value b)).states one put (concat_parts ∙ ap (λ ss. fronts ++ ss) (sym (append-nil backs))) small.arcs
-
-      pub concat_made : (all : List (State V)) → map (valued_state value) all ≡ map (valued_state value) one ++ backs → map (valued_state value) all ≡ (concat_of (valued value a) (valued value b)).states
-      concat_made all second = second ∙ (ap (λ ss. ss ++ backs) put ∙ sym concat_parts)
-
--- how many arcs it has
-pub concat_sized : {V : Type 0} (value : V → Cost) (a b : Machine V) {size : ℕ × ℕ} (behind : ℕ) (goal start : Option ℕ) → IsSize (concat_of (valued value a) (valued value b)) size → behind ≡ length a.states → start ≡ b.start → goal ≡ option_map (λ s. behind + s) start → size.1 ≡ arc_total a.states + goings goal (map (valued_state value) a.states) + arc_total b.states
-concat_sized value a b behind goal start is count begins there =
-    let m = concat_arcs (valued value a) (valued value b) in
-    let p = arc_total-valued value a.states in
-    let q = arc_total-valued value b.states in
-    let front : behind ≡ length (map (valued_state value) a.states) = count ∙ sym (length-map a.states (valued_state value)) in
-    let same : goal ≡ option_map (λ s. length (map (valued_state value) a.states) + s) b.start = there ∙ ap₂ (λ (j : ℕ) (o : Option ℕ). option_map (λ s. j + s) o) front begins in
-    let goes = ap (λ (o : Option ℕ). goings o (map (valued_state value) a.states)) same in
-    omega (arith, is.arcs, m, p, q, goes)
+module _ {V : Type 0} (value : V → Cost) (a b : Machine V) where
+  -- the states of the one, and those of the other behind them
+  pub concat_made : {first second : Machine V} {behind : ℕ} {goal start : Option ℕ} → first ≡ a → second ≡ b → behind ≡ length first.states → start ≡ second.start → goal ≡ option_map (λ s. behind + s) start → map (carried 0 false goal) (valued value a).states ++ map (carried behind true None) (valued value b).states ≡ (concat_of (valued value a) (valued value b)).states
+  concat_made {first} {second} {behind} {goal} {start} one two count begins there =
+      let front : behind ≡ length (valued value a).states = count ∙ (ap (λ (m : Machine V). length m.states) one ∙ sym (length-map a.states (valued_state value))) in
+      let leads : goal ≡ option_map (λ s. behind + s) b.start = there ∙ ap (λ (o : Option ℕ). option_map (λ s. behind + s) o) (begins ∙ ap (λ (m : Machine V). m.start) two) in
+      ap₂ (λ (o : Option ℕ) (j : ℕ). map (carried 0 false o) (valued value a).states ++ map (carried j true None) (valued value b).states) (leads ∙ ap (λ (j : ℕ). option_map (λ s. j + s) b.start) front) front
 
 -- the size, as it is computed
 pub concat_counted : {V : Type 0} (value : V → Cost) (a b : Machine V) (states arcs one two more less on : ℕ) (target : Option ℕ) → one ≡ length a.states → two ≡ length b.states → more ≡ arc_total a.states → less ≡ arc_total b.states → target ≡ option_map (λ s. one + s) b.start → on ≡ goings target (map (valued_state value) a.states) → states ≡ one + two → arcs ≡ more + on + less

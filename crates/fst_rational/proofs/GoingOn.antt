@@ -1,5 +1,5 @@
 -- The states of an operand, carried over one by one where they stand.
-use Rattle.std.proofs.Common.{◌≡◌, ℕ, ◌+◌, ◌<◌, ◌≤◌, suc, Bool, true, List, [], ◌∷◌, ◌++◌, Option, None, Some, length, map, take, drop, slice_get, refl, sym, ap, ap₂, subst, ◌∙◌, append-nil, append_assoc, arith}
+use Rattle.std.proofs.Common.{◌≡◌, ℕ, ◌+◌, ◌<◌, ◌≤◌, suc, Bool, List, [], ◌∷◌, ◌++◌, Option, Some, length, map, take, drop, slice_get, refl, sym, ap, ap₂, subst, ◌∙◌, append-nil, append_assoc, arith}
 use Rattle.std.specs.List.{All}
 use Rattle.std.specs.Prelude.{Result, Ok, IfOk}
 use Rattle.std.specs.Option.{option_map}
@@ -8,12 +8,10 @@ use Rattle.std.proofs.lemmas.List.Sums.{sum_by-cons}
 use Rattle.std.proofs.lemmas.Option.{same_Some}
 use Rattle.fst_semiring.specs.Cost.{Cost}
 use Rattle.fst_machine.specs.Extending.{shifted}
-use Rattle.fst_machine.specs.Machine.{Arc, State, Machine, IsArc, IsMachine, arc_total, most_arcs, most_states, valued_arc, valued_state}
+use Rattle.fst_machine.specs.Machine.{Arc, State, IsArc, most_states, valued_arc, valued_state}
 use Rattle.fst_machine.specs.Spreading.{Spread}
-use Rattle.fst_machine.proofs.Valued.{arc_total-valued}
 use Rattle.fst_rational.specs.Changing.{goings, onward}
 use Rattle.fst_rational.specs.Constructions.{carried, kept}
-use Rattle.fst_rational.proofs.Blocks.{arc_total-carried, goings-none}
 use Rattle.fst_rational.proofs.Carrying.{has_places, valued_shifted}
 
 -- a list without an element
@@ -82,16 +80,3 @@ module _ {V : Type 0} (value : V → Cost) (by : ℕ) (keeps : Bool) (target : O
   -- where none is left, all are done
   pub all_done : (left old list : List (State V)) (whole : List (State Cost)) → map (valued_state value) old ++ goes left ≡ whole → left ≡ [] → list ≡ old → map (valued_state value) list ≡ whole
   all_done left old list whole so_far none is = ap (map (valued_state value)) is ∙ (sym (append-nil (map (valued_state value) old)) ∙ (ap (λ (ss : List (State V)). map (valued_state value) old ++ goes ss) (sym none) ∙ so_far))
-
-  -- there is room for a copy
-  pub copied_room : (states none : List (State V)) {more_room : ℕ} → none ≡ [] → arc_total states + more_room ≤ most_arcs → goings target (map (valued_state value) states) ≤ more_room → arc_total none + arc_total (goes states) ≤ most_arcs
-  copied_room states none empty few room =
-      let nothing : arc_total none ≡ 0 = ap arc_total empty in
-      omega (arith, nothing, few, room, arc_total-carried by keeps target (map (valued_state value) states), arc_total-valued value states)
-
--- there is room for a copy whose states stand further on
-pub shifted_room : {V : Type 0} (value : V → Cost) (by : ℕ) (given fst : Machine V) (none : List (State V)) → IsMachine value given → fst ≡ given → none ≡ [] → arc_total none + arc_total (map (carried by true None) (map (valued_state value) fst.states)) ≤ most_arcs
-shifted_room {V} value by given fst none good same empty =
-    let nothing : arc_total none ≡ 0 = ap arc_total empty in
-    let total : arc_total fst.states ≡ arc_total given.states = ap (λ (m : Machine V). arc_total m.states) same in
-    omega (arith, nothing, total, good.few_arcs, arc_total-carried by true None (map (valued_state value) fst.states), goings-none (map (valued_state value) fst.states), arc_total-valued value fst.states)

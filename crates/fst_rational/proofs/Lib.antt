@@ -6,6 +6,7 @@ pub mod Reading
 pub mod Blocks
 pub mod Sizes
 pub mod Putting
+pub mod Heading
 pub mod Carrying
 pub mod GoingOn
 pub mod Uniting

@@ -11,7 +11,7 @@ use Rattle.fst_semiring.specs.declared.arc_type.ArcType.{ArcType}
 use Rattle.fst_semiring.specs.declared.arc_type.ArcType.TheVariants.{Boolean, Tropical, MinMax, Lexicographic}
 use Rattle.fst_semiring.specs.Semiring.{one_of, times}
 use Rattle.fst_semiring.proofs.Laws.{one_times}
-use Rattle.fst_machine.specs.Machine.{Arc, State, Machine, IsArc, IsMachine, arc_total, most_arcs, most_states, valued, valued_arc, valued_state}
+use Rattle.fst_machine.specs.Machine.{Arc, State, Machine, IsArc, IsMachine, arc_total, valued, valued_arc, valued_state}
 use Rattle.fst_machine.specs.Graph.{Graph, graph_of}
 use Rattle.fst_machine.specs.Letters.{before}
 use Rattle.fst_machine.specs.Relation.{Rel, RelFrom}
@@ -21,11 +21,10 @@ use Rattle.fst_machine.specs.Continuing.{epsilon_arc}
 use Rattle.fst_machine.proofs.Arcs.{append_at, at_append_left, at_append_right}
 use Rattle.fst_machine.proofs.Futures.{RelFrom-cases, RelFrom-epsilon}
 use Rattle.fst_machine.proofs.Renaming.{renamed-RelFrom}
-use Rattle.fst_rational.specs.Constructions.{carried, entry, union_of, union_start}
+use Rattle.fst_rational.specs.Constructions.{carried, entry, headed, union_of, union_start}
 use Rattle.fst_rational.specs.Limits.{IsSize, IsSmall, start_count}
 use Rattle.fst_rational.specs.Relations.{Unites}
 use Rattle.fst_machine.proofs.Valued.{arc_total-valued}
-use Rattle.fst_rational.proofs.Putting.{head_put, head_room, next_room}
 use Rattle.fst_rational.proofs.Blocks.{Inside, arc_total-carried, block_renames, carried-good, goings-none, start_inside}
 
 -- an entry leads to the start
@@ -146,61 +145,14 @@ IsMachine-union kind a b good fine small =
 
 -- ---- as it is made
 
-module _ {V : Type 0} (value : V → Cost) (kind : ArcType) (a b : Machine V) (small : IsSmall (union_of kind (valued value a) (valued value b))) where
-  abbrev union : Machine Cost
-  union = union_of kind (valued value a) (valued value b)
-
-  abbrev head : State Cost
-  head = union_start kind (valued value a) (valued value b)
-
-  -- where the states after those of the first operand stand
-  places : {k : ℕ} → k ≡ length a.states → k + 1 ≡ length (valued value a).states + 1
-  places {k} count = omega (arith, count, length-map a.states (valued_state value))
-
-  pub union_ready : {k : ℕ} → k ≡ length a.states → k + 1 ≤ most_states
-  union_ready {k} count = omega (arith, places count, union_states kind (valued value a) (valued value b), small.states)
-
-  -- the new start is put, with its arcs
-  module _ {k : ℕ} {own two arcs : List (Arc V ℕ)} (one : List (Arc V ℕ)) {s t : Option ℕ} {old : List (State V)} (count : k ≡ length a.states) (clear : own ≡ []) (begins : s ≡ a.start) (starts : t ≡ b.start) (first : map (valued_arc value) one ≡ map (valued_arc value) own ++ entry kind 1 s) (second : map (valued_arc value) two ≡ map (valued_arc value) one ++ entry kind (k + 1) t) (empty : old ≡ []) (same : arcs ≡ two) where
-    entries : map (valued_arc value) two ≡ head.arcs
-    entries =
-        second ∙ (ap₂ (λ os (o : Option ℕ). os ++ entry kind (k + 1) o) (first ∙ ap₂ (λ (os : List (Arc V ℕ)) (o : Option ℕ). map (valued_arc value) os ++ entry kind 1 o) clear begins) starts
-        ∙ ap (λ (j : ℕ). entry kind 1 a.start ++ entry kind j b.start) (places count))
-
-    pub union_start_room : arc_total old + length arcs ≤ most_arcs
-    union_start_room = head_room value head (map (carried 1 true None) (valued value a).states ++ map (carried (length (valued value a).states + 1) true None) (valued value b).states) union.states old two arcs empty same entries refl small.arcs
-
-    pub union_start_put : {z : V} {new : List (State V)} → value z ≡ infinite → new ≡ old ++ record { final = z; arcs = arcs } ∷ [] → map (valued_state value) new ≡ head ∷ []
-    union_start_put {z} {new} last put = head_put value head old new z two arcs empty last same entries put
-
-  -- and the states of the operands after it
-  module _ {k : ℕ} (count : k ≡ length a.states) where
-    abbrev fronts : List (State Cost)
-    fronts = map (carried 1 true None) (map (valued_state value) a.states)
-
-    abbrev backs : List (State Cost)
-    backs = map (carried (k + 1) true None) (map (valued_state value) b.states)
-
-    pub union_parts : union.states ≡ head ∷ (fronts ++ backs)
-    union_parts = ap (λ (j : ℕ). head ∷ (fronts ++ map (carried j true None) (map (valued_state value) b.states))) (sym (places count))
-
-    pub union_first_room : (one : List (State V)) → map (valued_state value) one ≡ head ∷ [] → arc_total one + arc_total fronts ≤ most_arcs
-    union_first_room one first = next_room value (head ∷ []) fronts backs union.states one first union_parts small.arcs
-
-    -- the new start is put first
-    pub union_behind : (one two : List (State V)) → map (valued_state value) one ≡ head ∷ [] → map (valued_state value) two ≡ map (valued_state value) one ++ fronts → map (valued_state value) two ≡ head ∷ fronts
-    union_behind one two first second = second ∙ ap (λ ss. ss ++ fronts) first
-
-    -- or last; these are its arcs
-    pub union_heads : (own : List (Arc V ℕ)) {s t : Option ℕ} → map (valued_arc value) own ≡ entry kind 1 s ++ entry kind (k + 1) t → s ≡ a.start → t ≡ b.start → map (valued_arc value) own ≡ head.arcs
-    union_heads own enters begins starts = enters ∙ (ap₂ (λ (o p : Option ℕ). entry kind 1 o ++ entry kind (k + 1) p) begins starts ∙ ap (λ (j : ℕ). entry kind 1 a.start ++ entry kind j b.start) (places count))
-
-    module _ (two : List (State V)) (so_far : map (valued_state value) two ≡ head ∷ fronts) where
-      pub union_second_room : arc_total two + arc_total backs ≤ most_arcs
-      union_second_room = next_room value (head ∷ fronts) backs [] union.states two so_far (union_parts ∙ ap (λ ss. head ∷ (fronts ++ ss)) (sym (append-nil backs))) small.arcs
-
-      pub union_made : (all : List (State V)) → map (valued_state value) all ≡ map (valued_state value) two ++ backs → map (valued_state value) all ≡ union.states
-      union_made all third = third ∙ (ap (λ ss. ss ++ backs) so_far ∙ sym union_parts)
+module _ {V : Type 0} (value : V → Cost) (kind : ArcType) (a b : Machine V) where
+  -- the states of the one behind the new start with its arcs, and those of the other behind them
+  pub union_made : {first second : Machine V} {k : ℕ} {own arcs : List (Arc V ℕ)} {s t : Option ℕ} {z : V} → first ≡ a → second ≡ b → k ≡ length first.states → s ≡ first.start → t ≡ second.start → map (valued_arc value) own ≡ entry kind 1 s ++ entry kind (k + 1) t → arcs ≡ own → value z ≡ infinite → headed value (Some z) arcs (map (carried 1 true None) (valued value a).states) ++ map (carried (k + 1) true None) (valued value b).states ≡ (union_of kind (valued value a) (valued value b)).states
+  union_made {first} {second} {k} {own} {arcs} {s} {t} {z} one two count begins starts enters same last =
+      let stand : k + 1 ≡ length (valued value a).states + 1 = omega (arith, count, ap (λ (m : Machine V). length m.states) one, length-map a.states (valued_state value)) in
+      let heads : map (valued_arc value) own ≡ (union_start kind (valued value a) (valued value b)).arcs = enters ∙ (ap₂ (λ (o p : Option ℕ). entry kind 1 o ++ entry kind (k + 1) p) (begins ∙ ap (λ (m : Machine V). m.start) one) (starts ∙ ap (λ (m : Machine V). m.start) two) ∙ ap (λ (j : ℕ). entry kind 1 a.start ++ entry kind j b.start) stand) in
+      ap (λ (j : ℕ). headed value (Some z) arcs (map (carried 1 true None) (valued value a).states) ++ map (carried j true None) (valued value b).states) stand
+      ∙ ap₂ (λ (w : Cost) (os : List (Arc Cost ℕ)). record { final = w; arcs = os } ∷ (map (carried 1 true None) (valued value a).states ++ map (carried (length (valued value a).states + 1) true None) (valued value b).states)) last (ap (map (valued_arc value)) same ∙ heads)
 
 -- the entries are as many as the starts
 pub entry_count : (kind : ArcType) (k : ℕ) (start : Option ℕ) → length (entry kind k start) ≡ start_count start

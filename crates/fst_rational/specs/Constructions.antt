@@ -6,9 +6,10 @@ use Rattle.std.specs.List.{range_with_len}
 use Rattle.fst_semiring.specs.Cost.{Cost, infinite}
 use Rattle.fst_semiring.specs.declared.arc_type.ArcType.{ArcType}
 use Rattle.fst_semiring.specs.Semiring.{one_of}
-use Rattle.fst_machine.specs.Machine.{Arc, State, Machine}
+use Rattle.fst_machine.specs.Machine.{Arc, State, Machine, valued_arc, valued_state}
 use Rattle.fst_machine.specs.Graph.{renamed}
 use Rattle.fst_machine.specs.Continuing.{epsilon_arc, leaving}
+use Rattle.fst_rational.specs.declared.change.Carrying.{Carrying}
 use Rattle.fst_rational.specs.Changing.{changed_state}
 
 -- the final weight, where it stays
@@ -21,6 +22,20 @@ kept false w = infinite
 -- there is a target.
 abbrev pub carried : ℕ → Bool → Option ℕ → State Cost → State Cost
 carried k keeps target = changed_state (renamed (λ p. k + p)) (kept keeps) target
+
+-- the states, behind a new start with this final weight and these arcs where there is one
+abbrev pub headed : {V : Type 0} → (V → Cost) → Option V → List (Arc V ℕ) → List (State Cost) → List (State Cost)
+headed value None arcs states = states
+headed value (Some last) arcs states = record { final = value last; arcs = map (valued_arc value) arcs } ∷ states
+
+-- the states of an operand, carried over, behind a new start where there is one
+abbrev pub carried_states : {V : Type 0} → (V → Cost) → Option V → List (Arc V ℕ) → Carrying → Machine V → List (State Cost)
+carried_states value head arcs how m = headed value head arcs (map (carried how.shift how.keeps how.target) (map (valued_state value) m.states))
+
+-- the machine with this start and the states of two operands: those of the one so, and behind them those of the other, k
+-- places further on
+abbrev pub both_of : {V : Type 0} → (V → Cost) → Option ℕ → Option V → List (Arc V ℕ) → Carrying → ℕ → Machine V → Machine V → Machine Cost
+both_of value start head arcs how k a b = record { start = start; states = carried_states value head arcs how a ++ map (carried k true None) (map (valued_state value) b.states) }
 
 -- the epsilon arc with weight One to the start of an operand whose states stand k places further on
 abbrev pub entry : ArcType → ℕ → Option ℕ → List (Arc Cost ℕ)

@@ -3,6 +3,7 @@ pub mod Labels
 pub mod Pairs
 pub mod Constructions
 pub mod Backing
+pub mod Handed
 pub mod Limits
 pub mod Relations
 pub mod Faults

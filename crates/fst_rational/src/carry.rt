@@ -1,9 +1,9 @@
-//! The states of operands in the room of one that is given away.
+//! The states of an operand, carried over: copied, or in the room of a machine that is given away.
 
-ghost use Rattle.std.specs.Prelude.{◌≡◌, ◌≤◌, ◌<◌, ◌+◌, ◌∷◌, ◌++◌, [], None, All, IfOk, OnOk, drop, length, map, take, true};
+ghost use Rattle.std.specs.Prelude.{◌≡◌, ◌≤◌, ◌<◌, ◌+◌, ◌∷◌, ◌++◌, [], None, All, IfErr, IfOk, OnOk, drop, length, map, take, true};
 ghost use Rattle.fst_machine.specs.Machine.{IsArc, arc_total, most_arcs, most_states, valued_arc, valued_state};
 ghost use Rattle.fst_rational.specs.Changing.{goings};
-ghost use Rattle.fst_rational.specs.Constructions.{carried};
+ghost use Rattle.fst_rational.specs.Constructions.{carried, carried_states, headed};
 
 use crate::change::{Carrying, Change, put_onward, put_states};
 use fst_machine::{Fst, FstArc, Spreading, StateList};
@@ -17,18 +17,6 @@ fn shift_states<W: Weight>(list: &mut StateList<W>, by: u32)
     ensures { map (valued_state W.value) list.new ≡ map (carried by true None) (map (valued_state W.value) list.old) }
 {
     list.shift(by);
-}
-
-/// Puts a state with these arcs in front of the others.
-pub(crate) fn put_front<W: Weight>(
-    list: &mut StateList<W>,
-    last: W,
-    own: &[FstArc<W>],
-) -> Result<(), AllocError>
-    requires { arc_total list.old + length own.now ≤ most_arcs }
-    ensures { OnOk result (map (valued_state W.value) list.new ≡ record { final = W.value last; arcs = map (valued_arc W.value) own.now } ∷ map (valued_state W.value) list.old) }
-{
-    list.push_front(last, own)
 }
 
 /// Puts a state, so many places further on, behind the others.
@@ -48,7 +36,11 @@ fn push_state<W: Weight>(
 }
 
 /// Puts the states of a machine, so many places further on, behind the others. Their final weights stay.
-fn push_states<W: Weight>(list: &mut StateList<W>, fst: &Fst<W>, by: u32) -> Result<(), AllocError>
+pub(crate) fn push_states<W: Weight>(
+    list: &mut StateList<W>,
+    fst: &Fst<W>,
+    by: u32,
+) -> Result<(), AllocError>
     requires small { by ≤ most_states }
     requires room { arc_total list.old + arc_total (map (carried by true None) (map (valued_state W.value) fst.now.states)) ≤ most_arcs }
     ensures { OnOk result (map (valued_state W.value) list.new ≡ map (valued_state W.value) list.old ++ map (carried by true None) (map (valued_state W.value) fst.now.states)) }
@@ -59,30 +51,69 @@ fn push_states<W: Weight>(list: &mut StateList<W>, fst: &Fst<W>, by: u32) -> Res
     Ok(())
 }
 
-/// The states of a machine that is given away, so many places further on, in its own room where that can be had.
-/// Their final weights stay. There is room for so many states and arcs in all.
-pub(crate) fn shifted_states<W: Weight>(
+/// Whether the states that are carried so lead further on, and are else as they were.
+fn only_shifts(how: Carrying) -> bool
+    ensures { result ≡ true → carried how.shift how.keeps how.target ≡ carried how.shift true None }
+{
+    how.keeps && how.target.is_none()
+}
+
+/// Puts the states of a machine, carried over, behind the others.
+fn put_carried<W: Weight>(
     alloc: Global,
-    fst: Fst<W>,
-    by: u32,
+    list: &mut StateList<W>,
+    fst: &Fst<W>,
+    how: Carrying,
+) -> Result<(), AllocError>
+    requires small { how.shift ≤ most_states }
+    requires room { arc_total list.old + arc_total (map (carried how.shift how.keeps how.target) (map (valued_state W.value) fst.now.states)) ≤ most_arcs }
+    ensures { OnOk result (map (valued_state W.value) list.new ≡ map (valued_state W.value) list.old ++ map (carried how.shift how.keeps how.target) (map (valued_state W.value) fst.now.states)) }
+{
+    if only_shifts(how) {
+        push_states(list, fst, how.shift)?;
+    } else {
+        let mut own = Vec::new(alloc);
+        put_states(list, &mut own, &how, fst)?;
+    }
+    Ok(())
+}
+
+/// Puts a new start with this final weight and these arcs, where there is one, in front of the others, in a list that
+/// gets room for so many states and arcs in all.
+fn put_front<W: Weight>(
+    list: &mut StateList<W>,
+    head: Option<W>,
+    arcs: &[FstArc<W>],
+    room: (usize, usize),
+) -> Result<(), AllocError>
+    requires { arc_total (headed W.value head arcs.now (map (valued_state W.value) list.old)) ≤ most_arcs }
+    ensures { OnOk result (map (valued_state W.value) list.new ≡ headed W.value head arcs.now (map (valued_state W.value) list.old)) }
+{
+    list.reserve(room.0, room.1)?;
+    if let Some(last) = head {
+        list.push_front(last, arcs)?;
+    }
+    Ok(())
+}
+
+/// The states of a machine, carried over, behind a new start where there is one, in a list of their own with room for so
+/// many states and arcs.
+pub(crate) fn copied_states<W: Weight>(
+    alloc: Global,
+    fst: &Fst<W>,
+    head: Option<W>,
+    arcs: &[FstArc<W>],
+    how: Carrying,
     room: (usize, usize),
 ) -> Result<StateList<W>, AllocError>
-    requires { by ≤ most_states }
-    ensures { IfOk result (λ list. map (valued_state W.value) list ≡ map (carried by true None) (map (valued_state W.value) fst.states)) }
+    requires small { how.shift ≤ most_states }
+    requires few { arc_total (carried_states W.value head arcs.now how fst.now) ≤ most_arcs }
+    ensures { IfOk result (λ list. map (valued_state W.value) list ≡ carried_states W.value head arcs.now how fst.now) }
 {
-    let _states = fst.states();
-    match fst.extend() {
-        Ok(mut list) => {
-            list.reserve(room.0, room.1)?;
-            shift_states(&mut list, by);
-            Ok(list)
-        }
-        Err(fst) => {
-            let mut list = StateList::with_capacity(alloc, room.0, room.1)?;
-            push_states(&mut list, &fst, by)?;
-            Ok(list)
-        }
-    }
+    let mut list = StateList::with_capacity(alloc, room.0, room.1)?;
+    put_front(&mut list, head, arcs, room)?;
+    put_carried(alloc, &mut list, fst, how)?;
+    Ok(list)
 }
 
 /// Puts the next of the states that are left, carried over, behind those that are done. The list `own` is for the
@@ -127,42 +158,62 @@ fn carry_all<W: Weight>(
     Ok(states.into_list())
 }
 
-/// The states of a machine, carried over into a list of their own, with room for so many arcs more and a new start.
-fn copied_states<W: Weight>(
-    alloc: Global,
-    fst: &Fst<W>,
-    how: Carrying,
-    more: usize,
-) -> Result<StateList<W>, AllocError>
-    requires small { how.shift ≤ most_states }
-    requires few { arc_total fst.now.states + more ≤ most_arcs }
-    requires room { goings how.target (map (valued_state W.value) fst.now.states) ≤ more }
-    ensures { IfOk result (λ list. map (valued_state W.value) list ≡ map (carried how.shift how.keeps how.target) (map (valued_state W.value) fst.now.states)) }
-{
-    let states = fst.states() as usize + 1;
-    let arcs = fst.arc_count() as usize + more;
-    let mut list = StateList::with_capacity(alloc, states, arcs)?;
-    let mut own = Vec::new(alloc);
-    put_states(&mut list, &mut own, &how, fst)?;
-    Ok(list)
-}
-
-/// The states of a machine that is given away, carried over, in its own room where that can be had, which then has
-/// room for so many arcs more: those by which its states go on, and what else is put.
-pub(crate) fn carried_states<W: Weight>(
+/// The states of a machine that is given away, carried over in its own room, with room for so many arcs more; the
+/// machine as it was, where that room cannot be had.
+fn carry_in_place<W: Weight>(
     alloc: Global,
     fst: Fst<W>,
     how: Carrying,
     more: usize,
-) -> Result<StateList<W>, AllocError>
+) -> Result<Result<StateList<W>, Fst<W>>, AllocError>
     requires small { how.shift ≤ most_states }
     requires few { arc_total fst.states + more ≤ most_arcs }
     requires room { goings how.target (map (valued_state W.value) fst.states) ≤ more }
-    ensures { IfOk result (λ list. map (valued_state W.value) list ≡ map (carried how.shift how.keeps how.target) (map (valued_state W.value) fst.states)) }
+    ensures carried { IfOk result (λ r. IfOk r (λ list. map (valued_state W.value) list ≡ map (carried how.shift how.keeps how.target) (map (valued_state W.value) fst.states))) }
+    ensures given { IfOk result (λ r. IfErr r (λ left. left ≡ fst)) }
 {
     let _states = fst.states();
-    match fst.spread(more)? {
-        Ok(states) => carry_all(alloc, states, how),
-        Err(fst) => copied_states(alloc, &fst, how, more),
+    if only_shifts(how) {
+        match fst.extend() {
+            Ok(mut list) => {
+                shift_states(&mut list, how.shift);
+                Ok(Ok(list))
+            }
+            Err(fst) => Ok(Err(fst)),
+        }
+    } else {
+        match fst.spread(more)? {
+            Ok(states) => {
+                let list = carry_all(alloc, states, how)?;
+                Ok(Ok(list))
+            }
+            Err(fst) => Ok(Err(fst)),
+        }
+    }
+}
+
+/// The states of a machine that is given away, carried over, behind a new start where there is one: in its own room,
+/// where that can be had, and there is room for so many states and arcs in all.
+pub(crate) fn given_states<W: Weight>(
+    alloc: Global,
+    fst: Fst<W>,
+    head: Option<W>,
+    arcs: &[FstArc<W>],
+    how: Carrying,
+    room: (u32, u32),
+) -> Result<StateList<W>, AllocError>
+    requires small { how.shift ≤ most_states }
+    requires few { room.1 ≤ most_arcs }
+    requires all { arc_total (carried_states W.value head arcs.now how fst) ≤ room.1 }
+    ensures { IfOk result (λ list. map (valued_state W.value) list ≡ carried_states W.value head arcs.now how fst) }
+{
+    let more = room.1 - fst.arc_count();
+    let all = (room.0 as usize, room.1 as usize);
+    match carry_in_place(alloc, fst, how, more as usize)? {
+        Ok(mut list) => {
+            put_front(&mut list, head, arcs, all)?;
+            Ok(list)
+        }
+        Err(fst) => copied_states(alloc, &fst, head, arcs, how, all),
     }
 }

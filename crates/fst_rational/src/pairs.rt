@@ -119,12 +119,11 @@ impl Pairs {
         requires new { new ≤ greatest_label }
         ensures { IfOk result (λ r. IsRead (λ x. self.new) r (with_pair line self.old old new)) }
     {
-        let number = u64::from(old);
-        if self.news.find(number).is_some() {
+        self.list.reserve(1)?;
+        let known = self.news.find_or_add(u64::from(old), new)?;
+        if known.is_some() {
             return Ok(Err(PairsFault::Duplicate { line }));
         }
-        self.list.reserve(1)?;
-        self.news.add(number, new)?;
         self.list.push_reserved((old, new));
         Ok(Ok(()))
     }

@@ -1,41 +1,64 @@
 //! Union.
 
-ghost use Rattle.std.specs.Prelude.{◌≡◌, ◌<◌, ◌+◌, ◌∷◌, ◌++◌, [], IfOk, IfSome, OnOk, map};
-ghost use Rattle.fst_machine.specs.Machine.{IsMachine, valued, valued_arc, valued_state};
-ghost use Rattle.fst_rational.specs.Constructions.{entry, union_of, union_start};
+ghost use Rattle.std.specs.Prelude.{◌≡◌, ◌<◌, ◌+◌, ◌++◌, IfOk, IfSome, map};
+ghost use Rattle.fst_machine.specs.Machine.{valued, valued_arc};
+ghost use Rattle.fst_rational.specs.Constructions.{entry, union_of};
 ghost use Rattle.fst_rational.specs.Limits.{IsLimited, IsSize, IsSmall};
 ghost use Rattle.fst_rational.specs.Relations.{Unites};
 
-use crate::change::{Carrying, put_entry, put_states};
+use crate::change::{Carrying, put_entry};
 use crate::construction::{Construction, construct};
 use crate::fault::RationalFault;
+use crate::operand::{GivenPair, LentPair, Operands};
 use crate::size::entries;
-use fst_machine::{Fst, FstArc, StateList};
+use fst_machine::{Fst, FstArc, Joined};
 use fst_semiring::Weight;
 use std::alloc::{AllocError, Global};
 
-/// Puts the new start, which enters both operands, as the first state. The list `own` is for its arcs.
-fn put_start<W: Weight>(
-    list: &mut StateList<W>,
-    own: &mut Vec<FstArc<W>>,
-    a: &Fst<W>,
-    b: &Fst<W>,
-) -> Result<(), AllocError>
-    requires first { list.old ≡ [] }
-    requires clear { own.old.items ≡ [] }
-    requires small { IsSmall (union_of W.KIND (valued W.value a.now) (valued W.value b.now)) }
-    ensures { OnOk result (map (valued_state W.value) list.new ≡ union_start W.KIND (valued W.value a.now) (valued W.value b.now) ∷ []) }
+/// The arcs of the new start of a union, which enter both operands.
+fn entering<W: Weight>(
+    alloc: Global,
+    first: Option<u32>,
+    behind: u32,
+    second: Option<u32>,
+) -> Result<Vec<FstArc<W>>, AllocError>
+    requires first { IfSome first (λ s. 1 + s < 4294967296) }
+    requires second { IfSome second (λ s. behind + s < 4294967296) }
+    ensures { IfOk result (λ own. map (valued_arc W.value) own.items ≡ entry W.KIND 1 first ++ entry W.KIND behind second) }
 {
-    let behind = a.states() + 1;
-    let _states = b.states();
-    put_entry(own, 1, a.start())?;
-    put_entry(own, behind, b.start())?;
-    list.push(W::zero(), own)?;
-    Ok(())
+    let mut own = Vec::new(alloc);
+    put_entry(&mut own, 1, first)?;
+    put_entry(&mut own, behind, second)?;
+    Ok(own)
+}
+
+/// The union, which is not too big: the states of both lead further on, and the new start stands in front of those of
+/// the first.
+fn build<W: Weight, P: Operands<W> + Drop>(
+    alloc: Global,
+    pair: P,
+    needed: (u32, u32),
+) -> Result<P::Both, AllocError>
+    requires size { IsSize (union_of W.KIND (valued W.value (P.one pair)) (valued W.value (P.two pair))) needed }
+    requires small { IsSmall (union_of W.KIND (valued W.value (P.one pair)) (valued W.value (P.two pair))) }
+    ensures { IfOk result (λ m. P.seen m ≡ union_of W.KIND (valued W.value (P.one pair)) (valued W.value (P.two pair))) }
+{
+    let first = pair.first();
+    let behind = first.states() + 1;
+    let second = pair.second();
+    let _back = second.states();
+    let arcs = entering(alloc, first.start(), behind, second.start())?;
+    let further = Carrying {
+        shift: 1,
+        keeps: true,
+        target: None,
+    };
+    let room = (behind, needed.1 - second.arc_count());
+    pair.carry(alloc, Some(0), Some(W::zero()), &arcs, further, room)
 }
 
 /// How many states and arcs the union has.
-pub(crate) fn union_size<W: Weight>(a: &Fst<W>, b: &Fst<W>) -> (u32, u32)
+fn union_size<W: Weight>(a: &Fst<W>, b: &Fst<W>) -> (u32, u32)
     ensures { IsSize (union_of W.KIND (valued W.value a.now) (valued W.value b.now)) result }
 {
     let states = a.states() + b.states() + 1;
@@ -46,55 +69,35 @@ pub(crate) fn union_size<W: Weight>(a: &Fst<W>, b: &Fst<W>) -> (u32, u32)
 
 /// The union of two machines.
 #[derive(Drop)]
-struct Uniting<'a, W: Weight> {
-    a: &'a Fst<W>,
-    b: &'a Fst<W>,
+struct Uniting<P> {
+    pair: P,
 }
 
-impl<'a, W: Weight> Construction<W> for Uniting<'a, W> {
-    type Made = Fst<W>;
+impl<W: Weight, P: Operands<W> + Drop> Construction<W> for Uniting<P> {
+    type Made = P::Both;
 
-    ghost machine = { λ s. union_of W.KIND (valued W.value s.a.now) (valued W.value s.b.now) };
+    ghost machine = { λ s. union_of W.KIND (valued W.value (P.one s.pair)) (valued W.value (P.two s.pair)) };
 
-    ghost seen = { λ m. valued W.value m };
+    ghost seen = { λ m. P.seen m };
 
     fn size(&self) -> (u32, u32) {
-        union_size(self.a, self.b)
+        union_size(self.pair.first(), self.pair.second())
     }
 
-    fn build(self, alloc: Global, needed: (u32, u32)) -> Result<Fst<W>, AllocError> {
-        build(alloc, self.a, self.b, needed)
+    fn build(self, alloc: Global, needed: (u32, u32)) -> Result<P::Both, AllocError> {
+        build(alloc, self.pair, needed)
     }
 }
 
-/// The union, which is not too big; what it needs is reserved at once.
-fn build<W: Weight>(
-    alloc: Global,
-    a: &Fst<W>,
-    b: &Fst<W>,
-    needed: (u32, u32),
-) -> Result<Fst<W>, AllocError>
-    requires { IsSmall (union_of W.KIND (valued W.value a.now) (valued W.value b.now)) }
-    ensures { IfOk result (λ m. valued W.value m ≡ union_of W.KIND (valued W.value a.now) (valued W.value b.now)) }
+/// The union of two machines that are lent or given away.
+fn unite<W: Weight, P: Operands<W> + Drop>(alloc: Global, pair: P) -> Result<P::Both, RationalFault>
+    ensures limits { IsLimited (union_of W.KIND (valued W.value (P.one pair)) (valued W.value (P.two pair))) result }
+    ensures machine { IfOk result (λ m. P.seen m ≡ union_of W.KIND (valued W.value (P.one pair)) (valued W.value (P.two pair))) }
+    ensures relation { IfOk result (λ m. Unites W.KIND (valued W.value (P.one pair)) (valued W.value (P.two pair)) (P.seen m)) }
 {
-    let behind = a.states() + 1;
-    let _states = b.states();
-    let mut list = StateList::with_capacity(alloc, needed.0 as usize, needed.1 as usize)?;
-    let mut own = Vec::new(alloc);
-    put_start(&mut list, &mut own, a, b)?;
-    let first = Carrying {
-        shift: 1,
-        keeps: true,
-        target: None,
-    };
-    put_states(&mut list, &mut own, &first, a)?;
-    let second = Carrying {
-        shift: behind,
-        keeps: true,
-        target: None,
-    };
-    put_states(&mut list, &mut own, &second, b)?;
-    Ok(list.into_machine(Some(0)))
+    // What holds of the operands.
+    let _states = (pair.first().states(), pair.second().states());
+    construct(alloc, Uniting { pair })
 }
 
 /// The union of two machines: a new start, which is not final, with an epsilon arc of weight One to the start
@@ -105,7 +108,23 @@ pub fn union<W: Weight>(alloc: Global, a: &Fst<W>, b: &Fst<W>) -> Result<Fst<W>,
     ensures machine { IfOk result (λ m. valued W.value m ≡ union_of W.KIND (valued W.value a.now) (valued W.value b.now)) }
     ensures relation { IfOk result (λ m. Unites W.KIND (valued W.value a.now) (valued W.value b.now) (valued W.value m)) }
 {
-    // What holds of the operands.
-    let _states = (a.states(), b.states());
-    construct(alloc, Uniting { a, b })
+    unite(alloc, LentPair { a, b })
+}
+
+/// The union of two machines that are given away, as `union` makes it of them: `TooManyStates`, `TooManyArcs` and
+/// `Memory` as there. Each list of its states is made in the room of the machine that has them, where the arcs of
+/// none of its states stand apart from those of the others; otherwise they are copied.
+///
+/// Time and space: linear in the states and arcs; in the rooms of the machines the new start is all that is taken
+/// beside.
+pub fn into_union<W: Weight>(
+    alloc: Global,
+    a: Fst<W>,
+    b: Fst<W>,
+) -> Result<Joined<W>, RationalFault>
+    ensures limits { IsLimited (union_of W.KIND (valued W.value a) (valued W.value b)) result }
+    ensures machine { IfOk result (λ m. valued W.value m ≡ union_of W.KIND (valued W.value a) (valued W.value b)) }
+    ensures relation { IfOk result (λ m. Unites W.KIND (valued W.value a) (valued W.value b) (valued W.value m)) }
+{
+    unite(alloc, GivenPair { a, b })
 }

@@ -1,35 +1,48 @@
-use Rattle.std.proofs.Common.{Some, refl, ap, ◌∙◌}
-use Rattle.fst_machine.specs.Machine.{valued}
-use Rattle.fst_rational.specs.Constructions.{union_of}
-use Rattle.fst_machine.proofs.Valued.{IsMachine-valued}
-use Rattle.fst_rational.proofs.Putting.{put_machine, put_valued}
-use Rattle.fst_rational.proofs.Uniting.{IsMachine-union, union_behind, union_first_room, union_made, union_ready, union_second_room}
+use Rattle.std.proofs.Common.{◌≡◌, ◌+◌, None, Some, true, map, refl, sym, ap, subst, ◌∙◌, arith}
+use Rattle.std.specs.Prelude.{IfOk}
+use Rattle.fst_semiring.specs.Cost.{Cost}
+use Rattle.fst_machine.specs.Machine.{Machine, IsMachine, arc_total, valued}
+use Rattle.fst_machine.proofs.Valued.{arc_total-valued}
+use Rattle.fst_rational.specs.Constructions.{carried, headed, union_of}
+use Rattle.fst_rational.proofs.Uniting.{IsMachine-union, union_arcs, union_made}
+use Rattle.fst_rational.proofs.Putting.{front_sized, put_whole, same_good}
 use Rattle.fst_rational.proofs.unite.build.Goals as goal
 
-pub put_states-requires-clause-room : goal.put_states-requires-clause-room
-put_states-requires-clause-room g c = union_first_room g.W.Weight.value g.W.Weight.KIND c.args.a.now c.args.b.now c.requires c.states-behind.ensures.value _ c.in_ok-put_start.ensures
-
-pub put_states-requires-2-clause-ready : goal.put_states-requires-2-clause-ready
-put_states-requires-2-clause-ready g c = union_ready g.W.Weight.value g.W.Weight.KIND c.args.a.now c.args.b.now c.requires c.states-behind.ensures.value
-
-pub put_states-requires-2-clause-room : goal.put_states-requires-2-clause-room
-put_states-requires-2-clause-room g c = union_second_room g.W.Weight.value g.W.Weight.KIND c.args.a.now c.args.b.now c.requires c.states-behind.ensures.value _ (union_behind g.W.Weight.value g.W.Weight.KIND c.args.a.now c.args.b.now c.requires c.states-behind.ensures.value _ _ c.in_ok-put_start.ensures c.in_ok-put_states.ensures)
-
-pub into_machine-requires : goal.into_machine-requires
-into_machine-requires g c =
+pub overflow_sub-room : goal.overflow_sub-room
+overflow_sub-room g c =
     let value = g.W.Weight.value in
+    let one = g.P.Operands.one c.args.pair in
+    let two = g.P.Operands.two c.args.pair in
     let kind = g.W.Weight.KIND in
-    let a = c.args.a.now in
-    let b = c.args.b.now in
-    put_machine value (union_of kind (valued value a) (valued value b)) (Some 0) c.put_states-2.new.states refl
-    (union_made value kind a b c.requires c.states-behind.ensures.value _ (union_behind g.W.Weight.value g.W.Weight.KIND c.args.a.now c.args.b.now c.requires c.states-behind.ensures.value _ _ c.in_ok-put_start.ensures c.in_ok-put_states.ensures) _ c.in_ok-put_states-2.ensures)
-    (IsMachine-union kind (valued value a) (valued value b) (IsMachine-valued value a c.states-behind.ensures.machine) (IsMachine-valued value b c.states-states.ensures.machine) c.requires)
+    let rest = c.arc_count.ensures ∙ ap (λ (m : Machine g.row.W.Denot). arc_total m.states) c.second-second.ensures in
+    omega (arith, c.requires.size.arcs, union_arcs kind (valued value one) (valued value two), arc_total-valued value two.states, rest)
+
+pub carry-requires-clause-all : goal.carry-requires-clause-all
+carry-requires-clause-all g c =
+    let value = g.W.Weight.value in
+    let one = g.P.Operands.one c.args.pair in
+    let two = g.P.Operands.two c.args.pair in
+    let kind = g.W.Weight.KIND in
+    let parts = union_made value kind one two c.first-first.ensures c.second-second.ensures c.states-behind.ensures.value c.start.ensures.value c.start-2.ensures.value c.in_ok-arcs.ensures c.deref.ensures.value c.zero.ensures in
+    let rest = c.arc_count.ensures ∙ ap (λ (m : Machine g.row.W.Denot). arc_total m.states) c.second-second.ensures in
+    omega (arith, front_sized value (headed value (Some c.zero.result) c.deref.result.now (map (carried 1 true None) (valued value one).states)) (c.states-behind.result + 1) two (union_of kind (valued value one) (valued value two)) c.requires.size parts rest)
+
+pub carry-requires-clause-machine : goal.carry-requires-clause-machine
+carry-requires-clause-machine g c =
+    let value = g.W.Weight.value in
+    let one = g.P.Operands.one c.args.pair in
+    let two = g.P.Operands.two c.args.pair in
+    let kind = g.W.Weight.KIND in
+    let parts = union_made value kind one two c.first-first.ensures c.second-second.ensures c.states-behind.ensures.value c.start.ensures.value c.start-2.ensures.value c.in_ok-arcs.ensures c.deref.ensures.value c.zero.ensures in
+    let good = same_good value c.first-first.ensures c.states-behind.ensures.machine in
+    let fine = same_good value c.second-second.ensures c.states-back.ensures.machine in
+    subst (IsMachine (λ v. v)) (sym (put_whole (union_of kind (valued value one) (valued value two)) (Some 0) _ refl parts)) (IsMachine-union kind (valued value one) (valued value two) good fine c.requires.small)
 
 pub returns : goal.returns
 returns g c =
     let value = g.W.Weight.value in
+    let one = g.P.Operands.one c.args.pair in
+    let two = g.P.Operands.two c.args.pair in
     let kind = g.W.Weight.KIND in
-    let a = c.args.a.now in
-    let b = c.args.b.now in
-    ap (valued value) c.into_machine.ensures ∙ put_valued value (union_of kind (valued value a) (valued value b)) (Some 0) c.put_states-2.new.states refl
-    (union_made value kind a b c.requires c.states-behind.ensures.value _ (union_behind g.W.Weight.value g.W.Weight.KIND c.args.a.now c.args.b.now c.requires c.states-behind.ensures.value _ _ c.in_ok-put_start.ensures c.in_ok-put_states.ensures) _ c.in_ok-put_states-2.ensures)
+    let parts = union_made value kind one two c.first-first.ensures c.second-second.ensures c.states-behind.ensures.value c.start.ensures.value c.start-2.ensures.value c.in_ok-arcs.ensures c.deref.ensures.value c.zero.ensures in
+    subst (λ (m : Machine Cost). IfOk c.carry.result (λ r. g.P.Operands.seen r ≡ m)) (put_whole (union_of kind (valued value one) (valued value two)) (Some 0) _ refl parts) c.carry.ensures
