@@ -33,6 +33,7 @@ put_machines : (o : Options) (role : Role) (name content : List ℕ) (before aft
 unfolding put
 put_machines o roles.InputSymbols name content before after e = let got = then_ok (table_in name content) _ after e in ap (λ (h : Held). length h.machines) (sym got.1)
 put_machines o roles.OutputSymbols name content before after e = let got = then_ok (table_in name content) _ after e in ap (λ (h : Held). length h.machines) (sym got.1)
+put_machines o roles.BothSymbols name content before after e = let got = then_ok (table_in name content) _ after e in ap (λ (h : Held). length h.machines) (sym got.1)
 put_machines o roles.InputPairs name content before after e = let got = then_ok (pairs_in name content) _ after e in ap (λ (h : Held). length h.machines) (sym got.1)
 put_machines o roles.OutputPairs name content before after e = let got = then_ok (pairs_in name content) _ after e in ap (λ (h : Held). length h.machines) (sym got.1)
 put_machines o roles.Text name content before after e =
@@ -49,6 +50,7 @@ put_codex : (o : Options) (role : Role) (name content : List ℕ) (before after 
 unfolding put
 put_codex o roles.InputSymbols name content before after e = let got = then_ok (table_in name content) _ after e in ap (λ (h : Held). is_some h.codex) (sym got.1)
 put_codex o roles.OutputSymbols name content before after e = let got = then_ok (table_in name content) _ after e in ap (λ (h : Held). is_some h.codex) (sym got.1)
+put_codex o roles.BothSymbols name content before after e = let got = then_ok (table_in name content) _ after e in ap (λ (h : Held). is_some h.codex) (sym got.1)
 put_codex o roles.InputPairs name content before after e = let got = then_ok (pairs_in name content) _ after e in ap (λ (h : Held). is_some h.codex) (sym got.1)
 put_codex o roles.OutputPairs name content before after e = let got = then_ok (pairs_in name content) _ after e in ap (λ (h : Held). is_some h.codex) (sym got.1)
 put_codex o roles.Text name content before after e =
@@ -64,6 +66,8 @@ unfolding put
 put_lines o roles.InputSymbols name content before after e short few =
     let got = then_ok (table_in name content) _ after e in subst (λ (h : Held). length h.lines ≤ read_limit) got.1 few
 put_lines o roles.OutputSymbols name content before after e short few =
+    let got = then_ok (table_in name content) _ after e in subst (λ (h : Held). length h.lines ≤ read_limit) got.1 few
+put_lines o roles.BothSymbols name content before after e short few =
     let got = then_ok (table_in name content) _ after e in subst (λ (h : Held). length h.lines ≤ read_limit) got.1 few
 put_lines o roles.InputPairs name content before after e short few =
     let got = then_ok (pairs_in name content) _ after e in subst (λ (h : Held). length h.lines ≤ read_limit) got.1 few

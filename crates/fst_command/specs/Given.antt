@@ -20,7 +20,7 @@ use Rattle.fst_codex.specs.Table.{Table}
 use Rattle.fst_any.specs.Typed.{Typed, TypedCodex, codex_of_file, machine_of_file, typed_machine_of_text}
 use Rattle.fst_any.specs.Taken.{codex_as, machines_as}
 use Rattle.fst_words.specs.declared.form.Role.{Role}
-use Rattle.fst_words.specs.declared.form.Role.TheVariants.{InputSymbols, OutputSymbols, InputPairs, OutputPairs, Text, Machine as MachineRole, Codex, Lines}
+use Rattle.fst_words.specs.declared.form.Role.TheVariants.{InputSymbols, OutputSymbols, BothSymbols, InputPairs, OutputPairs, Text, Machine as MachineRole, Codex, Lines}
 use Rattle.fst_words.specs.declared.options.Options.{Options}
 use Rattle.fst_words.specs.declared.plan.Plan.{Plan}
 use Rattle.fst_words.specs.Inputs.{Input, plan_inputs}
@@ -97,6 +97,7 @@ choices_by o isymbols osymbols = record {
 unfoldable pub put : Options → Role → List ℕ → List ℕ → Held → Result Held Fault
 put o InputSymbols name content held = table_in name content >>= λ table. Ok (record held { isymbols = Some table })
 put o OutputSymbols name content held = table_in name content >>= λ table. Ok (record held { osymbols = Some table })
+put o BothSymbols name content held = table_in name content >>= λ table. Ok (record held { isymbols = Some table; osymbols = Some table })
 put o InputPairs name content held = pairs_in name content >>= λ read. Ok (record held { ipairs = read })
 put o OutputPairs name content held = pairs_in name content >>= λ read. Ok (record held { opairs = read })
 put o Text name content held =

@@ -1,13 +1,15 @@
 -- What the code holds, seen as what the definitions speak of.
-use Rattle.std.specs.Prelude.{ℕ, List, [], ◌∷◌, None, map}
-use Rattle.std.specs.Option.{option_map}
+use Rattle.std.specs.Prelude.{ℕ, List, [], ◌∷◌, Option, None, map}
+use Rattle.std.specs.Option.{option_map, option_or}
 use Rattle.fst_semiring.specs.declared.arc_type.ArcType.{ArcType}
 use Rattle.fst_semiring.specs.Cost.{Cost}
 use Rattle.fst_machine.specs.Machine.{Machine, valued}
 use Rattle.fst_codex.specs.Table.{valued_table}
+use Rattle.fst_symbols.specs.Symbols.{Symbol}
 use Rattle.fst_any.specs.Typed.{typed, typed_codex}
 use Rattle.fst_command.specs.Given.{Given, Held}
 use Rattle.fst_command.specs.Meaning.{Made, answered, coded, machine, text}
+use Rattle.fst_command.specs.declared.tables.Tables.{Tables}
 use Rattle.fst_command.specs.declared.given.Held.{Held as DeclaredHeld}
 use Rattle.fst_command.specs.declared.given.Given.{Given as DeclaredGiven}
 use Rattle.fst_command.specs.declared.made.Made.{Made as DeclaredMade}
@@ -15,11 +17,18 @@ use Rattle.fst_command.specs.declared.made.Made.TheVariants as made
 use Rattle.fst_command.specs.declared.made.Bytes.{Bytes}
 use Rattle.fst_command.specs.declared.made.Bytes.TheVariants as bytes
 
+-- the names of the labels of each side: those of its own table, or else of the table of both sides
+abbrev pub input_names : Tables → Option (List Symbol)
+input_names t = option_or t.input t.shared
+
+abbrev pub output_names : Tables → Option (List Symbol)
+output_names t = option_or t.output t.shared
+
 -- what was read
 abbrev pub held_seen : DeclaredHeld → Held
 held_seen h = record {
-  isymbols = h.isymbols;
-  osymbols = h.osymbols;
+  isymbols = input_names h.tables;
+  osymbols = output_names h.tables;
   ipairs = h.ipairs;
   opairs = h.opairs;
   lines = h.lines.items;
@@ -31,8 +40,8 @@ held_seen h = record {
 abbrev pub given_seen : {W X : Type 0} → ArcType → (W → Cost) → DeclaredGiven W X → Given
 given_seen kind value g = record {
   kind = kind;
-  isymbols = g.isymbols;
-  osymbols = g.osymbols;
+  isymbols = input_names g.tables;
+  osymbols = output_names g.tables;
   ipairs = g.ipairs;
   opairs = g.opairs;
   lines = g.lines.items;

@@ -12,22 +12,20 @@ ghost use Rattle.fst_command.specs.Seeing.{given_seen, held_seen};
 ghost use Rattle.fst_command.specs.Told.{Judges};
 
 use crate::refusal::{Refusal, kinds_apart};
+use crate::tables::Tables;
 use fst_any::{AnyCodex, AnyFst, Kinded, OtherKind, machines_of};
 use fst_codex::Codex;
 use fst_machine::Fst;
 use fst_rational::Pairs;
 use fst_semiring::{ArcType, Weight};
-use fst_symbols::SymbolTable;
 use fst_words::Options;
 use std::alloc::Global;
 
 /// What was read, each machine with its arc type.
 #[derive(Drop)]
 pub(crate) struct Held {
-    /// The names of the labels of the input side.
-    pub(crate) isymbols: Option<SymbolTable>,
-    /// Those of the output side.
-    pub(crate) osymbols: Option<SymbolTable>,
+    /// The names of the labels of both sides.
+    pub(crate) tables: Tables,
     /// The new labels of the input side.
     pub(crate) ipairs: Pairs,
     /// Those of the output side.
@@ -48,10 +46,8 @@ pub(crate) struct Held {
 /// What a command is given: the files of its options, and what it works on, all of one arc type.
 #[derive(Drop)]
 pub(crate) struct Given<W: Weight> {
-    /// The names of the labels of the input side.
-    pub(crate) isymbols: Option<SymbolTable>,
-    /// Those of the output side.
-    pub(crate) osymbols: Option<SymbolTable>,
+    /// The names of the labels of both sides.
+    pub(crate) tables: Tables,
     /// The new labels of the input side.
     pub(crate) ipairs: Pairs,
     /// Those of the output side.
@@ -82,8 +78,7 @@ impl Held {
         ensures { held_seen result ≡ nothing }
     {
         Held {
-            isymbols: None,
-            osymbols: None,
+            tables: Tables::new(),
             ipairs: Pairs::new(alloc),
             opairs: Pairs::new(alloc),
             lines: Vec::new(alloc),
@@ -138,8 +133,7 @@ pub(crate) fn alike<W: Kinded>(alloc: Global, held: Held) -> Result<Given<W>, Re
     let machines = alike_machines::<W>(alloc, held.machines)?;
     let codex = alike_codex::<W>(alloc, held.codex)?;
     Ok(Given {
-        isymbols: held.isymbols,
-        osymbols: held.osymbols,
+        tables: held.tables,
         ipairs: held.ipairs,
         opairs: held.opairs,
         lines: held.lines,

@@ -16,6 +16,7 @@ mod made;
 mod queues;
 mod reading;
 mod refusal;
+mod tables;
 mod top;
 mod working;
 

@@ -11,7 +11,7 @@ ghost use Rattle.fst_text.specs.Faults as texts;
 ghost use Rattle.fst_words.specs.Inputs.{input_seen};
 ghost use Rattle.fst_command.specs.Causes.{faulty, misread, refused};
 ghost use Rattle.fst_command.specs.Given.{arc_type_of, choices_by, codex_in, machine_in, pairs_in, put, table_in, text_in};
-ghost use Rattle.fst_command.specs.Seeing.{held_seen};
+ghost use Rattle.fst_command.specs.Seeing.{held_seen, input_names, output_names};
 ghost use Rattle.fst_command.specs.Steps.{ReadsAll, StepAnswer};
 ghost use Rattle.fst_command.specs.Told.{IsMade, Judges};
 
@@ -19,6 +19,7 @@ use crate::commands::changes_in_place;
 use crate::files::read_input;
 use crate::given::{Held, arc_type_of};
 use crate::refusal::{Refusal, misread};
+use crate::tables::Tables;
 use fst_any::{AnyCodex, AnyFst, compile_any, decode_any, read_any_codex};
 use fst_binary::{BinaryFault, BinaryKind};
 use fst_codex::{CodexFault, CodexKind};
@@ -83,17 +84,16 @@ fn read_pairs(alloc: Global, name: &str, content: &[u8]) -> Result<Pairs, Refusa
 /// How texts are read and printed.
 pub(crate) fn choices<'t>(
     options: &Options,
-    isymbols: &'t Option<SymbolTable>,
-    osymbols: &'t Option<SymbolTable>,
+    tables: &'t Tables,
 ) -> TextOptions<'t>
-    ensures { result ≡ choices_by options.now isymbols.entry.now osymbols.entry.now }
+    ensures { result ≡ choices_by options.now (input_names tables.entry.now) (output_names tables.entry.now) }
 {
     TextOptions {
         acceptor: options.acceptor,
         keep_state_numbering: options.keep_state_numbering,
         show_weight_one: options.show_weight_one,
-        isymbols: isymbols.as_ref(),
-        osymbols: osymbols.as_ref(),
+        isymbols: tables.of_input(),
+        osymbols: tables.of_output(),
     }
 }
 
@@ -117,10 +117,10 @@ fn read_text(
     name: &str,
     content: &[u8],
 ) -> Result<AnyFst, Refusal>
-    ensures { Judges (λ m. typed m) result (text_in (arc_type_of options.now) (choices_by options.now held.now.isymbols held.now.osymbols) name.now content.now) }
+    ensures { Judges (λ m. typed m) result (text_in (arc_type_of options.now) (choices_by options.now (input_names held.now.tables) (output_names held.now.tables)) name.now content.now) }
 {
     let kind = arc_type_of(options);
-    let choices = choices(options, &held.isymbols, &held.osymbols);
+    let choices = choices(options, &held.tables);
     match compile_any(alloc, kind, content, &choices) {
         Ok(machine) => Ok(machine),
         Err(fault) => Err(not_text(alloc, name, fault)),
@@ -184,8 +184,9 @@ fn put(
     ensures { Judges (λ u. held_seen held.new) result (put options.now role name.now content.now (held_seen held.old)) }
 {
     match role {
-        Role::InputSymbols => held.isymbols = Some(read_table(alloc, name, content)?),
-        Role::OutputSymbols => held.osymbols = Some(read_table(alloc, name, content)?),
+        Role::InputSymbols => held.tables.input = Some(read_table(alloc, name, content)?),
+        Role::OutputSymbols => held.tables.output = Some(read_table(alloc, name, content)?),
+        Role::BothSymbols => held.tables = Tables::for_both(read_table(alloc, name, content)?),
         Role::InputPairs => held.ipairs = read_pairs(alloc, name, content)?,
         Role::OutputPairs => held.opairs = read_pairs(alloc, name, content)?,
         Role::Text => {

@@ -1,6 +1,6 @@
 //! `compile` and `print`: both forms, the options, the tags of weights, and the first cause of a refusal.
 
-use crate::session::Row::{self, Holds, Lacks, Put, PutWith, Refuse, Run};
+use crate::session::Row::{self, Fetched, Holds, Lacks, Put, PutWith, Refuse, Run};
 use crate::session::{ends, play};
 use fst_desk::MemoryDesk;
 use std::test::Fail;
@@ -116,6 +116,38 @@ static OPTIONS: [Row; 39] = [
     ),
 ];
 
+/// Two equal tables, and then one that is given for both sides: the same bytes, with one fetch less. Its fault is found
+/// once, and `-` is no name of both.
+static ONE_TABLE: [Row; 19] = [
+    Put("i", b"<eps> 0\na 1\nb 2\n"),
+    Put("o", b"<eps> 0\na 1\nb 2\n"),
+    Put("t", b"0 1 a b 5\n1 3\n"),
+    Run("compile --isymbols=i --osymbols=o t b"),
+    Holds("b", TICKET_FILE),
+    Run("print --isymbols=i --osymbols=o b p"),
+    Holds("p", b"0\t1\ta\tb\t5\n1\t3\n"),
+    Fetched(6),
+    Run("compile --isymbols=i --osymbols=i t b2"),
+    Holds("b2", TICKET_FILE),
+    Run("print --isymbols=i --osymbols=i b2 p2"),
+    Holds("p2", b"0\t1\ta\tb\t5\n1\t3\n"),
+    Fetched(10),
+    Put("i", b"a x\n"),
+    Refuse(
+        "compile --isymbols=i --osymbols=i t b3",
+        1,
+        b"fst: i: line 1: bad number\n",
+    ),
+    Fetched(11),
+    Refuse(
+        "compile --isymbols=- --osymbols=- t b3",
+        1,
+        b"fst: bad command line\n",
+    ),
+    Fetched(11),
+    Lacks("b3"),
+];
+
 /// The tables come first, that of the input side in front, each whole before the next is read, and each also where
 /// it is not used.
 static FIRST_CAUSES: [Row; 28] = [
@@ -220,6 +252,11 @@ fn compiles_and_prints(rt: HostRuntime) -> Result<(), Fail> {
     play(&rt, alloc, BOTH_WAYS.as_slice())?;
     play(&rt, alloc, OPTIONS.as_slice())?;
     play(&rt, alloc, TAGS.as_slice())
+}
+
+#[test]
+fn reads_one_table_for_both_sides_once(rt: HostRuntime) -> Result<(), Fail> {
+    play(&rt, rt.alloc(), ONE_TABLE.as_slice())
 }
 
 #[test]

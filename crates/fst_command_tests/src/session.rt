@@ -34,6 +34,8 @@ pub(crate) enum Row {
     Holds(&'static str, &'static [u8]),
     /// There is no such file.
     Lacks(&'static str),
+    /// There were so many fetches since the desk is new.
+    Fetched(u64),
 }
 
 /// The words of a line, one by one.
@@ -144,6 +146,7 @@ fn play_row<R: Threads + Sync + Abort>(
         Row::Refuse(line, status, shown) => ends(rt, alloc, desk, line, status, shown)?,
         Row::Holds(name, bytes) => holds(rt, desk, name, bytes),
         Row::Lacks(name) => assert!(rt; desk.held(name).is_none(), "{name} is there"),
+        Row::Fetched(count) => assert_eq!(rt; desk.fetches(), count),
     }
     Ok(())
 }

@@ -1,12 +1,13 @@
 -- How many inputs and outputs of each kind a whole plan has.
-use Rattle.std.proofs.Common.{◌≡◌, ◌∙◌, ◌-◌, ◌/◌, ◌≤◌, ◌<◌, ℕ, suc, Bool, true, false, List, [], ◌∷◌, ◌++◌, length, take, drop, cond, Option, Some, None, refl, sym, ap, arith, length-drop}
-use Rattle.fst_words.specs.declared.form.Role.TheVariants.{InputSymbols, OutputSymbols, InputPairs, OutputPairs}
+use Rattle.std.proofs.Common.{◌≡◌, ◌∙◌, ◌-◌, ◌/◌, ◌≤◌, ◌<◌, ℕ, suc, Bool, true, false, List, [], ◌∷◌, ◌++◌, length, take, drop, cond, Option, Some, None, refl, sym, ap, arith, append_assoc, length-drop}
+use Rattle.fst_words.specs.declared.form.Role.{Role}
+use Rattle.fst_words.specs.declared.form.Role.TheVariants.{InputSymbols, OutputSymbols, BothSymbols, InputPairs, OutputPairs}
 use Rattle.fst_words.specs.declared.form.Shape.{Shape}
 use Rattle.fst_words.specs.declared.form.Shape.TheVariants.{NoInput, Text, One, Two, Three, Rules, Codex}
 use Rattle.fst_words.specs.declared.options.Options.{Options}
 use Rattle.fst_words.specs.declared.plan.Plan.{Plan}
 use Rattle.fst_words.specs.Forms.{all_of, form_of, has_rules, least_of, place_of}
-use Rattle.fst_words.specs.Inputs.{Input, any_codex, codex_by, count_machines, has_codex, inputs_from, is_codex, machine_count, machines_by, option_input, option_inputs, own_inputs, plan_inputs, stored_by, stored_count}
+use Rattle.fst_words.specs.Inputs.{Input, any_codex, codex_by, count_machines, has_codex, inputs_from, is_codex, is_machine, is_one_file, machine_count, machines_by, option_input, option_inputs, own_inputs, plan_inputs, stored_by, stored_count, table_inputs}
 use Rattle.fst_words.specs.PlanLaws.{IsWhole}
 use Rattle.fst_words.specs.Plans.{input_files, is_replace, outputs_of, pair_machines, rule_labels}
 use Rattle.fst_words.proofs.PlannedFiles.{label_for_each, machine_count as pair_count}
@@ -54,25 +55,26 @@ counted Codex false [] all = absurd cc
 counted Codex false (a ∷ names) all = refl
 
 -- the files of options are no machines
-options_none : (o : Options) (is : List Input) → count_machines (option_inputs o ++ is) ≡ count_machines is
-options_none o is = go o.isymbols o.osymbols o.relabel_ipairs o.relabel_opairs where
-  go : (a b c d : Option (List ℕ)) → count_machines ((option_input InputSymbols a ++ (option_input OutputSymbols b ++ (option_input InputPairs c ++ option_input OutputPairs d))) ++ is) ≡ count_machines is
-  go None None None None = refl
-  go None None None (Some d) = refl
-  go None None (Some c) None = refl
-  go None None (Some c) (Some d) = refl
-  go None (Some b) None None = refl
-  go None (Some b) None (Some d) = refl
-  go None (Some b) (Some c) None = refl
-  go None (Some b) (Some c) (Some d) = refl
-  go (Some a) None None None = refl
-  go (Some a) None None (Some d) = refl
-  go (Some a) None (Some c) None = refl
-  go (Some a) None (Some c) (Some d) = refl
-  go (Some a) (Some b) None None = refl
-  go (Some a) (Some b) None (Some d) = refl
-  go (Some a) (Some b) (Some c) None = refl
-  go (Some a) (Some b) (Some c) (Some d) = refl
+abbrev HasNone : List Input → Type 0
+HasNone front = (is : List Input) → count_machines (front ++ is) ≡ count_machines is
+
+none_then : (front after : List Input) → HasNone front → HasNone after → HasNone (front ++ after)
+none_then front after first rest is = ap count_machines (append_assoc front after is) ∙ first (after ++ is) ∙ rest is
+
+option_none : (role : Role) (file : Option (List ℕ)) → is_machine role ≡ false → HasNone (option_input role file)
+option_none role None none is = refl
+option_none role (Some name) none is = rw none refl
+
+tables_none : (one : Bool) (isymbols osymbols : Option (List ℕ)) → HasNone (cond one (option_input BothSymbols isymbols) (option_input InputSymbols isymbols ++ option_input OutputSymbols osymbols))
+tables_none true isymbols osymbols = option_none BothSymbols isymbols refl
+tables_none false isymbols osymbols =
+    none_then (option_input InputSymbols isymbols) (option_input OutputSymbols osymbols) (option_none InputSymbols isymbols refl) (option_none OutputSymbols osymbols refl)
+
+options_none : (o : Options) → HasNone (option_inputs o)
+options_none o =
+    none_then (table_inputs o.isymbols o.osymbols) (option_input InputPairs o.relabel_ipairs ++ option_input OutputPairs o.relabel_opairs)
+    (tables_none (is_one_file o.isymbols o.osymbols) o.isymbols o.osymbols)
+    (none_then (option_input InputPairs o.relabel_ipairs) (option_input OutputPairs o.relabel_opairs) (option_none InputPairs o.relabel_ipairs refl) (option_none OutputPairs o.relabel_opairs refl))
 
 pub machines_all : (plan : Plan) → IsWhole plan → count_machines (plan_inputs plan) ≡ machine_count plan
 machines_all plan whole = options_none plan.options (own_inputs plan) ∙ counted (form_of plan.command).shape plan.options.decode plan.names whole.all

@@ -1,8 +1,9 @@
 -- The inputs of a plan, in the order in which they are read: the files of the options come first.
 use Rattle.std.specs.Prelude.{ℕ, suc, ◌/◌, Bool, true, false, List, [], ◌∷◌, ◌++◌, length, Option, Some, None, if◌then◌else◌}
+use Rattle.std.specs.Str.{bytes_eq}
 use Rattle.fst_words.specs.declared.form.Role.{Role}
 use Rattle.fst_words.specs.declared.form.Role.TheVariants as roles
-use Rattle.fst_words.specs.declared.form.Role.TheVariants.{InputSymbols, OutputSymbols, InputPairs, OutputPairs}
+use Rattle.fst_words.specs.declared.form.Role.TheVariants.{InputSymbols, OutputSymbols, BothSymbols, InputPairs, OutputPairs}
 use Rattle.fst_words.specs.declared.form.Shape.{Shape}
 use Rattle.fst_words.specs.declared.form.Shape.TheVariants.{NoInput, Text, One, Two, Three, Rules, Codex}
 use Rattle.fst_words.specs.declared.inputs.Input as declared
@@ -21,11 +22,21 @@ abbrev pub option_input : Role → Option (List ℕ) → List Input
 option_input role None = []
 option_input role (Some name) = record { name = name; role = role } ∷ []
 
+-- both options stand, and name the same file
+abbrev pub is_one_file : Option (List ℕ) → Option (List ℕ) → Bool
+is_one_file None second = false
+is_one_file (Some first) None = false
+is_one_file (Some first) (Some second) = bytes_eq first second
+
+-- the files of the symbol tables: one that both options name is one input, and serves both sides
+abbrev pub table_inputs : Option (List ℕ) → Option (List ℕ) → List Input
+table_inputs isymbols osymbols =
+    if is_one_file isymbols osymbols then option_input BothSymbols isymbols
+    else option_input InputSymbols isymbols ++ option_input OutputSymbols osymbols
+
 -- the files of the options
 abbrev pub option_inputs : Options → List Input
-option_inputs o =
-    option_input InputSymbols o.isymbols ++ (option_input OutputSymbols o.osymbols ++
-    (option_input InputPairs o.relabel_ipairs ++ option_input OutputPairs o.relabel_opairs))
+option_inputs o = table_inputs o.isymbols o.osymbols ++ (option_input InputPairs o.relabel_ipairs ++ option_input OutputPairs o.relabel_opairs)
 
 -- files of its own that a command fetches, by their places from this one on
 abbrev pub inputs_from : Shape → ℕ → List (List ℕ) → List Input
@@ -50,6 +61,7 @@ input_seen i = record { name = i.name.now; role = i.role }
 abbrev pub is_machine : Role → Bool
 is_machine InputSymbols = false
 is_machine OutputSymbols = false
+is_machine BothSymbols = false
 is_machine InputPairs = false
 is_machine OutputPairs = false
 is_machine roles.Text = true
@@ -61,6 +73,7 @@ is_machine roles.Lines = false
 abbrev pub is_codex : Role → Bool
 is_codex InputSymbols = false
 is_codex OutputSymbols = false
+is_codex BothSymbols = false
 is_codex InputPairs = false
 is_codex OutputPairs = false
 is_codex roles.Text = false

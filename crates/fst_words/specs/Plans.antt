@@ -49,11 +49,11 @@ abbrev pub input_files : Plan → List (List ℕ)
 input_files plan =
     if is_replace plan.command then pair_machines plan.names else take (output_place_of plan) plan.names
 
--- the names of the option files, in the order in which they are fetched
+-- the names of the option files, in the order in which they are fetched; a file that two options name stands twice
 abbrev pub option_files : Options → List (List ℕ)
 option_files o = option_to_list o.isymbols ++ (option_to_list o.osymbols ++ (option_to_list o.relabel_ipairs ++ option_to_list o.relabel_opairs))
 
--- the names of the files that are fetched, in order
+-- the names of the files that are fetched, in order, as often as the words name them
 unfoldable pub inputs_of : Plan → List (List ℕ)
 inputs_of plan = option_files plan.options ++ input_files plan
 
@@ -90,7 +90,7 @@ are_labels texts = list_all (λ t. is_some (label_of t)) texts && numbers_differ
 abbrev pub labels_fit : Plan → Bool
 labels_fit plan = not (is_replace plan.command) || are_labels (pair_labels plan.names)
 
--- at most one of the files that are fetched is the standard input
+-- `-` is the name of at most one of the files that are fetched, also where two options name one file
 abbrev pub inputs_fit : Plan → Bool
 inputs_fit plan = nat_le (count_by is_dash (inputs_of plan)) 1
 

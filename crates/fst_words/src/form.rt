@@ -252,6 +252,8 @@ pub enum Role {
     InputSymbols,
     /// The symbol table of the output labels.
     OutputSymbols,
+    /// The symbol table of the labels of both sides.
+    BothSymbols,
     /// The pairs of old and new input labels.
     InputPairs,
     /// The pairs of old and new output labels.

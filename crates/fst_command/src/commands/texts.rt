@@ -48,7 +48,7 @@ pub(crate) fn printed<W: Weight>(
 {
     let machine = one(given.machines);
     let room = given.text_room;
-    let choices = choices(options, &given.isymbols, &given.osymbols);
+    let choices = choices(options, &given.tables);
     match print_into(room, &machine, &choices) {
         Ok(text) => Ok(Made::Text(text)),
         Err(fault) => Err(unprinted(alloc, fault)),

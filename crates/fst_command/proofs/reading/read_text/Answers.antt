@@ -7,6 +7,7 @@ use Rattle.fst_text.specs.declared.fault.TextFault.TheVariants.{Memory}
 use Rattle.fst_any.specs.Typed.{typed_machine_of_text}
 use Rattle.fst_command.specs.Causes.{misread}
 use Rattle.fst_command.specs.Given.{arc_type_of, choices_by, telling, text_in}
+use Rattle.fst_command.specs.Seeing.{input_names, output_names}
 use Rattle.fst_command.proofs.Refusing.{fails_read}
 use Rattle.fst_command.proofs.reading.read_text.Goals as goal
 
@@ -17,7 +18,7 @@ returns-in-Ok c =
     let o = c.args.options.now in
     let content = c.args.content.now in
     ap (telling (λ fault. misread c.args.name.now (codes "line") (line_of fault) (reason_of fault)))
-    (ap (λ (k : ArcType). typed_machine_of_text k (choices_by o held.isymbols held.osymbols) content) (sym c.arc_type_of-kind.ensures)
+    (ap (λ (k : ArcType). typed_machine_of_text k (choices_by o (input_names held.tables) (output_names held.tables)) content) (sym c.arc_type_of-kind.ensures)
     ∙ ap (λ (x : Options). typed_machine_of_text c.arc_type_of-kind.result x content) (sym c.choices-choices.ensures)
     ∙ c.in-Ok.ensures)
 
@@ -27,6 +28,6 @@ returns-in-Err c =
     let held = c.args.held.now in
     let o = c.args.options.now in
     let content = c.args.content.now in
-    let fails = subst (λ (k : ArcType). reading.Fails Memory c.in-Err.fault (typed_machine_of_text k (choices_by o held.isymbols held.osymbols) content)) c.arc_type_of-kind.ensures
+    let fails = subst (λ (k : ArcType). reading.Fails Memory c.in-Err.fault (typed_machine_of_text k (choices_by o (input_names held.tables) (output_names held.tables)) content)) c.arc_type_of-kind.ensures
     (subst (λ (x : Options). reading.Fails Memory c.in-Err.fault (typed_machine_of_text c.arc_type_of-kind.result x content)) c.choices-choices.ensures c.in-Err.ensures) in
-    fails_read (λ fault. misread c.args.name.now (codes "line") (line_of fault) (reason_of fault)) Memory c.in-Err.fault (typed_machine_of_text (arc_type_of o) (choices_by o held.isymbols held.osymbols) content) c.not_text.result fails c.not_text.ensures.made c.not_text.ensures.memory
+    fails_read (λ fault. misread c.args.name.now (codes "line") (line_of fault) (reason_of fault)) Memory c.in-Err.fault (typed_machine_of_text (arc_type_of o) (choices_by o (input_names held.tables) (output_names held.tables)) content) c.not_text.result fails c.not_text.ensures.made c.not_text.ensures.memory
