@@ -82,10 +82,7 @@ fn read_pairs(alloc: Global, name: &str, content: &[u8]) -> Result<Pairs, Refusa
 }
 
 /// How texts are read and printed.
-pub(crate) fn choices<'t>(
-    options: &Options,
-    tables: &'t Tables,
-) -> TextOptions<'t>
+pub(crate) fn choices<'t>(options: &Options, tables: &'t Tables) -> TextOptions<'t>
     ensures { result ≡ choices_by options.now (input_names tables.entry.now) (output_names tables.entry.now) }
 {
     TextOptions {
