@@ -16,3 +16,4 @@ pub mod Closing
 pub mod Reversing
 pub mod Backing
 pub mod Counting
+pub mod Banding

@@ -4,7 +4,7 @@ ghost use Rattle.std.specs.Prelude.{◌≡◌, ◌<◌, ◌≤◌, ◌+◌, ◌-
 ghost use Rattle.std.specs.List.{range_with_len};
 ghost use Rattle.fst_machine.specs.Machine.{IsArc, IsMachine, arc_total, changed, most_arcs, most_states, valued, valued_arc, valued_state};
 ghost use Rattle.fst_machine.specs.Placing.{arc_counts};
-ghost use Rattle.fst_rational.specs.Backing.{bare_states, counted_back, put_all, put_back, turned_bare, with_more};
+ghost use Rattle.fst_rational.specs.Backing.{arcs_into, bare_states, counted_back, put_all, put_back, state_into, turned_bare, with_more};
 ghost use Rattle.fst_rational.specs.Changing.{onward};
 ghost use Rattle.fst_rational.specs.Constructions.{final_arcs, reverse_of, start_weight};
 ghost use Rattle.fst_rational.specs.Limits.{IsLimited, IsSize, IsSmall};
@@ -122,17 +122,27 @@ fn put_finals<W: Weight>(states: &mut Placing<W>, a: &Fst<W>)
     }
 }
 
-/// Puts each of these arcs, back to `place`, behind those of the state one place beyond where it leads.
-fn put_arcs_back<W: Weight>(states: &mut Placing<W>, arcs: &[FstArc<W>], place: u32)
+/// States that stand side by side: those from `first` on, before `behind`.
+#[derive(Clone, Copy)]
+struct Band {
+    first: u32,
+    behind: u32,
+}
+
+/// Puts those of these arcs that lead into a band, back to `place`, behind those of the state one place beyond where it leads.
+fn put_arcs_back<W: Weight>(states: &mut Placing<W>, arcs: &[FstArc<W>], place: u32, band: Band)
     requires few { length states.old.states ≤ most_states }
     requires good { All (IsArc W.value (length states.old.states - 1)) arcs.now }
-    requires room { (i : ℕ) → get_or (arc_counts (put_back place (map (valued_arc W.value) arcs.now) (map (valued_state W.value) states.old.states))) i 0 ≤ get_or states.old.rooms i 0 }
-    ensures states { map (valued_state W.value) states.new.states ≡ put_back place (map (valued_arc W.value) arcs.now) (map (valued_state W.value) states.old.states) }
+    requires room { (i : ℕ) → get_or (arc_counts (put_back place (arcs_into band.first band.behind (map (valued_arc W.value) arcs.now)) (map (valued_state W.value) states.old.states))) i 0 ≤ get_or states.old.rooms i 0 }
+    ensures states { map (valued_state W.value) states.new.states ≡ put_back place (arcs_into band.first band.behind (map (valued_arc W.value) arcs.now)) (map (valued_state W.value) states.old.states) }
     ensures size { length states.new.states ≡ length states.old.states }
     ensures rooms { states.new.rooms ≡ states.old.rooms }
     ensures left { states.new.left ≡ states.old.left }
 {
     for arc in arcs {
+        if arc.next < band.first || arc.next >= band.behind {
+            continue;
+        }
         let turned = FstArc {
             ilabel: arc.ilabel,
             olabel: arc.olabel,
@@ -143,7 +153,67 @@ fn put_arcs_back<W: Weight>(states: &mut Placing<W>, arcs: &[FstArc<W>], place: 
     }
 }
 
-/// Puts the arcs of each state, back to where it stands one place further on, where they led.
+/// Puts the arcs that lead into a band, back to where their state stands one place further on, where they led.
+fn put_band_back<W: Weight>(states: &mut Placing<W>, a: &Fst<W>, band: Band)
+    requires size { length states.old.states ≡ length a.now.states + 1 }
+    requires few { length states.old.states ≤ most_states }
+    requires room { (i : ℕ) → get_or (arc_counts (put_all 1 (map (state_into band.first band.behind) (map (valued_state W.value) a.now.states)) (map (valued_state W.value) states.old.states))) i 0 ≤ get_or states.old.rooms i 0 }
+    ensures states { map (valued_state W.value) states.new.states ≡ put_all 1 (map (state_into band.first band.behind) (map (valued_state W.value) a.now.states)) (map (valued_state W.value) states.old.states) }
+    ensures size { length states.new.states ≡ length states.old.states }
+    ensures rooms { states.new.rooms ≡ states.old.rooms }
+    ensures left { states.new.left ≡ states.old.left }
+{
+    for state in 0..a.states() {
+        put_arcs_back(states, a.arcs(state), state + 1, band);
+    }
+}
+
+/// An arc leads far where it leads more states away than this: what is kept of so many states and of their arcs stays at hand.
+const NEAR: u32 = 4096;
+
+/// Whether the first of these arcs, which leave a state, leads far.
+fn first_leads_far<W>(arcs: &[FstArc<W>], state: u32) -> bool {
+    match arcs.first() {
+        Some(arc) => arc.next.abs_diff(state) > NEAR,
+        None => false,
+    }
+}
+
+/// At how many states, which stand evenly apart, it is seen whether arcs lead far.
+const LOOKS: u32 = 256;
+
+/// Whether arcs often lead far, as the first arcs of some states tell.
+fn leads_far<W: Weight>(a: &Fst<W>) -> bool {
+    let count = a.states();
+    let step = count / LOOKS + 1;
+    let mut far: u32 = 0;
+    let mut state: u32 = 0;
+    while state < count {
+        if first_leads_far(a.arcs(state), state) {
+            far += 1;
+        }
+        state += step;
+    }
+    far > LOOKS / 4
+}
+
+/// For so many arcs there is a further band: their part of the store stays at hand while they are put.
+const BAND_ARCS: u32 = 262_144;
+
+/// In how many bands the arcs are put back. The machine is the same for any number.
+fn band_count<W: Weight>(a: &Fst<W>) -> u32
+    ensures some { 1 ≤ result }
+    ensures few { result ≤ 8 }
+{
+    let arcs = a.arc_count();
+    if arcs < BAND_ARCS || !leads_far(a) {
+        return 1;
+    }
+    (1 + arcs / BAND_ARCS).min(8)
+}
+
+/// Puts the arcs of each state, back to where it stands one place further on, where they led: band by band, since a part of the
+/// store that stays at hand gets them sooner than the whole, at a place here and a place there.
 fn put_all_back<W: Weight>(states: &mut Placing<W>, a: &Fst<W>)
     requires size { length states.old.states ≡ length a.now.states + 1 }
     requires few { length states.old.states ≤ most_states }
@@ -152,8 +222,13 @@ fn put_all_back<W: Weight>(states: &mut Placing<W>, a: &Fst<W>)
     ensures rooms { states.new.rooms ≡ states.old.rooms }
     ensures left { states.new.left ≡ states.old.left }
 {
-    for state in 0..a.states() {
-        put_arcs_back(states, a.arcs(state), state + 1);
+    let count = a.states();
+    let width = count / band_count(a) + 1;
+    let mut first = 0;
+    while first < count {
+        let behind = first + width;
+        put_band_back(states, a, Band { first, behind });
+        first = behind;
     }
 }
 
