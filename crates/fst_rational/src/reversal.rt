@@ -168,33 +168,33 @@ fn put_band_back<W: Weight>(states: &mut Placing<W>, a: &Fst<W>, band: Band)
     }
 }
 
-/// An arc leads far where it leads more states away than this: what is kept of so many states and of their arcs stays at hand.
+/// Arcs lead far apart where more states than these are between: what is kept of so many states and of their arcs stays at hand.
 const NEAR: u32 = 4096;
 
-/// Whether the first of these arcs, which leave a state, leads far.
-fn first_leads_far<W>(arcs: &[FstArc<W>], state: u32) -> bool {
-    match arcs.first() {
-        Some(arc) => arc.next.abs_diff(state) > NEAR,
-        None => false,
+/// Whether arcs of two states that stand side by side lead far apart, as the first of these and the last of those tell.
+fn lead_apart<W>(these: &[FstArc<W>], those: &[FstArc<W>]) -> bool {
+    match (these.first(), those.last()) {
+        (Some(one), Some(other)) => one.next.abs_diff(other.next) > NEAR,
+        _ => false,
     }
 }
 
-/// At how many states, which stand evenly apart, it is seen whether arcs lead far.
+/// At how many states, which stand evenly apart, it is seen whether arcs lead here and there.
 const LOOKS: u32 = 256;
 
-/// Whether arcs often lead far, as the first arcs of some states tell.
-fn leads_far<W: Weight>(a: &Fst<W>) -> bool {
+/// Whether arcs often lead far from where the arcs before them lead, as those of some states tell.
+fn leads_about<W: Weight>(a: &Fst<W>) -> bool {
     let count = a.states();
     let step = count / LOOKS + 1;
-    let mut far: u32 = 0;
-    let mut state: u32 = 0;
+    let mut apart: u32 = 0;
+    let mut state: u32 = 1;
     while state < count {
-        if first_leads_far(a.arcs(state), state) {
-            far += 1;
+        if lead_apart(a.arcs(state - 1), a.arcs(state)) {
+            apart += 1;
         }
         state += step;
     }
-    far > LOOKS / 4
+    apart > LOOKS / 4
 }
 
 /// For so many arcs there is a further band: their part of the store stays at hand while they are put.
@@ -206,7 +206,7 @@ fn band_count<W: Weight>(a: &Fst<W>) -> u32
     ensures few { result ≤ 8 }
 {
     let arcs = a.arc_count();
-    if arcs < BAND_ARCS || !leads_far(a) {
+    if arcs < BAND_ARCS || !leads_about(a) {
         return 1;
     }
     (1 + arcs / BAND_ARCS).min(8)
