@@ -122,6 +122,8 @@ pub struct KeySet<K: Coded> {
     firsts: Places,
     /// The place of each key whose number an earlier key has.
     others: BTreeMap<K::Whole, u32>,
+    /// For each key that is noted where the look for its number begins.
+    expected: Vec<usize>,
 }
 
 impl<K: Coded> Model for KeySet<K> {
@@ -153,6 +155,7 @@ impl<K: Coded> KeySet<K> {
             keys: Vec::with_capacity(alloc, keys)?,
             firsts: Places::with_room(alloc, 0, keys)?,
             others: BTreeMap::new(alloc),
+            expected: Vec::new(alloc),
         })
     }
 
@@ -164,7 +167,33 @@ impl<K: Coded> KeySet<K> {
             keys: Vec::new(alloc),
             firsts: Places::new(alloc, bound),
             others: BTreeMap::new(alloc),
+            expected: Vec::new(alloc),
         }
+    }
+
+    /// Notes a key that is to be put in soon. The only fault is that memory has run out.
+    #[inline]
+    pub fn expect(&mut self, key: &K) -> Result<(), AllocError>
+        ensures { self.new ≡ self.old }
+    {
+        let start = self.firsts.start(key.code().number);
+        if self.expected.len() < self.expected.capacity() {
+            self.expected.push_reserved(start);
+            return Ok(());
+        }
+        self.expected.push(start)?;
+        Ok(())
+    }
+
+    /// Makes room for those of the keys that are noted that one look at the table of numbers tells to be new, and forgets the
+    /// notes. The looks are made side by side, and what they find is near when the keys are put in one by one. The only
+    /// fault is that memory has run out.
+    pub fn make_room(&mut self) -> Result<(), AllocError>
+        ensures { self.new ≡ self.old }
+    {
+        let more = self.firsts.count_free(self.expected.as_slice());
+        self.expected.clear();
+        self.keys.reserve(more)
     }
 
     /// The place of a key, which is put after the others where it is new, and whether it was; `None` where it is new and

@@ -2,6 +2,7 @@
 use Rattle.std.proofs.Common.{◌≡◌, ◌≢◌, ℕ, ◌+◌, ◌-◌, ◌<◌, ◌≤◌, ◌==◌, List, [], ◌∷◌, Option, refl, length, drop, get_or, Some, None, cond, sym, ap, ◌∙◌, subst, arith, ◌⊎◌, inl, inr}
 use Rattle.std.specs.BTreeMap.{BTreeMap, IsUnchanged, Updates, get, is_at}
 use Rattle.std.specs.Cmp.{eq_by_cmp_equiv, nat_cmp_total}
+use Rattle.std.specs.List.{position_or_len}
 use Rattle.std.specs.List.Sorted.{IsStrictlySortedBy}
 use Rattle.std.specs.Map.{keys_of, lookup}
 use Rattle.std.specs.Option.{option_or, unwrap_or}
@@ -45,6 +46,32 @@ module _ (xs : List Slot) (n : ℕ) where
 
   pub past_told : (overflow : BTreeMap ℕ ℕ) → IsNear xs → length xs ≤ probed_slot xs n → placed_among xs overflow n ≡ get nat_cmp overflow n
   past_told overflow near past = ap (λ o. option_or o (get nat_cmp overflow n)) (past-none near past)
+
+-- A number whose first slot is empty is not known.
+module _ (xs : List Slot) (n : ℕ) (within : first_slot (length xs) n < length xs) (empty : place_at xs (first_slot (length xs) n) ≡ 4294967295) where
+  -- its probe ends there
+  ends-first : probe_end xs n ≡ first_slot (length xs) n
+  ends-first = go (cases_eq (position_or_len (ends_probe n) (drop first xs)) 0) where
+    first : ℕ
+    first = first_slot (length xs) n
+
+    go : (position_or_len (ends_probe n) (drop first xs) ≡ 0) ⊎ (position_or_len (ends_probe n) (drop first xs) ≢ 0) → probe_end xs n ≡ first
+    go (inl none) = omega (arith, none)
+    go (inr some) =
+        let fails = fails_before_first (ends_probe n) (drop first xs) 0 empty_slot (omega (arith, some)) in
+        let at : first + 0 ≡ first = omega arith in
+        let read = get_or-drop first xs 0 empty_slot ∙ ap (λ (j : ℕ). get_or xs j empty_slot) at in
+        absurd (let ends = ap (ends_probe n) read ∙ ends-empty n (get_or xs first empty_slot) empty in cc)
+
+  first-none : (overflow : BTreeMap ℕ ℕ) → IsOverflow xs overflow → placed_among xs overflow n ≡ None
+  first-none overflow overflows = ap (λ o. option_or o (get nat_cmp overflow n)) (place-empty (place_at xs (probe_end xs n)) (ap (place_at xs) ends-first ∙ empty)) ∙ go (get nat_cmp overflow n) refl where
+    go : (o : Option ℕ) → get nat_cmp overflow n ≡ o → get nat_cmp overflow n ≡ None
+    go None is = is
+    go (Some p) is = absurd ((overflows n p is).0 (first_slot (length xs) n) (omega arith) (omega (arith, within)) empty)
+
+-- and so are all that begin at an empty slot
+pub first_told : (xs : List Slot) (overflow : BTreeMap ℕ ℕ) (k : ℕ) → IsOverflow xs overflow → k < length xs → place_at xs k ≡ 4294967295 → (n : ℕ) → first_slot (length xs) n ≡ k → placed_among xs overflow n ≡ None
+first_told xs overflow k overflows within empty n first = first-none xs n (subst (λ (j : ℕ). j < length xs) (sym first) within) (ap (place_at xs) first ∙ empty) overflow overflows
 
 -- A number whose probe meets no empty slot is written in the map.
 module _ (xs : List Slot) (overflow more : BTreeMap ℕ ℕ) (n p : ℕ) (small : p < 4294967295) (near : IsNear xs) (past : length xs ≤ probed_slot xs n) (told : (m : ℕ) → get nat_cmp more m ≡ with_place (get nat_cmp overflow) n p m) where

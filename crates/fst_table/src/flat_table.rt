@@ -3,7 +3,7 @@
 //! a bounded number of slots and at most a search in the map, whatever the numbers are, also where
 //! they are chosen so that all their probes begin at one slot.
 
-ghost use Rattle.std.specs.Prelude.{◌≡◌, ◌+◌, ◌*◌, ◌<◌, ◌≤◌, ℕ, length, None, IfOk, IsSome, OnErr, OnOk};
+ghost use Rattle.std.specs.Prelude.{◌≡◌, ◌+◌, ◌*◌, ◌<◌, ◌≤◌, ℕ, true, length, None, IfOk, IsSome, OnErr, OnOk};
 ghost use Rattle.fst_table.specs.Slots.{IsNear, IsOverflow, IsProbed, first_slot, number_of, placed_in_slots, probed_slot, slot_of, with_place};
 ghost use Rattle.std.specs.BTreeMap.{get};
 ghost use Rattle.std.specs.Ordering.{nat_cmp};
@@ -129,7 +129,7 @@ fn find_or_insert(
 
 #[tactic(auto, unfolding(crate::specs::Placed::placed_in))]
 impl FlatTable {
-    ghost use Rattle.fst_table.specs.Placed.{placed_in, room_in};
+    ghost use Rattle.fst_table.specs.Placed.{placed_in, room_in, start_in};
 
     /// No number is known. Takes no memory.
     pub fn new(alloc: Global) -> FlatTable
@@ -153,6 +153,33 @@ impl FlatTable {
         }
         let place = self.slots[at].place;
         if place == ABSENT { None } else { Some(place) }
+    }
+
+    /// The slot at which the look for a number begins. Reads no slot, and takes no memory.
+    pub fn start(&self, number: u64) -> usize
+        ensures { result ≡ start_in self.now number }
+    {
+        first_slot(self.slots.len(), number)
+    }
+
+    /// Whether a slot is free. The numbers for which the look begins there are not known then. Takes no memory.
+    #[tactic(auto, using(crate::proofs::Overflow::first_told), unfolding(crate::specs::Placed::placed_in))]
+    pub fn is_free(&self, start: usize) -> bool
+        ensures { result ≡ true → (n : ℕ) → start_in self.now n ≡ start → placed_in self.now n ≡ None }
+    {
+        start < self.slots.len() && self.slots[start].place == ABSENT
+    }
+
+    /// How many of these slots are free. No look hangs on what another finds, so that the processor makes many at once,
+    /// and what they find is near for a while. Takes no memory.
+    pub fn count_free(&self, starts: &[usize]) -> usize
+        ensures { result ≤ length starts.now }
+    {
+        let mut count = 0;
+        for start in starts {
+            count += usize::from(self.is_free(*start));
+        }
+        count
     }
 
     /// So many empty slots.

@@ -2,7 +2,7 @@
 
 ghost use Rattle.std.specs.Prelude.{◌≡◌, ◌<◌, ◌≤◌, ℕ, None, Some, IfOk, IsSome, OnErr, OnOk, length};
 ghost use Rattle.std.specs.Option.{ForSome};
-ghost use Rattle.fst_table.specs.Placed.{found_among, room_in};
+ghost use Rattle.fst_table.specs.Placed.{found_among, room_in, start_in};
 
 use crate::flat_table::FlatTable;
 use std::alloc::{AllocError, Global};
@@ -65,6 +65,20 @@ impl Places {
             Some(place) => { if *place == ABSENT { None } else { Some(*place) } }
             None => None,
         }
+    }
+
+    /// The slot of the table at which the look for a number from the bound on begins. Reads no slot, and takes no memory.
+    pub fn start(&self, number: u64) -> usize
+        ensures { result ≡ start_in self.now.sparse number }
+    {
+        self.sparse.start(number)
+    }
+
+    /// How many of these slots of the table are free, as `FlatTable` counts them.
+    pub fn count_free(&self, starts: &[usize]) -> usize
+        ensures { result ≤ length starts.now }
+    {
+        self.sparse.count_free(starts)
     }
 
     /// The place of a number that is likely to be asked for again at once. Takes no memory.

@@ -42,6 +42,32 @@ fn put_arc<W: Weight>(
     Ok(true)
 }
 
+/// So many names are more than the processor has at hand.
+const MANY: usize = 8192;
+
+/// Of so many arcs at least it pays to look at their names beforehand.
+const SEVERAL: usize = 4;
+
+/// And of so many at most what is found stays at hand.
+const AT_ONCE: usize = 256;
+
+/// Makes room for the names to which these arcs lead, if there are many names already: they are looked at side by side,
+/// before each is looked up and waited for.
+pub(crate) fn expect_names<K: Coded, W: Weight>(
+    names: &mut NameTable<K>,
+    made: &[NameArc<K, W>],
+) -> Result<(), AllocError>
+    ensures { names.new ≡ names.old }
+{
+    if names.len() < MANY || made.len() < SEVERAL {
+        return Ok(());
+    }
+    for arc in &made[..made.len().min(AT_ONCE)] {
+        names.expect(&arc.next)?;
+    }
+    names.make_room()
+}
+
 /// Finds the names to which these arcs lead, and puts the arcs, numbered, behind those of the open state, if those before
 /// them fit, and as far as their weights are in range. Gives whether all are put; `None` where there are more names than the
 /// limit. The names move into the table.

@@ -10,7 +10,7 @@ ghost use Rattle.fst_walk.specs.Names.{IsLater, left_from};
 
 use crate::fault::WalkFault;
 use crate::names::Names;
-use crate::numbering::number_arcs;
+use crate::numbering::{expect_names, number_arcs};
 use crate::output::{Output, counted, put_state, still_fits};
 use crate::table::{NameTable, find};
 use fst_keys::Coded;
@@ -64,6 +64,7 @@ fn follow_part<W: Weight, N: Names<W>>(
     let more = output.made.len();
     output.total = counted(output.total, more);
     let so_far = still_fits(fits, output.total);
+    expect_names(&mut output.names, output.made.as_slice())?;
     let Some(fits) = number_arcs(
         &mut output.states,
         &mut output.names,

@@ -41,7 +41,7 @@ returns-in_default-clause-stops g c =
     let part = map value c.put_part.new.out.items in
     let key = c.item-key.result.now in
     let is : part ++ left_from (rest key) c.in_ok-next.next ≡ rest key c.args.from = c.in_ok-next.ensures.put ∙ ap (λ zs. map value zs ++ rest key c.args.from) c.clear.ensures.items in
-    λ none. taking_stops (g.N.Names.graph c.args.graph.now) c.args.limit c.args.place o.names (map (valued_state g.W.Weight.value) o.states.states) (map (valued_arc g.W.Weight.value) o.states.arcs) o.total o.overflow c.args.fits (λ n. rest n c.args.from) c.requires.taking key part (left_from (rest key) c.in_ok-next.next) c.item-key.ensures is (rw c.in_default.is at c.in_ok-fits.ensures.put)
+    λ none. taking_stops (g.N.Names.graph c.args.graph.now) c.args.limit c.args.place o.names (map (valued_state g.W.Weight.value) o.states.states) (map (valued_arc g.W.Weight.value) o.states.arcs) o.total o.overflow c.args.fits (λ n. rest n c.args.from) c.requires.taking key part (left_from (rest key) c.in_ok-next.next) c.item-key.ensures is (rw (c.in_default.is, c.expect_names.ensures) at c.in_ok-fits.ensures.put)
 
 pub returns-clause-taking : goal.returns-clause-taking
 returns-clause-taking g c =
@@ -60,5 +60,5 @@ returns-clause-taking g c =
     let size : length part ≡ length made = length-map made value in
     let many : c.len-more.result ≡ length part = omega (arith, c.len-more.ensures, c.put_part.new.out.ok, size) in
     let counts : (k : ℕ) → IsCounted o.total k → IsCounted count (k + length part) = λ k h. subst (λ (m : ℕ). IsCounted count (k + m)) many (c.counted-output.ensures.count k h) in
-    let goes = taking_goes graph c.args.limit c.args.place o.names states (map (valued_arc g.W.Weight.value) o.states.arcs) o.total o.overflow c.args.fits (λ n. rest n c.args.from) c.requires.taking part count counts key later c.number_arcs.new.names out c.still_fits-so_far.result c.in-Some.fits c.item-key.ensures is c.still_fits-so_far.ensures (rw c.in-Some.is at c.in_ok-fits.ensures.put) in
+    let goes = taking_goes graph c.args.limit c.args.place o.names states (map (valued_arc g.W.Weight.value) o.states.arcs) o.total o.overflow c.args.fits (λ n. rest n c.args.from) c.requires.taking part count counts key later c.number_arcs.new.names out c.still_fits-so_far.result c.in-Some.fits c.item-key.ensures is c.still_fits-so_far.ensures (rw (c.in-Some.is, c.expect_names.ensures) at c.in_ok-fits.ensures.put) in
     subst (λ (ss : List (State g.row.W.Denot)). IsTaking graph c.args.limit c.args.place later c.number_arcs.new.names (map (valued_state g.W.Weight.value) ss) out count o.overflow c.in-Some.fits) (sym c.number_arcs.ensures.others) goes
