@@ -129,7 +129,8 @@ struct Band {
     behind: u32,
 }
 
-/// Puts those of these arcs that lead into a band, back to `place`, behind those of the state one place beyond where it leads.
+/// Puts those of these arcs that lead into a band, back to `place`, behind those of the state one place beyond where
+/// it leads.
 fn put_arcs_back<W: Weight>(states: &mut Placing<W>, arcs: &[FstArc<W>], place: u32, band: Band)
     requires few { length states.old.states ≤ most_states }
     requires good { All (IsArc W.value (length states.old.states - 1)) arcs.now }
@@ -168,7 +169,8 @@ fn put_band_back<W: Weight>(states: &mut Placing<W>, a: &Fst<W>, band: Band)
     }
 }
 
-/// Arcs lead far apart where more states than these are between: what is kept of so many states and of their arcs stays at hand.
+/// Arcs lead far apart where more states than these are between. What is kept of so many states and of their arcs
+/// stays in the cache.
 const NEAR: u32 = 4096;
 
 /// Whether arcs of two states that stand side by side lead far apart, as the first of these and the last of those tell.
@@ -197,7 +199,7 @@ fn leads_about<W: Weight>(a: &Fst<W>) -> bool {
     apart > LOOKS / 4
 }
 
-/// For so many arcs there is a further band: their part of the store stays at hand while they are put.
+/// For so many arcs there is a further band: their part of the store stays in the cache while they are put.
 const BAND_ARCS: u32 = 262_144;
 
 /// In how many bands the arcs are put back. The machine is the same for any number.
@@ -212,8 +214,8 @@ fn band_count<W: Weight>(a: &Fst<W>) -> u32
     (1 + arcs / BAND_ARCS).min(8)
 }
 
-/// Puts the arcs of each state, back to where it stands one place further on, where they led: band by band, since a part of the
-/// store that stays at hand gets them sooner than the whole, at a place here and a place there.
+/// Puts the arcs of each state, back to where it stands one place further on, where they led. It goes along all arcs
+/// for each band, which is read in order, and so takes less time than to put them here and there in the whole store.
 fn put_all_back<W: Weight>(states: &mut Placing<W>, a: &Fst<W>)
     requires size { length states.old.states ≡ length a.now.states + 1 }
     requires few { length states.old.states ≤ most_states }
