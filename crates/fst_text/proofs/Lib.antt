@@ -10,6 +10,7 @@ pub mod Lines
 pub mod MachineEntries
 pub mod Naming
 pub mod Numbers
+pub mod Plain
 pub mod Prints
 pub mod Reading
 pub mod Rereading

@@ -38,7 +38,7 @@ name-word [] h = let filled = h.filled in absurd (omega arith)
 name-word (c ∷ cs) h = recursion_from_All IsNameByte (c ∷ cs) h.bytes
 
 -- a field ends where no field begins behind it
-field-first : (c : ℕ) (cs rest : List ℕ) → IsNameByte c → AllByRecursion IsNameByte cs → begins_field rest ≡ false → fields_of ((c ∷ cs) ++ rest) ≡ (c ∷ cs) ∷ fields_of rest
+pub field-first : (c : ℕ) (cs rest : List ℕ) → IsNameByte c → AllByRecursion IsNameByte cs → begins_field rest ≡ false → fields_of ((c ∷ cs) ++ rest) ≡ (c ∷ cs) ∷ fields_of rest
 field-first c [] rest byte h end =
     ap (λ b. cond b (fields_of rest) (cond (begins_field rest) (in_front c (fields_of rest)) ((c ∷ []) ∷ fields_of rest))) byte.inner
     ∙ ap (λ b. cond b (in_front c (fields_of rest)) ((c ∷ []) ∷ fields_of rest)) end
@@ -69,10 +69,10 @@ fields-joined ((c ∷ cs) ∷ fields) h =
     field-first c cs (behind_tabs fields) h.0.0 h.0.1 rest.1 ∙ ap (λ fs. (c ∷ cs) ∷ fs) rest.0
 
 -- a byte that ends no line
-abbrev IsInner : ℕ → Type 0
+abbrev pub IsInner : ℕ → Type 0
 IsInner c = is_line_end c ≡ false
 
-line-first : (line rest : List ℕ) → AllByRecursion IsInner line → lines_of (line ++ 10 ∷ rest) ≡ line ∷ lines_of rest
+pub line-first : (line rest : List ℕ) → AllByRecursion IsInner line → lines_of (line ++ 10 ∷ rest) ≡ line ∷ lines_of rest
 line-first [] rest h = refl
 line-first (c ∷ line) rest h =
     ap (λ b. cond b ([] ∷ lines_of (line ++ 10 ∷ rest)) (in_front c (lines_of (line ++ 10 ∷ rest)))) h.0
@@ -86,7 +86,7 @@ inner-bytes : (cs : List ℕ) → AllByRecursion IsNameByte cs → AllByRecursio
 inner-bytes [] h = tt
 inner-bytes (c ∷ cs) h = (h.0.on_line, inner-bytes cs h.1)
 
-inner-field : (field : List ℕ) → IsWord field → AllByRecursion IsInner field
+pub inner-field : (field : List ℕ) → IsWord field → AllByRecursion IsInner field
 inner-field [] h = absurd h
 inner-field (c ∷ cs) h = (h.0.on_line, inner-bytes cs h.1)
 

@@ -2,6 +2,8 @@ pub mod Building
 pub mod Entries
 pub mod Grammar
 pub mod Laws
+pub mod Leading
 pub mod Options
 pub mod Printed
 pub mod Faults
+pub mod FirstLine

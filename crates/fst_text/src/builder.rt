@@ -1,19 +1,21 @@
 //! A machine that is built from the lines of a text.
 
-ghost use Rattle.std.specs.Prelude.{◌≡◌, ◌≢◌, ◌∷◌, ◌++◌, ◌<◌, ◌≤◌, ◌+◌, [], length, nat_lt, true, None, Some, OnOk, IfOk};
+ghost use Rattle.std.specs.Prelude.{◌≡◌, ◌≢◌, ◌∷◌, ◌++◌, ◌<◌, ◌≤◌, ◌+◌, [], ℕ, List, length, nat_lt, true, None, Some, OnOk, IfOk, IfSome};
 ghost use Rattle.std.specs.Option.{option_map};
 ghost use Rattle.fst_fields.specs.Lines.{fields_of};
 ghost use Rattle.fst_fields.specs.Texts.{IsRead};
 ghost use Rattle.fst_semiring.specs.Cost.{infinite};
 ghost use Rattle.fst_machine.specs.Machine.{arc_total, bare_state, changed, greatest_label, most_arcs, most_states, with_arc};
 ghost use Rattle.fst_text.specs.Entries.{arc_entry, final_entry};
+ghost use Rattle.fst_text.specs.FirstLine.{IsFirstLine};
 ghost use Rattle.fst_text.specs.Grammar.{acceptor_line, arc_line, arc_weight_of_field, entry_of_fields, final_line, label_of_field, output_label, state_of_field, transducer_line, weight_of_field};
 ghost use Rattle.fst_text.specs.Building.{HasRoomFor, IsPlaced, after_line, built, nothing_built, or_start, place_of, room_of, said, with_entry, with_number, with_state};
 
 use crate::entry::LineEntry;
 use crate::fault::TextFault;
+use crate::field::{Field, inner_field, label_field, last_field, plain_field, read_field};
 use crate::options::TextOptions;
-use fst_fields::{next_field, read_decimal};
+use fst_fields::{MOST_LABEL, next_field, next_line};
 use fst_machine::{Fst, FstArc, GrowFault, MOST_ARCS, MOST_STATES};
 use fst_semiring::{Weight, is_zero};
 use fst_symbols::SymbolTable;
@@ -27,21 +29,30 @@ pub struct Builder<W: Weight> {
     fst: Fst<W>,
 }
 
+/// The number of a name.
+#[inline(never)]
+fn find_label(symbols: &SymbolTable, line: u64, name: &[u8]) -> Result<u32, TextFault>
+    ensures read { IsRead (λ n. n) result (label_of_field (Some symbols.now) line name.now) }
+    ensures small { IfOk result (λ n. n ≤ greatest_label) }
+{
+    match symbols.find(name) {
+        Some(label) => Ok(label),
+        None => Err(TextFault::UnknownSymbol { line }),
+    }
+}
+
 /// The label of a field: the number of a name where its side has a symbol table, else a label number.
 #[inline(always)]
-fn read_label(symbols: Option<&SymbolTable>, line: u64, field: &[u8]) -> Result<u32, TextFault>
-    ensures read { IsRead (λ n. n) result (label_of_field (option_map (λ t. t.now) symbols.entry) line field.now) }
+fn read_label(symbols: Option<&SymbolTable>, line: u64, field: Field<'_>) -> Result<u32, TextFault>
+    ensures read { IsRead (λ n. n) result (label_of_field (option_map (λ t. t.now) symbols.entry) line field.entry) }
     ensures small { IfOk result (λ n. n ≤ greatest_label) }
 {
     match symbols {
-        None => match fst_fields::read_label(field) {
-            Some(label) => Ok(label),
-            None => Err(TextFault::BadLabel { line }),
+        None => match field.number() {
+            Some(label) if label <= u64::from(MOST_LABEL) => Ok(label as u32),
+            _ => Err(TextFault::BadLabel { line }),
         },
-        Some(symbols) => match symbols.find(field) {
-            Some(label) => Ok(label),
-            None => Err(TextFault::UnknownSymbol { line }),
-        },
+        Some(symbols) => find_label(symbols, line, field.bytes()),
     }
 }
 
@@ -51,10 +62,10 @@ fn read_output_label(
     symbols: Option<&SymbolTable>,
     line: u64,
     label: u32,
-    field: Option<&[u8]>,
+    field: Option<Field<'_>>,
 ) -> Result<u32, TextFault>
     requires { label ≤ greatest_label }
-    ensures read { IsRead (λ n. n) result (output_label (option_map (λ t. t.now) symbols.entry) line label (option_map (λ f. f.now) field.entry)) }
+    ensures read { IsRead (λ n. n) result (output_label (option_map (λ t. t.now) symbols.entry) line label field.entry) }
     ensures small { IfOk result (λ n. n ≤ greatest_label) }
 {
     match field {
@@ -65,12 +76,12 @@ fn read_output_label(
 
 /// The weight of a weight field, One where it is missing.
 #[inline(always)]
-fn read_weight<W: Weight>(line: u64, field: Option<&[u8]>) -> Result<W, TextFault>
-    ensures { IsRead W.value result (weight_of_field W.KIND line (option_map (λ f. f.now) field.entry)) }
+fn read_weight<W: Weight>(line: u64, field: Option<Field<'_>>) -> Result<W, TextFault>
+    ensures { IsRead W.value result (weight_of_field W.KIND line field.entry) }
 {
     match field {
         None => Ok(W::one()),
-        Some(field) => match W::read_weight(field) {
+        Some(field) => match W::read_weight(field.bytes()) {
             Ok(weight) => Ok(weight),
             Err(_) => Err(TextFault::BadWeight { line }),
         },
@@ -79,8 +90,8 @@ fn read_weight<W: Weight>(line: u64, field: Option<&[u8]>) -> Result<W, TextFaul
 
 /// The weight of an arc's weight field, which is not Zero; One where it is missing.
 #[inline(always)]
-fn read_arc_weight<W: Weight>(line: u64, field: Option<&[u8]>) -> Result<W, TextFault>
-    ensures read { IsRead W.value result (arc_weight_of_field W.KIND line (option_map (λ f. f.now) field.entry)) }
+fn read_arc_weight<W: Weight>(line: u64, field: Option<Field<'_>>) -> Result<W, TextFault>
+    ensures read { IsRead W.value result (arc_weight_of_field W.KIND line field.entry) }
     ensures finite { IfOk result (λ w. W.value w ≢ infinite) }
 {
     let weight = read_weight::<W>(line, field)?;
@@ -148,11 +159,11 @@ impl<W: Weight> Builder<W> {
 
     /// The number of a line's first state field.
     #[inline(always)]
-    fn read_first(&self, kept: bool, line: u64, field: &[u8]) -> Result<u64, TextFault>
-        ensures read { IsRead (λ n. n) result (state_of_field line (room_of kept (built W.value self.now)).state field.now) }
+    fn read_first(&self, kept: bool, line: u64, field: Field<'_>) -> Result<u64, TextFault>
+        ensures read { IsRead (λ n. n) result (state_of_field line (room_of kept (built W.value self.now)).state field.entry) }
         ensures room { IfOk result (λ n. (room_of kept (built W.value self.now)).state n ≡ true) }
     {
-        let Some(number) = read_decimal(field, 18) else {
+        let Some(number) = field.number() else {
             return Err(TextFault::BadState { line });
         };
         if self.has_room(kept, number) {
@@ -164,12 +175,18 @@ impl<W: Weight> Builder<W> {
 
     /// The number of a line's second state field.
     #[inline(always)]
-    fn read_second(&self, kept: bool, line: u64, first: u64, field: &[u8]) -> Result<u64, TextFault>
+    fn read_second(
+        &self,
+        kept: bool,
+        line: u64,
+        first: u64,
+        field: Field<'_>,
+    ) -> Result<u64, TextFault>
         requires { (room_of kept (built W.value self.now)).state first ≡ true }
-        ensures read { IsRead (λ n. n) result (state_of_field line ((room_of kept (built W.value self.now)).states first) field.now) }
+        ensures read { IsRead (λ n. n) result (state_of_field line ((room_of kept (built W.value self.now)).states first) field.entry) }
         ensures room { IfOk result (λ n. (room_of kept (built W.value self.now)).states first n ≡ true) }
     {
-        let Some(number) = read_decimal(field, 18) else {
+        let Some(number) = field.number() else {
             return Err(TextFault::BadState { line });
         };
         if self.has_room_for_both(kept, first, number) {
@@ -358,13 +375,13 @@ impl<W: Weight> Builder<W> {
         &self,
         options: &TextOptions,
         line: u64,
-        source: &[u8],
-        dest: &[u8],
-        ilabel: &[u8],
-        olabel: Option<&[u8]>,
-        weight: Option<&[u8]>,
+        source: Field<'_>,
+        dest: Field<'_>,
+        ilabel: Field<'_>,
+        olabel: Option<Field<'_>>,
+        weight: Option<Field<'_>>,
     ) -> Result<LineEntry<W>, TextFault>
-        ensures read { IsRead (said W.value) result (arc_line W.KIND options.now line (room_of options.now.keep_state_numbering (built W.value self.now)) source.now dest.now ilabel.now (option_map (λ f. f.now) olabel.entry) (option_map (λ f. f.now) weight.entry)) }
+        ensures read { IsRead (said W.value) result (arc_line W.KIND options.now line (room_of options.now.keep_state_numbering (built W.value self.now)) source.entry dest.entry ilabel.entry olabel.entry weight.entry) }
         ensures fits { IfOk result (λ e. HasRoomFor options.now.keep_state_numbering (built W.value self.now) (said W.value e)) }
     {
         let kept = options.keep_state_numbering;
@@ -391,10 +408,10 @@ impl<W: Weight> Builder<W> {
         &self,
         options: &TextOptions,
         line: u64,
-        state: &[u8],
-        weight: Option<&[u8]>,
+        state: Field<'_>,
+        weight: Option<Field<'_>>,
     ) -> Result<LineEntry<W>, TextFault>
-        ensures read { IsRead (said W.value) result (final_line W.KIND line (room_of options.now.keep_state_numbering (built W.value self.now)) state.now (option_map (λ f. f.now) weight.entry)) }
+        ensures read { IsRead (said W.value) result (final_line W.KIND line (room_of options.now.keep_state_numbering (built W.value self.now)) state.entry weight.entry) }
         ensures fits { IfOk result (λ e. HasRoomFor options.now.keep_state_numbering (built W.value self.now) (said W.value e)) }
     {
         let state = self.read_first(options.keep_state_numbering, line, state)?;
@@ -407,16 +424,16 @@ impl<W: Weight> Builder<W> {
         &self,
         options: &TextOptions,
         line: u64,
-        first: &[u8],
+        first: Field<'_>,
         rest: &[u8],
     ) -> Result<LineEntry<W>, TextFault>
-        ensures read { IsRead (said W.value) result (entry_of_fields W.KIND options.now line (room_of options.now.keep_state_numbering (built W.value self.now)) (first.now ∷ fields_of rest.now)) }
+        ensures read { IsRead (said W.value) result (entry_of_fields W.KIND options.now line (room_of options.now.keep_state_numbering (built W.value self.now)) (first.entry ∷ fields_of rest.now)) }
         ensures fits { IfOk result (λ e. HasRoomFor options.now.keep_state_numbering (built W.value self.now) (said W.value e)) }
     {
-        let Some((second, rest)) = next_field(rest) else {
+        let Some((second, rest)) = read_field(rest) else {
             return self.read_final(options, line, first, None);
         };
-        let Some((third, rest)) = next_field(rest) else {
+        let Some((third, rest)) = read_field(rest) else {
             return self.read_final(options, line, first, Some(second));
         };
         if options.acceptor {
@@ -430,15 +447,15 @@ impl<W: Weight> Builder<W> {
         &self,
         options: &TextOptions,
         line: u64,
-        source: &[u8],
-        dest: &[u8],
-        label: &[u8],
+        source: Field<'_>,
+        dest: Field<'_>,
+        label: Field<'_>,
         rest: &[u8],
     ) -> Result<LineEntry<W>, TextFault>
-        ensures read { IsRead (said W.value) result (acceptor_line W.KIND options.now line (room_of options.now.keep_state_numbering (built W.value self.now)) (source.now ∷ dest.now ∷ label.now ∷ fields_of rest.now)) }
+        ensures read { IsRead (said W.value) result (acceptor_line W.KIND options.now line (room_of options.now.keep_state_numbering (built W.value self.now)) (source.entry ∷ dest.entry ∷ label.entry ∷ fields_of rest.now)) }
         ensures fits { IfOk result (λ e. HasRoomFor options.now.keep_state_numbering (built W.value self.now) (said W.value e)) }
     {
-        let Some((weight, rest)) = next_field(rest) else {
+        let Some((weight, rest)) = read_field(rest) else {
             return self.read_arc(options, line, source, dest, label, None, None);
         };
         if next_field(rest).is_some() {
@@ -452,18 +469,18 @@ impl<W: Weight> Builder<W> {
         &self,
         options: &TextOptions,
         line: u64,
-        source: &[u8],
-        dest: &[u8],
-        ilabel: &[u8],
+        source: Field<'_>,
+        dest: Field<'_>,
+        ilabel: Field<'_>,
         rest: &[u8],
     ) -> Result<LineEntry<W>, TextFault>
-        ensures read { IsRead (said W.value) result (transducer_line W.KIND options.now line (room_of options.now.keep_state_numbering (built W.value self.now)) (source.now ∷ dest.now ∷ ilabel.now ∷ fields_of rest.now)) }
+        ensures read { IsRead (said W.value) result (transducer_line W.KIND options.now line (room_of options.now.keep_state_numbering (built W.value self.now)) (source.entry ∷ dest.entry ∷ ilabel.entry ∷ fields_of rest.now)) }
         ensures fits { IfOk result (λ e. HasRoomFor options.now.keep_state_numbering (built W.value self.now) (said W.value e)) }
     {
-        let Some((olabel, rest)) = next_field(rest) else {
+        let Some((olabel, rest)) = read_field(rest) else {
             return Err(TextFault::BadColumns { line });
         };
-        let Some((weight, rest)) = next_field(rest) else {
+        let Some((weight, rest)) = read_field(rest) else {
             return self.read_arc(options, line, source, dest, ilabel, Some(olabel), None);
         };
         if next_field(rest).is_some() {
@@ -480,8 +497,35 @@ impl<W: Weight> Builder<W> {
         )
     }
 
+    /// What the first line of a text says where it is an arc by numbers alone, and what stands behind it. `None` where it is
+    /// another line, and where a label may be a name. Takes no memory.
+    ///
+    /// Most lines that a program wrote are such, and each of their bytes is looked at once, and those of the weight twice.
+    #[inline(always)]
+    fn read_plain<'t>(
+        &self,
+        options: &TextOptions,
+        line: u64,
+        text: &'t [u8],
+    ) -> Option<(Result<LineEntry<W>, TextFault>, &'t [u8])>
+        ensures read { IfSome result (λ p. (first : List ℕ) × (others : List (List ℕ)) × IsFirstLine text.now (first ∷ others) p.1.now × IsRead (said W.value) p.0 (entry_of_fields W.KIND options.now line (room_of options.now.keep_state_numbering (built W.value self.now)) (first ∷ others))) }
+        ensures fits { IfSome result (λ p. IfOk p.0 (λ e. HasRoomFor options.now.keep_state_numbering (built W.value self.now) (said W.value e))) }
+        ensures shorter { IfSome result (λ p. length p.1.now < length text.now) }
+    {
+        if options.isymbols.is_some() || options.osymbols.is_some() {
+            return None;
+        }
+        let (source, rest) = inner_field(text)?;
+        let (dest, rest) = inner_field(rest)?;
+        let (ilabel, ended, rest) = plain_field(rest)?;
+        let (olabel, ended, rest) = label_field(options.acceptor, ended, rest)?;
+        let (weight, rest) = last_field(ended, rest)?;
+        let read = self.read_arc(options, line, source, dest, ilabel, olabel, weight);
+        Some((read, rest))
+    }
+
     /// Adds a line, which has this number. After an error what is built stands for no text.
-    pub fn line(
+    fn line(
         &mut self,
         options: &TextOptions,
         line: u64,
@@ -491,7 +535,7 @@ impl<W: Weight> Builder<W> {
         ensures read { IfOk result (λ r. IsRead (λ x. built W.value self.new) r (after_line W.KIND options.now line (built W.value self.old) (fields_of text.now))) }
         ensures placed { IfOk result (λ r. OnOk r (IsPlaced (built W.value self.new))) }
     {
-        let Some((first, rest)) = next_field(text) else {
+        let Some((first, rest)) = read_field(text) else {
             return Ok(Ok(()));
         };
         match self.read_entry(options, line, first, rest) {
@@ -500,6 +544,55 @@ impl<W: Weight> Builder<W> {
                 Ok(Ok(()))
             }
             Err(fault) => Ok(Err(fault)),
+        }
+    }
+
+    /// Adds the first line of a text, which has this number, by the general way. What stands behind it.
+    #[inline(never)]
+    fn general_line<'t>(
+        &mut self,
+        options: &TextOptions,
+        line: u64,
+        text: &'t [u8],
+    ) -> Result<(Result<(), TextFault>, &'t [u8]), AllocError>
+        requires placed { IsPlaced (built W.value self.old) }
+        requires filled { 0 < length text.now }
+        ensures read { IfOk result (λ p. (fields : List (List ℕ)) × IsFirstLine text.now fields p.1.now × IsRead (λ x. built W.value self.new) p.0 (after_line W.KIND options.now line (built W.value self.old) fields)) }
+        ensures placed { IfOk result (λ p. OnOk p.0 (IsPlaced (built W.value self.new))) }
+        ensures shorter { IfOk result (λ p. length p.1.now < length text.now) }
+    {
+        match next_line(text) {
+            Some((first, rest)) => {
+                let read = self.line(options, line, first)?;
+                Ok((read, rest))
+            }
+            None => unreachable!(),
+        }
+    }
+
+    /// Adds the first line of a text, which has this number, and gives what stands behind it. After an error what is built
+    /// stands for no text.
+    pub fn first_line<'t>(
+        &mut self,
+        options: &TextOptions,
+        line: u64,
+        text: &'t [u8],
+    ) -> Result<(Result<(), TextFault>, &'t [u8]), AllocError>
+        requires placed { IsPlaced (built W.value self.old) }
+        requires filled { 0 < length text.now }
+        ensures read { IfOk result (λ p. (fields : List (List ℕ)) × IsFirstLine text.now fields p.1.now × IsRead (λ x. built W.value self.new) p.0 (after_line W.KIND options.now line (built W.value self.old) fields)) }
+        ensures placed { IfOk result (λ p. OnOk p.0 (IsPlaced (built W.value self.new))) }
+        ensures shorter { IfOk result (λ p. length p.1.now < length text.now) }
+    {
+        let Some((read, rest)) = self.read_plain(options, line, text) else {
+            return self.general_line(options, line, text);
+        };
+        match read {
+            Ok(entry) => {
+                self.add_entry(options.keep_state_numbering, entry)?;
+                Ok((Ok(()), rest))
+            }
+            Err(fault) => Ok((Err(fault), rest)),
         }
     }
 }

@@ -9,7 +9,6 @@ ghost use Rattle.fst_text.specs.Building.{built, built_of_text};
 use crate::builder::Builder;
 use crate::fault::TextFault;
 use crate::options::TextOptions;
-use fst_fields::next_line;
 use fst_machine::Fst;
 use fst_semiring::Weight;
 use std::alloc::{AllocError, Global};
@@ -33,9 +32,10 @@ fn read_lines<W: Weight>(
     let mut builder = Builder::new(alloc, table_bound(text.len()));
     let mut rest = text;
     let mut line: u64 = 0;
-    while let Some((first, behind)) = next_line(rest) {
+    while !rest.is_empty() {
         line += 1;
-        match builder.line(options, line, first)? {
+        let (read, behind) = builder.first_line(options, line, rest)?;
+        match read {
             Ok(()) => {}
             Err(fault) => return Ok(Err(fault)),
         }

@@ -8,6 +8,7 @@ mod builder;
 mod compiling;
 mod entry;
 mod fault;
+mod field;
 mod laws;
 mod line;
 mod options;
