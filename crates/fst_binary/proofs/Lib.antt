@@ -8,3 +8,4 @@ pub mod Decoded
 pub mod Machines
 pub mod Encoded
 pub mod Values
+mod Whole
