@@ -9,3 +9,4 @@ pub mod Machines
 pub mod Encoded
 pub mod Values
 mod Whole
+pub mod Numbered

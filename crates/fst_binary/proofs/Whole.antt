@@ -1,11 +1,11 @@
 -- An arc that is read from all its bytes at once.
-use Rattle.std.proofs.Common.{◌≡◌, ℕ, ◌+◌, ◌*◌, ◌<◌, ◌≤◌, Bool, true, false, ltb, leb, List, length, drop, Result, Ok, refl, arith}
+use Rattle.std.proofs.Common.{◌≡◌, ℕ, ◌+◌, ◌<◌, ◌≤◌, Bool, true, false, ltb, leb, List, length, drop, Result, Ok, refl, arith}
 use Rattle.std.proofs.lemmas.Bool.{le-leb, le-ltb, lt-ltb}
 use Rattle.byteorder.specs.Endian.{little_number}
 use Rattle.fst_semiring.specs.declared.arc_type.ArcType.{ArcType}
 use Rattle.fst_semiring.specs.Cost.{Cost, is_infinite}
 use Rattle.fst_machine.specs.Machine.{greatest_label}
-use Rattle.fst_bytes.specs.Reading.{non_zero_weight_at, file_weight_at, number_at, number_count, number_where, weight_at}
+use Rattle.fst_bytes.specs.Reading.{non_zero_weight_at, file_weight_at, number_at, number_where, weight_at}
 use Rattle.fst_binary.specs.Reading.{arc_at}
 use Rattle.fst_binary.specs.declared.fault.BinaryKind.{BinaryKind}
 use Rattle.fst_binary.specs.declared.fault.BinaryKind.TheVariants.{BadLabel, BadNext, BadWeight, Short}
