@@ -8,3 +8,5 @@ pub mod Decoded
 pub mod Machines
 pub mod Encoded
 pub mod Values
+mod Whole
+pub mod Numbered

@@ -4,7 +4,7 @@ use Rattle.std.specs.Prelude.{slice_get}
 use Rattle.std.specs.List.{flat_map}
 use Rattle.std.specs.Option.{option_map}
 use Rattle.std.proofs.lemmas.List.{drop_all, length-map}
-use Rattle.std.proofs.lemmas.List.Elements.{All-more}
+use Rattle.std.proofs.lemmas.List.Elements.{All-get_or, All-more}
 use Rattle.std.proofs.lemmas.List.Sums.{sum_by-cons}
 use Rattle.fst_semiring.specs.Cost.{Cost}
 use Rattle.fst_machine.specs.Machine.{Arc, State, arc_total, valued_arc, valued_state}
@@ -49,6 +49,13 @@ state_more {V} P states i last arcs f a so_far own =
     let s : State V = record { final = last; arcs = arcs } in
     let stands = state_stands states i last arcs f a s in
     All-more P states i s stands.0 so_far (subst P (sym stands.1) own)
+
+-- what holds of all states holds of the one in a place
+pub state_has : {V : Type 0} (P : State V → Type 0) (states : List (State V)) (i : ℕ) (last : V) (arcs : List (Arc V ℕ)) → option_map (λ s. s.final) (slice_get states i) ≡ Some last → option_map (λ s. s.arcs) (slice_get states i) ≡ Some arcs → All P states → P (record { final = last; arcs = arcs })
+state_has {V} P states i last arcs f a all =
+    let s : State V = record { final = last; arcs = arcs } in
+    let stands = state_stands states i last arcs f a s in
+    subst P stands.1 (All-get_or P states i s stands.0 all)
 
 -- where no item is left, all are written
 pub all_written : {X Y : Type 0} (f : Y → List ℕ) (g : X → Y) (xs : List X) (n : ℕ) (new old : List ℕ) → length xs ≤ n → new ++ flat_map f (map g (drop n xs)) ≡ old ++ flat_map f (map g xs) → new ≡ old ++ flat_map f (map g xs)

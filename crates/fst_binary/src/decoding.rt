@@ -1,13 +1,13 @@
 //! Reading the binary form.
 
-ghost use Rattle.std.specs.Prelude.{◌≡◌, ◌≢◌, ◌≤◌, ◌<◌, ◌+◌, ◌*◌, [], length, map, IfErr, IfOk, OnOk, IfSome, Ok, nat_le, nat_lt};
+ghost use Rattle.std.specs.Prelude.{◌≡◌, ◌≢◌, ◌≤◌, ◌<◌, ◌+◌, ◌-◌, ◌*◌, [], length, map, IfErr, IfOk, OnOk, IfSome, Ok, nat_le, nat_lt};
 ghost use Rattle.std.specs.Result.{result_map_both};
 ghost use Rattle.fst_semiring.specs.Cost.{Cost};
 ghost use Rattle.fst_machine.specs.Machine.{Machine, arc_total, most_arcs, most_states, valued, valued_arc, valued_state};
 ghost use Rattle.fst_machine.specs.OpenStates.{none_open};
 ghost use Rattle.fst_binary.specs.Spelling.{HasSpelling, Spells};
 ghost use Rattle.fst_binary.specs.Reading.{Gives, arc_at, arc_type_of_bytes, arcs_at, machine_at, machine_of_bytes, state_at, states_at};
-ghost use Rattle.fst_bytes.specs.Reading.{number_where};
+ghost use Rattle.fst_bytes.specs.Reading.{number_count, number_where, with_front};
 ghost use Rattle.fst_bytes.specs.Stopping.{Answers};
 
 use crate::fault::BinaryFault;
@@ -16,10 +16,10 @@ use crate::fault::BinaryKind::{
 };
 use crate::header::{Header, read_header, read_types};
 use fst_bytes::{
-    Stopped, expect_end, fault_at, most_that_fit, read_count, read_label, read_non_zero_weight,
-    read_weight, read_word,
+    Stopped, expect_end, fault_at, most_that_fit, numbered_length, read_count, read_label,
+    read_non_zero_weight, read_numbered, read_weight, read_word, word_at,
 };
-use fst_machine::{Fst, FstArc, OpenList, StateList};
+use fst_machine::{Fst, FstArc, MOST_LABEL, OpenList, StateList};
 use fst_semiring::Weight;
 use std::alloc::{AllocError, Global};
 
@@ -65,6 +65,88 @@ fn read_arc<W: Weight>(
     Ok((arc, behind))
 }
 
+/// An arc whose weight field has the tag 1, of a machine with this number of states, where all its bytes stand. `None`
+/// where the tag is another one or a field is wrong: the fields one after the other tell which.
+fn read_whole_arc<W: Weight>(bytes: &[u8], at: usize, states: u32) -> Option<FstArc<W>>
+    requires { at + 13 + 8 * number_count W.KIND ≤ length bytes.now }
+    ensures { IfSome result (λ arc. arc_at W.KIND states bytes.now at ≡ Ok (valued_arc W.value arc, at + 13 + 8 * number_count W.KIND)) }
+{
+    let ilabel = word_at(bytes, at);
+    let olabel = word_at(bytes, at + 4);
+    let next = word_at(bytes, at + 8 + numbered_length(W::KIND));
+    if ilabel > MOST_LABEL || olabel > MOST_LABEL || next >= states {
+        return None;
+    }
+    let Some(weight) = read_numbered(bytes, at + 8) else {
+        return None;
+    };
+    Some(FstArc {
+        ilabel,
+        olabel,
+        weight,
+        next,
+    })
+}
+
+/// Puts arcs of a state behind the states before it, each read from all its bytes at once, up to the first that has to be
+/// read field by field, and gives how many they are, of so many, and the offset after them.
+#[inline(never)]
+fn read_whole_arcs<W: Weight>(
+    bytes: &[u8],
+    at: usize,
+    states: u32,
+    count: usize,
+    list: &mut OpenList<W>,
+) -> Result<(usize, usize), AllocError>
+    requires behind { at ≤ length bytes.now }
+    requires none { list.old.arcs ≡ [] }
+    requires few { arc_total list.old.states + count ≤ most_arcs }
+    ensures so_far { IfOk result (λ x. with_front (map (valued_arc W.value) list.new.arcs) (arcs_at W.KIND states (count - x.0) bytes.now x.1) ≡ arcs_at W.KIND states count bytes.now at) }
+    ensures count { IfOk result (λ x. (length list.new.arcs ≡ x.0) × (x.0 ≤ count)) }
+    ensures others { list.new.states ≡ list.old.states }
+    ensures behind { IfOk result (λ x. x.1 ≤ length bytes.now) }
+{
+    let len = 12 + numbered_length(W::KIND);
+    let mut behind = at;
+    for read in 0..count {
+        if bytes.len() - behind < len {
+            return Ok((read, behind));
+        }
+        let Some(arc) = read_whole_arc(bytes, behind, states) else {
+            return Ok((read, behind));
+        };
+        list.put_arc(arc)?;
+        behind += len;
+    }
+    Ok((count, behind))
+}
+
+/// Puts so many arcs, read field by field, behind those of a state, and gives the offset after them. A refusal may leave
+/// some of them there.
+#[inline(never)]
+fn read_more_arcs<W: Weight>(
+    bytes: &[u8],
+    at: usize,
+    states: u32,
+    count: usize,
+    list: &mut OpenList<W>,
+) -> Result<usize, BinaryStop>
+    requires behind { at ≤ length bytes.now }
+    requires few { arc_total list.old.states + length list.old.arcs + count ≤ most_arcs }
+    ensures value { Answers (λ behind. (map (valued_arc W.value) list.new.arcs, behind)) result (with_front (map (valued_arc W.value) list.old.arcs) (arcs_at W.KIND states count bytes.now at)) }
+    ensures count { OnOk result (length list.new.arcs ≡ length list.old.arcs + count) }
+    ensures others { list.new.states ≡ list.old.states }
+    ensures behind { IfOk result (λ behind. behind ≤ length bytes.now) }
+{
+    let mut behind = at;
+    for _ in 0..count {
+        let (arc, after) = read_arc(bytes, behind, states)?;
+        list.put_arc(arc)?;
+        behind = after;
+    }
+    Ok(behind)
+}
+
 /// Puts the arcs of a state behind the states before it, which with them have at most so many, and gives the offset
 /// after them. A refusal may leave some of them there.
 fn read_arcs<W: Weight>(
@@ -82,13 +164,8 @@ fn read_arcs<W: Weight>(
     ensures others { list.new.states ≡ list.old.states }
     ensures behind { IfOk result (λ behind. behind ≤ length bytes.now) }
 {
-    let mut behind = at;
-    for _ in 0..count {
-        let (arc, after) = read_arc(bytes, behind, states)?;
-        list.put_arc(arc)?;
-        behind = after;
-    }
-    Ok(behind)
+    let (read, behind) = read_whole_arcs(bytes, at, states, count, list)?;
+    read_more_arcs(bytes, behind, states, count - read, list)
 }
 
 /// The number of arcs of a state, which with those of the states before are at most the header's, and the offset after

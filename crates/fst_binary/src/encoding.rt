@@ -1,9 +1,11 @@
 //! Writing the binary form.
 
-ghost use Rattle.std.specs.Prelude.{◌≡◌, ◌≤◌, ◌++◌, ◌∷◌, ◌+◌, ◌*◌, ◌<◌, drop, length, map, take, vec_capacity, [], All, Contains, IfOk, IsOk, Ok};
+ghost use Rattle.std.specs.Prelude.{◌≡◌, ◌≢◌, ◌≤◌, ◌++◌, ◌∷◌, ◌+◌, ◌*◌, ◌<◌, drop, length, map, take, vec_capacity, [], All, Contains, IfOk, IsOk, Ok};
 ghost use Rattle.std.specs.List.{flat_map};
 ghost use Rattle.fst_machine.specs.Machine.{arc_total, most_arcs, most_states, valued, valued_arc, valued_state};
+ghost use Rattle.fst_semiring.specs.Cost.{infinite};
 ghost use Rattle.fst_semiring.specs.Names.{known, name_of};
+ghost use Rattle.fst_bytes.specs.Reading.{has_best, number_count};
 ghost use Rattle.fst_bytes.specs.Spelling.{HasField, long, signed, word};
 ghost use Rattle.fst_binary.specs.Reading.{arc_type_of_bytes, machine_of_bytes};
 ghost use Rattle.fst_binary.specs.Spelling.{HasFields, HasSpelling, arc_fields, header_fields, spelling, start_number, state_fields, type_fields};
@@ -11,18 +13,46 @@ ghost use Rattle.fst_binary.specs.Spelling.{HasFields, HasSpelling, arc_fields, 
 use crate::by_place::States;
 use fst_bytes::{
     append, append_arc_type, append_long, append_signed, append_text, append_weight, append_word,
-    weight_length,
+    numbered_length, weight_length,
 };
 use fst_machine::{Fst, FstArc, Joined, Leaving};
 use fst_semiring::{ArcType, Weight};
 use std::alloc::{AllocError, Global};
 
-/// How many bytes the arcs take.
-fn arcs_length<W: Weight>(arcs: &[FstArc<W>]) -> usize
+/// Says that each weight of arcs has a field. Each weight tells it of itself, and nothing is made of what they tell, so that
+/// the optimizer leaves no loop.
+fn arcs_have_fields<W: Weight>(arcs: &[FstArc<W>])
+    ensures { All (λ a. HasField W.KIND (W.value a.weight)) arcs.now }
+{
+    for arc in arcs {
+        let _wide = arc.weight.widen();
+    }
+}
+
+/// Whether a weight of the arc type may be the best value, which has a field of its own.
+fn may_be_best(kind: ArcType) -> bool
+    ensures { result ≡ has_best kind }
+{
+    match kind {
+        ArcType::MinMax => true,
+        _ => false,
+    }
+}
+
+/// How many bytes an arc takes whose weight is neither Zero nor the best value.
+#[tactic(auto, using(crate::proofs::Numbered::few_numbers))]
+fn numbered_arc_length(kind: ArcType) -> usize
+    ensures value { result ≡ 13 + 8 * number_count kind }
+    ensures bound { result ≤ 29 }
+{
+    12 + numbered_length(kind)
+}
+
+/// How many bytes arcs take, each by its own weight.
+fn arcs_length_each<W: Weight>(arcs: &[FstArc<W>]) -> usize
     requires { length arcs.now ≤ 33554432 }
     ensures value { result ≡ length (flat_map (arc_fields W.KIND) (map (valued_arc W.value) arcs.now)) }
     ensures bound { result ≤ 29 * length arcs.now }
-    ensures fits { All (λ a. HasField W.KIND (W.value a.weight)) arcs.now }
 {
     let mut len = 0;
     for arc in arcs {
@@ -31,11 +61,28 @@ fn arcs_length<W: Weight>(arcs: &[FstArc<W>]) -> usize
     len
 }
 
+/// How many bytes the arcs take, whose weights are not Zero. Only a best value has a shorter field than the others.
+fn arcs_length<W: Weight>(arcs: &[FstArc<W>]) -> usize
+    requires few { length arcs.now ≤ 33554432 }
+    requires weights { All (λ a. W.value a.weight ≢ infinite) arcs.now }
+    ensures value { result ≡ length (flat_map (arc_fields W.KIND) (map (valued_arc W.value) arcs.now)) }
+    ensures bound { result ≤ 29 * length arcs.now }
+    ensures fits { All (λ a. HasField W.KIND (W.value a.weight)) arcs.now }
+{
+    arcs_have_fields(arcs);
+    if may_be_best(W::KIND) {
+        arcs_length_each(arcs)
+    } else {
+        arcs.len() * numbered_arc_length(W::KIND)
+    }
+}
+
 /// How many bytes the states take, of which there are so many.
 fn states_length<W: Weight, S: States<W>>(states: &S, count: usize) -> usize
     requires all { count ≡ length (S.states states.now) }
     requires few_states { count ≤ most_states }
     requires few_arcs { arc_total (S.states states.now) ≤ most_arcs }
+    requires weights { All (λ s. All (λ a. W.value a.weight ≢ infinite) s.arcs) (S.states states.now) }
     ensures value { result ≡ length (flat_map (state_fields W.KIND) (map (valued_state W.value) (S.states states.now))) }
     ensures bound { result ≤ 25 * count + 29 * arc_total (S.states states.now) }
     ensures fits { All (HasFields W.value W.KIND) (S.states states.now) }
@@ -296,6 +343,7 @@ fn write_given<W: Weight>(room: Vec<u8>, fst: Fst<W>) -> Result<Vec<u8>, AllocEr
 fn parts_length<W: Weight>(first: &Leaving<W>, second: &Leaving<W>) -> usize
     requires few_states { length (first.now ++ second.now) ≤ most_states }
     requires few_arcs { arc_total (first.now ++ second.now) ≤ most_arcs }
+    requires weights { All (λ s. All (λ a. W.value a.weight ≢ infinite) s.arcs) (first.now ++ second.now) }
     ensures value { result ≡ length (flat_map (state_fields W.KIND) (map (valued_state W.value) (first.now ++ second.now))) }
     ensures bound { result ≤ 1077936128 }
     ensures fits { All (HasFields W.value W.KIND) (first.now ++ second.now) }

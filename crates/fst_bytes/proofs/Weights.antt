@@ -1,5 +1,5 @@
 -- Keys and the weights that have them.
-use Rattle.std.proofs.Common.{◌≡◌, ℕ, ℤ, pos, ◌+◌, ◌*◌, ◌≤◌, length, ◌≤ℤ◌, neg_ℤ, int_le, ltb, Ok, Bool, true, false, ◌&&◌, List, Option, Some, None, ap, refl, arith}
+use Rattle.std.proofs.Common.{◌≡◌, ℕ, ℤ, pos, ◌+◌, ◌*◌, ◌≤◌, length, ◌≤ℤ◌, neg_ℤ, int_le, ltb, Ok, Err, Bool, cond, true, false, ◌&&◌, List, Option, Some, None, ap, refl, sym, ◌∙◌, arith}
 use Rattle.std.specs.Prelude.{IfSome, IfNone}
 use Rattle.std.specs.Option.{option_map}
 use Rattle.std.specs.List.{list_all}
@@ -9,9 +9,10 @@ use Rattle.std.specs.Int.Signed.{le_z_yes}
 use Rattle.fst_semiring.specs.declared.arc_type.ArcType.{ArcType}
 use Rattle.fst_semiring.specs.declared.arc_type.ArcType.TheVariants.{Boolean, Tropical, MinMax, Lexicographic}
 use Rattle.fst_semiring.specs.declared.key.Key.{Key}
-use Rattle.fst_semiring.specs.Cost.{Cost, best, finite, infinite}
+use Rattle.fst_semiring.specs.Cost.{Cost, best, finite, infinite, is_infinite}
 use Rattle.fst_semiring.specs.Semiring.{IsCost, InRange, IsSmall}
 use Rattle.fst_semiring.specs.Keys.{key_of}
+use Rattle.fst_bytes.specs.declared.fault.WeightFieldFault.TheVariants.{BadWeight}
 use Rattle.fst_bytes.specs.Spelling.{HasField}
 use Rattle.fst_bytes.specs.Reading.{cost_of_numbers, has_best, integers_at, integer_at, is_small, number_count, numbers_at}
 
@@ -63,10 +64,54 @@ pub numbers_are_read : (kind : ArcType) (bytes : List ℕ) (at : ℕ) → at + 8
 unfolding numbers_at
 numbers_are_read kind bytes at whole small = let long : ltb (length bytes) (at + 8 * number_count kind) ≡ false = le-ltb _ _ whole in rw (long, small) refl
 
+-- numbers that are there and fail their test are refused
+pub numbers_are_refused : (kind : ArcType) (bytes : List ℕ) (at : ℕ) → at + 8 * number_count kind ≤ length bytes → list_all is_small (integers_at (number_count kind) bytes at) ≡ false → numbers_at kind bytes at ≡ Err BadWeight
+unfolding numbers_at
+numbers_are_refused kind bytes at whole large = let long : ltb (length bytes) (at + 8 * number_count kind) ≡ false = le-ltb _ _ whole in rw (long, large) refl
+
+-- they are no Zero
+pub numbers_not_zero : (kind : ArcType) (bytes : List ℕ) (at : ℕ) → is_infinite (cost_of_numbers (integers_at (number_count kind) bytes at)) ≡ false
+numbers_not_zero Boolean bytes at = refl
+numbers_not_zero Tropical bytes at = refl
+numbers_not_zero MinMax bytes at = refl
+numbers_not_zero Lexicographic bytes at = refl
+
+-- what a test let through, and what it did not
+pub let_through : {A : Type 0} (t : Bool) (x y : A) → cond t (Some x) None ≡ Some y → (t ≡ true) × (x ≡ y)
+let_through true x y e = (refl, cc)
+let_through false x y e = absurd cc
+
+pub kept_back : {A : Type 0} (t : Bool) (x : A) → cond t (Some x) None ≡ None → t ≡ false
+kept_back true x e = absurd cc
+kept_back false x e = refl
+
 -- what is found by the key of a value that has a field is the weight with this value
 pub found_by_key : {W : Type 0} (value : W → Cost) (kind : ArcType) (v : Cost) (r : Option W) → IfSome r (λ w. key_of (value w) ≡ key_of v) → IfNone r ((u : Cost) → IsCost kind u → InRange u → key_of u ≡ key_of v → ⊥) → HasField kind v → option_map value r ≡ Some v
 found_by_key value kind v (Some w) found none fits = ap (λ (u : Cost). Some u) (key_apart (value w) v found)
 found_by_key value kind v None found none fits = absurd (none v fits.0 fits.1 refl)
+
+-- the weight with the numbers that stand there, as it is found by their key
+pub weight_is : {W : Type 0} (value : W → Cost) (kind k : ArcType) (bytes : List ℕ) (at : ℕ) (key : Key) (r : Option W) → k ≡ kind → key_of (cost_of_numbers (integers_at (number_count k) bytes at)) ≡ key
+    → IfSome r (λ w. key_of (value w) ≡ key) → IfSome r (λ w. value w ≡ cost_of_numbers (integers_at (number_count kind) bytes at))
+weight_is value kind k bytes at key (Some w) same e found = key_apart (value w) (cost_of_numbers (integers_at (number_count kind) bytes at)) (found ∙ sym (rw (← same) e))
+weight_is value kind k bytes at key None same e found = tt
+
+pub weight_found : {W : Type 0} (value : W → Cost) (kind k : ArcType) (bytes : List ℕ) (at : ℕ) (key : Key) (r : Option W) → k ≡ kind → at + 8 * number_count kind ≤ length bytes → list_all is_small (integers_at (number_count k) bytes at) ≡ true
+    → key_of (cost_of_numbers (integers_at (number_count k) bytes at)) ≡ key → IfSome r (λ w. key_of (value w) ≡ key) → IfSome r (λ w. numbers_at kind bytes at ≡ Ok (value w, at + 8 * number_count kind))
+weight_found value kind k bytes at key (Some w) same whole small e found =
+    let is = weight_is value kind k bytes at key (Some w) same e found in
+    rw is (numbers_are_read kind bytes at whole (rw (← same) small))
+weight_found value kind k bytes at key None same whole small e found = tt
+
+pub weight_not_missing : {W : Type 0} (value : W → Cost) (kind k : ArcType) (bytes : List ℕ) (at : ℕ) (key : Key) (r : Option W) → k ≡ kind → list_all is_small (integers_at (number_count k) bytes at) ≡ true
+    → key_of (cost_of_numbers (integers_at (number_count k) bytes at)) ≡ key → IfNone r ((v : Cost) → IsCost kind v → InRange v → key_of v ≡ key → ⊥) → IfNone r (numbers_at kind bytes at ≡ Err BadWeight)
+weight_not_missing value kind k bytes at key (Some w) same small e none = tt
+weight_not_missing value kind k bytes at key None same small e none =
+    let fits = numbers_have_field kind bytes at (rw (← same) small) in
+    absurd (none (cost_of_numbers (integers_at (number_count kind) bytes at)) fits.0 fits.1 (rw (← same) e))
+
+pub weight_refused : (kind k : ArcType) (bytes : List ℕ) (at : ℕ) → k ≡ kind → at + 8 * number_count kind ≤ length bytes → list_all is_small (integers_at (number_count k) bytes at) ≡ false → numbers_at kind bytes at ≡ Err BadWeight
+weight_refused kind k bytes at same whole large = numbers_are_refused kind bytes at whole (rw (← same) large)
 
 -- where there is a tag for the best value, it has a field
 pub best_has_field : (kind : ArcType) → has_best kind ≡ true → HasField kind best

@@ -20,9 +20,9 @@ pub use appending::{
 pub use fault::{FileFault, Stopped, WeightFieldFault, expect_end, fault_at, short_of};
 pub use fst_fields::append;
 pub use name::read_arc_type;
-pub use number::{expect_word, read_bytes, read_count, read_label, read_long, read_word};
+pub use number::{expect_word, read_bytes, read_count, read_label, read_long, read_word, word_at};
 pub use room::most_that_fit;
 pub use weight_field::{
-    append_weight, push_weight_field, read_non_zero_weight, read_weight, read_weight_field,
-    weight_length,
+    append_weight, numbered_length, push_weight_field, read_non_zero_weight, read_numbered,
+    read_weight, read_weight_field, weight_length,
 };

@@ -1,13 +1,22 @@
 //! Numbers of four and of eight bytes, the least byte first, and parts of so many bytes.
 
-ghost use Rattle.std.specs.Prelude.{◌≡◌, ◌≤◌, ◌==◌, length, IfOk, nat_le};
+ghost use Rattle.std.specs.Prelude.{◌≡◌, ◌≤◌, ◌==◌, ◌+◌, drop, length, IfOk, nat_le};
 ghost use Rattle.std.specs.Result.{result_map_both};
+ghost use Rattle.byteorder.specs.Endian.{little_number};
 ghost use Rattle.fst_fields.specs.Decimal.{greatest_label};
 ghost use Rattle.fst_bytes.specs.Reading.{label_at, number_at, number_where, part_at};
 
 use crate::fault::{FileFault, fault_at, short_of};
 use byteorder::{ByteOrder, LittleEndian};
 use fst_fields::MOST_LABEL;
+
+/// The number of the four bytes that stand at an offset.
+pub fn word_at(bytes: &[u8], at: usize) -> u32
+    requires { at + 4 ≤ length bytes.now }
+    ensures { result ≡ little_number 4 (drop at bytes.now) }
+{
+    LittleEndian::read_u32(&bytes[at..])
+}
 
 /// The number of four bytes at an offset, and the offset after it.
 #[tactic(auto, unfolding(crate::specs::Reading::number_at))]
@@ -19,7 +28,7 @@ pub fn read_word<K: Copy>(bytes: &[u8], at: usize, short: K) -> Result<(u32, usi
     if bytes.len() - at < 4 {
         return Err(short_of(bytes, short));
     }
-    Ok((LittleEndian::read_u32(&bytes[at..]), at + 4))
+    Ok((word_at(bytes, at), at + 4))
 }
 
 /// The number of eight bytes at an offset, and the offset after it.

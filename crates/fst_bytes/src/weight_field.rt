@@ -1,10 +1,10 @@
 //! Weight fields: a tag and the numbers after it.
 
-ghost use Rattle.std.specs.Prelude.{◌≡◌, ◌≢◌, ◌≤◌, ◌++◌, ◌+◌, ◌*◌, ◌&&◌, length, drop, ℕ, List, IsOkAnd, Some, None, vec_capacity, IfOk, OnOk, OnErr, if◌then◌else◌};
+ghost use Rattle.std.specs.Prelude.{◌≡◌, ◌≢◌, ◌≤◌, ◌++◌, ◌+◌, ◌*◌, ◌&&◌, length, drop, ℕ, List, IsOkAnd, Some, None, Ok, Err, true, false, vec_capacity, IfOk, IfSome, IfNone, OnOk, OnErr, if◌then◌else◌};
 ghost use Rattle.std.specs.Option.{option_map};
 ghost use Rattle.std.specs.List.{list_all};
 ghost use Rattle.std.specs.Result.{result_map_both};
-ghost use Rattle.fst_semiring.specs.Cost.{Cost, best, finite, infinite};
+ghost use Rattle.fst_semiring.specs.Cost.{Cost, best, finite, infinite, is_infinite};
 ghost use Rattle.fst_semiring.specs.Keys.{key_of};
 ghost use Rattle.fst_bytes.specs.Spelling.{HasField, weight_field};
 ghost use Rattle.fst_bytes.specs.Reading.{cost_of_numbers, file_weight_at, has_best, integer_at, integers_at, is_small, non_zero_weight_at, number_count, numbers_at, weight_at};
@@ -17,17 +17,10 @@ use fst_semiring::{ArcType, Key, LIMIT, Weight, is_zero};
 use std::alloc::AllocError;
 
 /// Whether a number may stand in a weight.
-fn is_in_range(number: i128) -> bool
+fn is_in_range(number: i64) -> bool
     ensures { result ≡ is_small number }
 {
-    -i128::from(LIMIT) <= number && number <= i128::from(LIMIT)
-}
-
-/// Whether the numbers of a key may stand in a weight.
-fn is_key_in_range(key: Key) -> bool
-    ensures { result ≡ (is_small key.first && is_small key.second) }
-{
-    is_in_range(key.first) && is_in_range(key.second)
+    -LIMIT <= number && number <= LIMIT
 }
 
 /// How many numbers stand after the tag 1.
@@ -60,11 +53,11 @@ fn read_integer(bytes: &[u8], at: usize) -> i64
     LittleEndian::read_i64(&bytes[at..])
 }
 
-/// The key with the numbers after the tag 1; 0 for those that the arc type does not have.
-fn read_key(kind: ArcType, bytes: &[u8], at: usize) -> Key
+/// The key with the numbers after the tag 1; 0 for those that the arc type does not have. `None` where one of them may
+/// not stand in a weight.
+fn read_key(kind: ArcType, bytes: &[u8], at: usize) -> Option<Key>
     requires { at + 8 * number_count kind ≤ length bytes.now }
-    ensures key { result ≡ key_of (cost_of_numbers (integers_at (number_count kind) bytes.now at)) }
-    ensures small { list_all is_small (integers_at (number_count kind) bytes.now at) ≡ (is_small result.first && is_small result.second) }
+    ensures { result ≡ (if list_all is_small (integers_at (number_count kind) bytes.now at) then Some (key_of (cost_of_numbers (integers_at (number_count kind) bytes.now at))) else None) }
 {
     match kind {
         ArcType::Boolean => key_of_numbers(0, 0),
@@ -76,14 +69,31 @@ fn read_key(kind: ArcType, bytes: &[u8], at: usize) -> Key
     }
 }
 
-/// The key of a number, or of a pair of numbers.
-fn key_of_numbers(first: i64, second: i64) -> Key
-    ensures { result ≡ key_of (finite first second) }
+/// The key of a number, or of a pair of numbers, where they may stand in a weight.
+fn key_of_numbers(first: i64, second: i64) -> Option<Key>
+    ensures { result ≡ (if is_small first && is_small second then Some (key_of (finite first second)) else None) }
 {
-    Key {
+    if !is_in_range(first) || !is_in_range(second) {
+        return None;
+    }
+    Some(Key {
         class: 1,
         first: i128::from(first),
         second: i128::from(second),
+    })
+}
+
+/// The weight with the numbers after the tag 1, all of which stand there. `None` where one of them may not stand in a
+/// weight.
+fn weight_of_numbers<W: Weight>(bytes: &[u8], at: usize) -> Option<W>
+    requires { at + 8 * number_count W.KIND ≤ length bytes.now }
+    ensures found { IfSome result (λ w. numbers_at W.KIND bytes.now at ≡ Ok (W.value w, at + 8 * number_count W.KIND)) }
+    ensures value { IfSome result (λ w. W.value w ≡ cost_of_numbers (integers_at (number_count W.KIND) bytes.now at)) }
+    ensures none { IfNone result (numbers_at W.KIND bytes.now at ≡ Err WeightFieldFault.BadWeight) }
+{
+    match read_key(W::KIND, bytes, at) {
+        Some(key) => W::from_key(key),
+        None => None,
     }
 }
 
@@ -94,16 +104,11 @@ fn read_numbers<W: Weight>(bytes: &[u8], at: usize) -> Result<(W, usize), Weight
     ensures value { result_map_both (λ x. (W.value x.0, x.1)) (λ e. e) result ≡ numbers_at W.KIND bytes.now at }
     ensures after { IfOk result (λ x. x.1 ≤ length bytes.now) }
 {
-    let kind = W::KIND;
-    let len = 8 * count_of_numbers(kind);
+    let len = 8 * count_of_numbers(W::KIND);
     if bytes.len() - at < len {
         return Err(WeightFieldFault::Short);
     }
-    let key = read_key(kind, bytes, at);
-    if !is_key_in_range(key) {
-        return Err(WeightFieldFault::BadWeight);
-    }
-    match W::from_key(key) {
+    match weight_of_numbers(bytes, at) {
         Some(weight) => Ok((weight, at + len)),
         None => Err(WeightFieldFault::BadWeight),
     }
@@ -144,6 +149,28 @@ fn read_field<W: Weight>(bytes: &[u8], offset: usize) -> Result<(W, usize), Weig
         },
         _ => Err(WeightFieldFault::BadWeight),
     }
+}
+
+/// How many bytes a weight field with the tag 1 takes. Each weight of the arc type has such a field but Zero and the best
+/// value.
+pub fn numbered_length(kind: ArcType) -> usize
+    ensures { result ≡ 1 + 8 * number_count kind }
+{
+    1 + 8 * count_of_numbers(kind)
+}
+
+/// The weight of the field at an offset, all of which stands there if its tag is 1. `None` where it has another tag, or is
+/// wrong: `read_weight_field` tells these apart. Takes no memory.
+#[tactic(auto, unfolding(crate::specs::Reading::weight_at))]
+pub fn read_numbered<W: Weight>(bytes: &[u8], at: usize) -> Option<W>
+    requires { at + 1 + 8 * number_count W.KIND ≤ length bytes.now }
+    ensures found { IfSome result (λ w. weight_at W.KIND bytes.now at ≡ Ok (W.value w, at + 1 + 8 * number_count W.KIND)) }
+    ensures not_zero { IfSome result (λ w. is_infinite (W.value w) ≡ false) }
+{
+    if bytes[at] != 1 {
+        return None;
+    }
+    weight_of_numbers(bytes, at + 1)
 }
 
 /// The weight whose field begins at an offset, and the offset after the field. Takes no memory.

@@ -1,24 +1,12 @@
-use Rattle.std.proofs.Common.{subst, ◌+◌, ℕ, length, map, drop, ap, arith}
-use Rattle.std.specs.List.{flat_map}
-use Rattle.fst_machine.specs.Machine.{Arc, valued_arc}
-use Rattle.fst_binary.specs.Spelling.{arc_fields}
-use Rattle.fst_bytes.specs.Spelling.{HasField, weight_field}
-use Rattle.fst_bytes.proofs.Lists.{item_counted, item_left, item_more}
-use Rattle.fst_binary.proofs.Lengths.{length-arc_fields}
+use Rattle.std.proofs.Common.{◌≡◌, ◌+◌, ◌*◌, false, sym, ap, ◌∙◌, arith}
+use Rattle.fst_bytes.specs.Reading.{has_best, number_count}
+use Rattle.fst_binary.proofs.Numbered.{numbered_arcs}
 use Rattle.fst_binary.proofs.encoding.arcs_length.Goals as goal
 
-pub loop-arc-preserved : goal.loop-arc-preserved
-loop-arc-preserved g c =
-    let fields = arc_fields g.W.Weight.KIND in
-    let i = c.loop-arc.arc-index in
-    let arcs = map (valued_arc g.W.Weight.value) c.args.arcs.now in
-    let arc = valued_arc g.W.Weight.value c.arc-item.result in
-    let left = item_left (valued_arc g.W.Weight.value) c.args.arcs.now i c.arc-item.result c.loop-arc-test.true c.arc-item.is in
-    let counted = item_counted fields c.loop-arc.len arc (drop (i + 1) arcs) (drop i arcs) (length (flat_map fields arcs)) left c.loop-arc.invariant.counted in
-    let weight = ap (λ (a : Arc g.row.W.Denot ℕ). length (weight_field g.W.Weight.KIND (g.W.Weight.value a.weight))) c.arc.view_is in
-    let long = length-arc_fields g.W.Weight.KIND arc in
-    record {
-      counted = omega (arith, counted, long, weight, c.weight_length.ensures.value);
-      fits = item_more (λ a. HasField g.W.Weight.KIND (g.W.Weight.value a.weight)) c.args.arcs.now i c.arc-item.result c.loop-arc-test.true c.arc-item.is c.loop-arc.invariant.fits (subst (λ (a : Arc g.row.W.Denot ℕ). HasField g.W.Weight.KIND (g.W.Weight.value a.weight)) c.arc.view_is c.weight_length.ensures.fits);
-      bound = omega (arith, c.loop-arc.invariant.bound, c.weight_length.ensures.bound);
-    }
+pub returns-else-may_be_best-clause-value : goal.returns-else-may_be_best-clause-value
+returns-else-may_be_best-clause-value g c =
+    let kind = g.W.Weight.KIND in
+    let none : has_best kind ≡ false = ap has_best (sym c.KIND.ensures) ∙ (sym c.may_be_best.ensures ∙ c.if-may_be_best.false) in
+    let numbers : number_count c.KIND-else-may_be_best.result ≡ number_count kind = ap number_count c.KIND-else-may_be_best.ensures in
+    let own : c.numbered_arc_length.result ≡ 13 + 8 * number_count kind = omega (arith, numbers, c.numbered_arc_length.ensures.value) in
+    sym (numbered_arcs g.W.Weight.value kind c.numbered_arc_length.result c.args.arcs.now own none c.arcs_have_fields.ensures c.requires.weights)

@@ -1,8 +1,10 @@
-use Rattle.std.proofs.Common.{arith}
+use Rattle.std.proofs.Common.{All, ◌≢◌, arith}
 use Rattle.std.proofs.lemmas.List.{length-append}
 use Rattle.std.proofs.lemmas.List.Elements.{All-append}
+use Rattle.fst_semiring.specs.Cost.{infinite}
 use Rattle.fst_machine.specs.Machine.{valued_state}
 use Rattle.fst_binary.specs.Spelling.{HasFields, state_fields}
+use Rattle.fst_binary.proofs.Numbered.{all_of_first, all_of_second}
 use Rattle.fst_binary.proofs.Parts.{arcs_of_parts, length_of_parts}
 use Rattle.fst_binary.proofs.encoding.parts_length.Goals as goal
 
@@ -14,6 +16,7 @@ states_length-requires g c =
       all = c.len.ensures;
       few_states = omega (arith, n, c.len.ensures, c.requires.few_states);
       few_arcs = omega (arith, arcs, c.requires.few_arcs);
+      weights = all_of_first (λ s. All (λ a. g.W.Weight.value a.weight ≢ infinite) s.arcs) c.args.first.now c.args.second.now c.requires.weights;
     }
 
 pub states_length-requires-2 : goal.states_length-requires-2
@@ -24,6 +27,7 @@ states_length-requires-2 g c =
       all = c.len-2.ensures;
       few_states = omega (arith, n, c.len-2.ensures, c.requires.few_states);
       few_arcs = omega (arith, arcs, c.requires.few_arcs);
+      weights = all_of_second (λ s. All (λ a. g.W.Weight.value a.weight ≢ infinite) s.arcs) c.args.first.now c.args.second.now c.requires.weights;
     }
 
 pub returns-clause-value : goal.returns-clause-value

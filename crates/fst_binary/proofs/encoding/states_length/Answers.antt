@@ -1,12 +1,12 @@
-use Rattle.std.proofs.Common.{All, ◌≡◌, subst, take, ◌+◌, length, map, drop, arith}
+use Rattle.std.proofs.Common.{All, ◌≡◌, ◌≢◌, subst, take, ◌+◌, length, map, drop, arith}
 use Rattle.std.specs.List.{flat_map}
 use Rattle.std.proofs.lemmas.List.{take_all}
 use Rattle.std.proofs.lemmas.List.Elements.{All-nil}
-use Rattle.fst_semiring.specs.Cost.{Cost}
+use Rattle.fst_semiring.specs.Cost.{Cost, infinite}
 use Rattle.fst_machine.specs.Machine.{State, valued_arc, valued_state}
 use Rattle.fst_binary.specs.Spelling.{HasFields, state_fields}
 use Rattle.fst_machine.proofs.Valued.{arc_total-valued}
-use Rattle.fst_binary.proofs.Lists.{arcs_from, nothing_left, state_left, state_more}
+use Rattle.fst_binary.proofs.Lists.{arcs_from, nothing_left, state_has, state_left, state_more}
 use Rattle.fst_bytes.proofs.Lists.{item_counted}
 use Rattle.fst_binary.proofs.Lengths.{length-state_fields}
 use Rattle.fst_binary.proofs.encoding.states_length.Goals as goal
@@ -24,7 +24,10 @@ loop-state-init g c =
 pub arcs_length-requires : goal.arcs_length-requires
 arcs_length-requires g c =
     let total = arcs_from g.W.Weight.value (g.S.States.states c.args.states.now) c.loop-state.state c.final_at.result c.arcs_at.result.now c.final_at.ensures c.arcs_at.ensures in
-    omega (arith, total, c.loop-state.invariant.few)
+    record {
+      few = omega (arith, total, c.loop-state.invariant.few);
+      weights = state_has (λ s. All (λ a. g.W.Weight.value a.weight ≢ infinite) s.arcs) (g.S.States.states c.args.states.now) c.loop-state.state c.final_at.result c.arcs_at.result.now c.final_at.ensures c.arcs_at.ensures c.requires.weights;
+    }
 
 pub overflow_add-len-in-loop-state-2 : goal.overflow_add-len-in-loop-state-2
 overflow_add-len-in-loop-state-2 g c =

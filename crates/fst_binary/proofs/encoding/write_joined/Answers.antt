@@ -1,12 +1,24 @@
-use Rattle.std.proofs.Common.{◌≡◌, false, true, All, List, length, map, ap, sym, subst, arith}
+use Rattle.std.proofs.Common.{◌≡◌, ◌≢◌, false, true, All, List, length, map, ap, sym, subst, arith}
 use Rattle.std.specs.List.{flat_map}
 use Rattle.std.proofs.lemmas.List.{length-append}
+use Rattle.fst_semiring.specs.Cost.{infinite}
 use Rattle.fst_semiring.specs.Names.{name_of}
-use Rattle.fst_machine.specs.Machine.{State, valued_state}
+use Rattle.fst_machine.specs.Machine.{State, arc_total, valued_state}
 use Rattle.fst_binary.specs.Spelling.{HasFields, state_fields}
 use Rattle.fst_binary.proofs.Encoded.{HasSpelling-valued}
+use Rattle.fst_binary.proofs.Numbered.{weights_of_machine}
 use Rattle.fst_binary.proofs.Parts.{front_length, joined_length, joined_spelled, length_of_parts}
 use Rattle.fst_binary.proofs.encoding.write_joined.Goals as goal
+
+pub parts_length-requires : goal.parts_length-requires
+parts_length-requires g c =
+    let machine = c.states-states.ensures.machine in
+    let parts = c.into_parts-first.ensures in
+    record {
+      few_states = omega (arith, ap length parts, machine.few_states);
+      few_arcs = omega (arith, ap arc_total parts, machine.few_arcs);
+      weights = subst (λ (ss : List (State g.row.W.Denot)). All (λ s. All (λ a. g.W.Weight.value a.weight ≢ infinite) s.arcs) ss) parts (weights_of_machine g.W.Weight.value (length c.args.joined.states) c.args.joined.states machine.arcs);
+    }
 
 pub returns-in_err-out-clause-succeeds : goal.returns-in_err-out-clause-succeeds
 returns-in_err-out-clause-succeeds g c fits =

@@ -1,9 +1,8 @@
-use Rattle.std.proofs.Common.{◌≡◌, ◌≤◌, ◌+◌, ◌*◌, length, map, drop, take, All}
+use Rattle.std.proofs.Common.{◌≡◌, ◌≤◌, ◌+◌, ◌*◌, length, map, drop}
 use Rattle.std.specs.List.{flat_map}
 use Rattle.fst_machine.specs.Machine.{valued_arc}
 use Rattle.fst_binary.specs.Spelling.{arc_fields}
-use Rattle.fst_bytes.specs.Spelling.{HasField}
-use Rattle.fst_binary.proofs.encoding.arcs_length.Given as goal
+use Rattle.fst_binary.proofs.encoding.arcs_length_each.Given as goal
 
 abbrev pub invariant-loop-arc : goal.invariant-loop-arc
 invariant-loop-arc g l =
@@ -11,6 +10,5 @@ invariant-loop-arc g l =
     let fields = arc_fields g.W.Weight.KIND in
     record {
       counted : l.len + length (flat_map fields (drop l.arc-index arcs)) ≡ length (flat_map fields arcs);
-      fits : All (λ a. HasField g.W.Weight.KIND (g.W.Weight.value a.weight)) (take l.arc-index l.arcs);
       bound : l.len ≤ 29 * l.arc-index;
     }
