@@ -54,11 +54,12 @@ fn look<W: Weight, V: Copy, M: Widens<W, V>, Q: StateQueue>(
     ensures below { AreBelow (length links.now) (Q.members queue.old) → AreBelow (length links.now) (Q.members queue.new) }
 {
     let so_far = table.nodes[state as usize].distance;
+    let short = W::narrow(so_far);
     for link in links.links(state) {
         if !is_open(marks, link.next) {
             continue;
         }
-        let value = W::wide_times(M::widened(link.weight), so_far);
+        let value = M::product(link.weight, so_far, short);
         let step = Step {
             state,
             place: link.place,

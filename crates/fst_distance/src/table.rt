@@ -6,8 +6,8 @@ ghost use Rattle.fst_semiring.specs.Cost.{infinite};
 ghost use Rattle.fst_semiring.specs.Semiring.{IsCost};
 ghost use Rattle.fst_machine.specs.BreadthFirst.{Has};
 ghost use Rattle.fst_distance.specs.Hops.{Better};
-ghost use Rattle.fst_distance.specs.Searching.{valued_node};
-ghost use Rattle.fst_distance.specs.Trying.{AreBelow, Met, Placed, Tried};
+ghost use Rattle.fst_distance.specs.Searching.{distance_at, valued_node};
+ghost use Rattle.fst_distance.specs.Trying.{AreBelow, Betters, Met, Placed, Tried};
 
 use crate::node::Node;
 use fst_machine::Step;
@@ -81,6 +81,42 @@ fn place<Q: StateQueue>(
     Ok(turn)
 }
 
+/// Gives a state a better value, with the step from which it came. It stands apart from the loop over the links, most
+/// of which bring nothing better: that loop is so short that the processor fetches several nodes at once.
+#[inline(never)]
+fn improve<W: Weight, Q: StateQueue>(
+    table: &mut Table<W>,
+    queue: &mut Q,
+    mark: u32,
+    state: u32,
+    value: W::Wide,
+    step: Step,
+) -> Result<(), AllocError>
+    requires mark { mark < 4294967295 }
+    requires state { state < length table.old.nodes.items }
+    requires better { Better (W.wide_value value) (distance_at (map (valued_node W.wide_value) table.old.nodes.items) state) }
+    ensures betters { OnOk result (Betters mark state (W.wide_value value) step (map (valued_node W.wide_value) table.old.nodes.items) (map (valued_node W.wide_value) table.new.nodes.items) (Q.members queue.old) (Q.members queue.new) table.old.later.items table.new.later.items table.old.met.items table.new.met.items) }
+    ensures size { length table.new.nodes.items ≡ length table.old.nodes.items }
+    ensures below { (n : ℕ) → state < n → AreBelow n (Q.members queue.old) → AreBelow n (Q.members queue.new) }
+{
+    let before = table.nodes[state as usize];
+    meet::<W>(&mut table.met, state, before.distance)?;
+    let turn = place(
+        queue,
+        &mut table.later,
+        mark,
+        state,
+        before.turn,
+        W::key(value),
+    )?;
+    table.nodes[state as usize] = Node {
+        distance: value,
+        link: Some(step),
+        turn,
+    };
+    Ok(())
+}
+
 /// Gives a state a value, with the step from which it came, where it is better than its distance so far.
 pub(crate) fn try_value<W: Weight, Q: StateQueue>(
     table: &mut Table<W>,
@@ -97,23 +133,9 @@ pub(crate) fn try_value<W: Weight, Q: StateQueue>(
     ensures size { length table.new.nodes.items ≡ length table.old.nodes.items }
     ensures below { (n : ℕ) → state < n → AreBelow n (Q.members queue.old) → AreBelow n (Q.members queue.new) }
 {
-    let before = table.nodes[state as usize];
-    if !is_better::<W>(value, before.distance) {
+    if !is_better::<W>(value, table.nodes[state as usize].distance) {
         return Ok(());
     }
-    meet::<W>(&mut table.met, state, before.distance)?;
-    let turn = place(
-        queue,
-        &mut table.later,
-        mark,
-        state,
-        before.turn,
-        W::key(value),
-    )?;
-    table.nodes[state as usize] = Node {
-        distance: value,
-        link: Some(step),
-        turn,
-    };
+    improve(table, queue, mark, state, value, step)?;
     Ok(())
 }

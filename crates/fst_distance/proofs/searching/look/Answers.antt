@@ -48,18 +48,15 @@ loop-link-preserved-then-not-is_open g c =
       below = v.below;
     }
 
-pub widened-requires : goal.widened-requires
-widened-requires g c =
+pub product-value-requires-clause-known : goal.product-value-requires-clause-known
+product-value-requires-clause-known g c =
     let l : Link g.row.V.Denot = record { weight = c.link.inside.weight; next = c.link.inside.next; place = c.link.inside.place } in
     let items = c.links-link-items.result.now in
     let is : l ≡ get_or items c.loop-link.link-index l = subst (λ (z : Link g.row.V.Denot). z ≡ get_or items c.loop-link.link-index z) (sym c.link.view_is) c.link-item.is in
     c.requires.known c.args.state l (subst (λ (ls : List (Link g.row.V.Denot)). Has ls l) c.links-link-items.ensures (read_Has items c.loop-link.link-index l c.loop-link-test.true is))
 
-pub wide_times-value-requires-clause-a_wide : goal.wide_times-value-requires-clause-a_wide
-wide_times-value-requires-clause-a_wide g c = Within-more g.M.Widens.bound 1329227995784915872903807060280344575 (g.W.Weight.wide_value c.widened.result) (let few = g.met.M.Widens.few in omega arith) c.widened.ensures.range
-
-pub wide_times-value-requires-clause-b_wide : goal.wide_times-value-requires-clause-b_wide
-wide_times-value-requires-clause-b_wide g c =
+pub product-value-requires-clause-wide : goal.product-value-requires-clause-wide
+product-value-requires-clause-wide g c =
     let s = c.loop-link.invariant.some in
     Within-more ((s.2 + 1) * most_number) 1329227995784915872903807060280344575 (g.W.Weight.wide_value c.behind-table.inside.distance) (let few = s.3 in omega arith) s.4.number
 
@@ -92,18 +89,18 @@ loop-link-preserved g c =
     let is : l ≡ get_or items c.loop-link.link-index l = subst (λ (z : Link g.row.V.Denot). z ≡ get_or items c.loop-link.link-index z) (sym c.link.view_is) c.link-item.is in
     let open_next : IsOpen c.args.marks.now l.next = c.if-not-is_open.ensures.0 refl in
     let goes = link_goes kind held c.args.marks.now c.args.links.now c.loop-link.invariant.some.0 g.M.Widens.bound 0 c.args.mark 0 c.args.state (value c.behind-table.inside.distance) items c.links-link-items.ensures c.loop-link.link-index l c.loop-link-test.true is open_next in
-    let own : Within g.M.Widens.bound (held l.weight) = subst (Within g.M.Widens.bound) c.widened.ensures.same c.widened.ensures.range in
+    let own : Within g.M.Widens.bound (held l.weight) = c.product-value.ensures.range in
     let range : Within most_number (held l.weight) = Within-more g.M.Widens.bound most_number (held l.weight) g.met.M.Widens.few own in
-    let product : value c.wide_times-value.result ≡ times kind (held l.weight) (value c.behind-table.inside.distance) = c.wide_times-value.ensures.product ∙ ap (λ z. times kind z (value c.behind-table.inside.distance)) c.widened.ensures.same in
+    let product : value c.product-value.result ≡ times kind (held l.weight) (value c.behind-table.inside.distance) = c.product-value.ensures.product in
     let v = c.loop-link.invariant in
     let low : l.next < length (map (valued_node value) c.loop-link.table.nodes.items) = (let next = c.requires.net.ends _ goes in let size = v.some.4.searching.marked.size in omega arith) in
     let tried = c.in_ok-try_value.ensures.tried in
     let step = λ (source : ℕ → Cost) (k takes : ℕ) (looks : LooksAt kind held c.args.marks.now c.args.links.now source g.M.Widens.bound k c.args.mark takes c.args.state (value c.behind-table.inside.distance) items c.loop-link.link-index (map (valued_node value) c.loop-link.table.nodes.items) (g.Q.StateQueue.members c.loop-link.queue) c.loop-link.table.later.items c.loop-link.table.met.items). look_tries kind held c.args.marks.now c.args.links.now source g.M.Widens.bound k c.args.mark takes c.args.state (value c.behind-table.inside.distance) items c.links-link-items.ensures c.loop-link.link-index l c.loop-link-test.true is
-    c.requires.net (value c.wide_times-value.result) (map (valued_node value) c.loop-link.table.nodes.items) (map (valued_node value) c.try_value.new.table.nodes.items) (g.Q.StateQueue.members c.loop-link.queue) (g.Q.StateQueue.members c.try_value.new.queue) c.loop-link.table.later.items c.try_value.new.table.later.items c.loop-link.table.met.items c.try_value.new.table.met.items open_next product range own c.wide_times-value.ensures.kind looks tried in
+    c.requires.net (value c.product-value.result) (map (valued_node value) c.loop-link.table.nodes.items) (map (valued_node value) c.try_value.new.table.nodes.items) (g.Q.StateQueue.members c.loop-link.queue) (g.Q.StateQueue.members c.try_value.new.queue) c.loop-link.table.later.items c.try_value.new.table.later.items c.loop-link.table.met.items c.try_value.new.table.met.items open_next product range own c.product-value.ensures.kind looks tried in
     record {
       some = (v.some.0, v.some.1, v.some.2, v.some.3, step v.some.0 v.some.1 (v.some.2 + 1) v.some.4);
       every = λ source k takes s. step source k (takes + 1) (v.every source k takes s);
-      left = tried_left c.args.mark l.next (value c.wide_times-value.result) _ _ _ _ _ _ _ _ _ low tried ∙ v.left;
+      left = tried_left c.args.mark l.next (value c.product-value.result) _ _ _ _ _ _ _ _ _ low tried ∙ v.left;
       below = λ old. c.in_ok-try_value.ensures.below (length c.args.links.now) (c.requires.net.ends _ goes) (v.below old);
     }
 

@@ -1,35 +1,28 @@
-use Rattle.std.proofs.Common.{◌≡◌, inl, inr, ℕ, false, Some, map, sym, ap, ◌∙◌, subst, refl}
-use Rattle.std.proofs.lemmas.List.{map-set}
+use Rattle.std.proofs.Common.{◌≡◌, inl, inr, false, map, sym, ap, ◌∙◌, subst, refl}
 use Rattle.fst_distance.specs.Hops.{Better, NoWorse}
-use Rattle.fst_distance.specs.Searching.{Node, distance_at, turn_at, valued_node}
-use Rattle.fst_distance.specs.Trying.{Met, Placed}
+use Rattle.fst_distance.specs.Searching.{Node, distance_at, valued_node}
 use Rattle.fst_distance.proofs.Nodes.{node_read}
 use Rattle.fst_distance.proofs.Order.{better_or_not_at}
 use Rattle.fst_distance.proofs.table.try_value.Goals as goal
 
-pub returns-clause-tried : goal.returns-clause-tried
-returns-clause-tried g c =
+pub improve-requires-clause-better : goal.improve-requires-clause-better
+improve-requires-clause-better g c =
     let value = g.W.Weight.wide_value in
     let nodes = map (valued_node value) c.args.table.now.nodes.items in
-    let was = node_read value c.args.table.now.nodes.items c.args.state c.index-before.result.now c.requires.state c.index-before.ensures in
-    let distance : distance_at nodes c.args.state ≡ value c.before-2.inside.distance = ap (λ z. z.distance) was ∙ ap (λ (n : Node g.row.W-Wide.Denot). value n.distance) (sym c.before-2.view_is) in
-    let turn : turn_at nodes c.args.state ≡ c.before-2.inside.turn = ap (λ z. z.turn) was ∙ ap (λ (n : Node g.row.W-Wide.Denot). n.turn) (sym c.before-2.view_is) in
-    let better : Better (value c.args.value) (value c.before-2.inside.distance) = c.if-not-is_better.ensures.better.0 refl in
-    inr (record {
-      better = subst (λ z. Better (value c.args.value) z) (sym distance) better;
-      turn = c.in_ok-turn.turn;
-      node = map-set (valued_node value) c.args.table.now.nodes.items c.args.state (record { distance = c.args.value; link = Some c.args.step; turn = c.in_ok-turn.turn });
-      placed = subst (λ (t : ℕ). Placed c.args.mark c.args.state t c.in_ok-turn.turn (g.Q.StateQueue.members c.args.queue.now) (g.Q.StateQueue.members c.place.new.queue) c.args.table.now.later.items c.place.new.later.items) (sym turn) c.in_ok-turn.ensures.placed;
-      meets = subst (λ z. Met c.args.state z c.args.table.now.met.items c.meet.new.met.items) (sym distance) c.in_ok-meet.ensures;
-    })
+    let was = node_read value c.args.table.now.nodes.items c.args.state c.index.result.now c.requires.state c.index.ensures in
+    let distance : distance_at nodes c.args.state ≡ value c.behind-table.inside.distance = ap (λ z. z.distance) was ∙ ap (λ (n : Node g.row.W-Wide.Denot). value n.distance) (sym c.behind-table.view_is) in
+    subst (λ z. Better (value c.args.value) z) (sym distance) (c.if-not-is_better.ensures.better.0 refl)
+
+pub returns-clause-tried : goal.returns-clause-tried
+returns-clause-tried g c = inr c.in_ok-improve.ensures.betters
 
 pub returns-then-not-is_better-clause-tried : goal.returns-then-not-is_better-clause-tried
 returns-then-not-is_better-clause-tried g c =
     let value = g.W.Weight.wide_value in
     let nodes = map (valued_node value) c.args.table.now.nodes.items in
-    let was = node_read value c.args.table.now.nodes.items c.args.state c.index-before.result.now c.requires.state c.index-before.ensures in
-    let distance : distance_at nodes c.args.state ≡ value c.before-2.inside.distance = ap (λ z. z.distance) was ∙ ap (λ (n : Node g.row.W-Wide.Denot). value n.distance) (sym c.before-2.view_is) in
-    let no_worse : NoWorse (value c.before-2.inside.distance) (value c.args.value) = better_or_not_at (value c.args.value) (value c.before-2.inside.distance) false c.if-not-is_better.ensures.better refl in
+    let was = node_read value c.args.table.now.nodes.items c.args.state c.index.result.now c.requires.state c.index.ensures in
+    let distance : distance_at nodes c.args.state ≡ value c.behind-table.inside.distance = ap (λ z. z.distance) was ∙ ap (λ (n : Node g.row.W-Wide.Denot). value n.distance) (sym c.behind-table.view_is) in
+    let no_worse : NoWorse (value c.behind-table.inside.distance) (value c.args.value) = better_or_not_at (value c.args.value) (value c.behind-table.inside.distance) false c.if-not-is_better.ensures.better refl in
     inl (record {
       no_worse = subst (λ z. NoWorse z (value c.args.value)) (sym distance) no_worse;
       nodes_same = refl;
