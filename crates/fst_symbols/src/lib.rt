@@ -8,6 +8,7 @@ mod coding;
 mod fault;
 mod name_index;
 mod named_rows;
+mod row;
 mod row_list;
 mod rows;
 mod table;

@@ -14,7 +14,8 @@ ghost use Rattle.fst_symbols.specs.Kept.{IsKept, place_in, symbols_in};
 
 use crate::fault::SymbolsFault;
 use crate::named_rows::NamedRows;
-use fst_fields::{read_label, read_row};
+use crate::row::read_row;
+use fst_fields::read_label;
 use fst_table::Places;
 use std::alloc::{AllocError, Global};
 
