@@ -1,6 +1,6 @@
 //! The arcs and the final weight of a name.
 
-ghost use Rattle.std.specs.Prelude.{◌≡◌, ◌<◌, ◌≤◌, ◌++◌, ◌⊎◌, IfOk, OnOk, length, map};
+ghost use Rattle.std.specs.Prelude.{◌≡◌, ◌<◌, ◌≤◌, ◌++◌, ◌∷◌, ◌⊎◌, [], IfOk, OnOk, length, map};
 ghost use Rattle.std.specs.List.{flat_map};
 ghost use Rattle.fst_semiring.specs.Semiring.{Within};
 ghost use Rattle.fst_machine.specs.Machine.{valued_arc};
@@ -19,6 +19,19 @@ use std::alloc::{AllocError, Global};
 use std::marker::Brand;
 use std::sync::ledger::{Blank, Ledger};
 
+/// Puts an arc after the others.
+fn put_made<W: Weight>(out: &mut Vec<KeyArc<W>>, arc: KeyArc<W>) -> Result<(), AllocError>
+    ensures { OnOk result (out.new.items ≡ out.old.items ++ arc ∷ []) }
+{
+    // Mostly there is room, and then the arc is written where it stays.
+    if out.len() < out.capacity() {
+        out.push_reserved(arc);
+        return Ok(());
+    }
+    out.push(arc)?;
+    Ok(())
+}
+
 /// Puts the arc of two arcs after the others, if these match.
 fn put_match<W: Weight>(
     out: &mut Vec<KeyArc<W>>,
@@ -28,12 +41,13 @@ fn put_match<W: Weight>(
     ensures { OnOk result (map (key_arc W.wide_value) out.new.items ≡ map (key_arc W.wide_value) out.old.items ++ match_arcs W.KIND (valued_arc W.value a) (valued_arc W.value b)) }
 {
     if a.olabel == b.ilabel {
-        out.push(KeyArc {
+        let arc = KeyArc {
             ilabel: a.ilabel,
             olabel: b.olabel,
             weight: a.weight.times(b.weight),
             next: key_at(a.next, b.next, 0),
-        })?;
+        };
+        return put_made(out, arc);
     }
     Ok(())
 }
@@ -67,13 +81,13 @@ pub(crate) fn put_first<W: Weight>(
     if key.filter > 0 {
         return Ok(());
     }
-    out.push(KeyArc {
+    let arc = KeyArc {
         ilabel: a.ilabel,
         olabel: 0,
         weight: a.weight.widen(),
         next: key_at(a.next, key.second, 0),
-    })?;
-    Ok(())
+    };
+    put_made(out, arc)
 }
 
 /// The same for each of these arcs of the first machine.
@@ -102,13 +116,13 @@ fn put_second<W: Weight>(
     if b.ilabel > 0 {
         return Ok(());
     }
-    out.push(KeyArc {
+    let arc = KeyArc {
         ilabel: 0,
         olabel: b.olabel,
         weight: b.weight.widen(),
         next: key_at(key.first, b.next, 1),
-    })?;
-    Ok(())
+    };
+    put_made(out, arc)
 }
 
 /// The same for each of these arcs of the second machine.
