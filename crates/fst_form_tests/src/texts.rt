@@ -63,7 +63,7 @@ pub(crate) fn is_printed(
 }
 
 /// A text, how it is read and printed, and what is printed.
-static PRINTED: [(&[u8], Form, &[u8]); 22] = [
+static PRINTED: [(&[u8], Form, &[u8]); 26] = [
     (b"0 1 1 2 5\n1 3\n", "", b"0\t1\t1\t2\t5\n1\t3\n"),
     (b"", "", b""),
     (b" \n\t\r\n", "", b""),
@@ -107,6 +107,27 @@ static PRINTED: [(&[u8], Form, &[u8]); 22] = [
         b"999999999999999999 5 1 1\n5 999999999999999999 2 2\n5\n",
         "w",
         b"0\t1\t1\t1\t0\n1\t0\t2\t2\t0\n1\t0\n",
+    ),
+    // Lines of numbers alone: the last with no end, one with a separator at its end, and one with two between fields.
+    (
+        b"0\t1\t1\t2\t5\n1\t2\t3\t4",
+        "k",
+        b"0\t1\t1\t2\t5\n1\t2\t3\t4\n2\tInfinity\n",
+    ),
+    (
+        b"0 1 1 2 5 \n1 2 3 4\r\n2  0 1 1\n",
+        "k",
+        b"0\t1\t1\t2\t5\n1\t2\t3\t4\n2\t0\t1\t1\n",
+    ),
+    (
+        b"0 1 1\n1 2 3 4\n\n2 0 7 8",
+        "ka",
+        b"0\t1\t1\n1\t2\t3\t4\n2\t0\t7\t8\n",
+    ),
+    (
+        b"000000000000000000 1 000000000000000002 3\n",
+        "k",
+        b"0\t1\t2\t3\n1\tInfinity\n",
     ),
     (b"0 1 b A\n1\n", "io", b"0\t1\tb\tA\n1\n"),
     (b"0 0 <eps> -1\n0\n", "io", b"0\t0\t<eps>\t-1\n0\n"),
@@ -153,7 +174,7 @@ fn compiles_and_prints(rt: HostRuntime) -> Result<(), Fail> {
 }
 
 /// A text, how it is read, and its first fault.
-static FAULTS: [(&[u8], Form, TextFault); 26] = [
+static FAULTS: [(&[u8], Form, TextFault); 30] = [
     (b"0 1 1\n", "", TextFault::BadColumns { line: 1 }),
     (b"0 1 1 2\n0 1 5\n", "", TextFault::BadColumns { line: 2 }),
     (b"x x x x x x\n", "", TextFault::BadColumns { line: 1 }),
@@ -164,6 +185,22 @@ static FAULTS: [(&[u8], Form, TextFault); 26] = [
         b"1234567890123456789\n",
         "",
         TextFault::BadState { line: 1 },
+    ),
+    (
+        b"0 1 1 1\n0 0000000000000000001 1 1\n",
+        "",
+        TextFault::BadState { line: 2 },
+    ),
+    (
+        b"0 1 1 1 2\n\n0 1 0000000000000000001 1\n",
+        "",
+        TextFault::BadLabel { line: 3 },
+    ),
+    (b"0 1 1,1 1\n", "", TextFault::BadLabel { line: 1 }),
+    (
+        b"0 1 1 1\n1 2 3 4 5 6\n",
+        "",
+        TextFault::BadColumns { line: 2 },
     ),
     (b"0 1 2147483648 1\n", "", TextFault::BadLabel { line: 1 }),
     (b"0 1 1 1x 0.5\n", "", TextFault::BadLabel { line: 1 }),
