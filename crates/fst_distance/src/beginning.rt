@@ -32,6 +32,7 @@ pub(crate) fn blank_table<W: Weight>(alloc: Global, states: usize) -> Result<Tab
         nodes,
         later: Vec::new(alloc),
         met: Vec::new(alloc),
+        ahead: 0,
     })
 }
 

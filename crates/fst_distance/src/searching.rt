@@ -69,6 +69,20 @@ fn look<W: Weight, V: Copy, M: Widens<W, V>, Q: StateQueue>(
     Ok(())
 }
 
+/// Reads the first link of the state that is likely taken next, so that the processor fetches it while it looks along the
+/// links of another. What it gives says nothing.
+fn read_ahead<V: Copy, Q: StateQueue>(queue: &Q, links: &Links<V>) -> u32
+    requires { AreBelow (length links.now) (Q.members queue.now) }
+{
+    let Some(soon) = queue.peek() else {
+        return 0;
+    };
+    match links.links(soon) {
+        [first, ..] => first.next,
+        [] => 0,
+    }
+}
+
 /// Takes the states of a round, and gives how many these are.
 fn take_all<W: Weight, V: Copy, M: Widens<W, V>, Q: StateQueue>(
     table: &mut Table<W>,
@@ -90,6 +104,7 @@ fn take_all<W: Weight, V: Copy, M: Widens<W, V>, Q: StateQueue>(
     let mut taken = 0;
     while let Some(state) = queue.take() {
         table.nodes[state as usize].turn = mark;
+        table.ahead = read_ahead(queue, links);
         look::<W, V, M, Q>(table, queue, links, marks, state, mark)?;
         taken += 1;
     }

@@ -24,6 +24,8 @@ pub(crate) struct Table<W: Weight> {
     pub(crate) nodes: Vec<Node<W::Wide>>,
     pub(crate) later: Vec<u32>,
     pub(crate) met: Vec<u32>,
+    /// What was read of the links of the state that is likely taken next. It says nothing.
+    pub(crate) ahead: u32,
 }
 
 /// Whether the first value is better than the second.

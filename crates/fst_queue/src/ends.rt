@@ -1,7 +1,7 @@
 //! The ends of a list at which states leave it.
 
-ghost use Rattle.std.specs.Prelude.{◌≡◌, ℕ, List, [], Option, None, Some};
-ghost use Rattle.fst_machine.specs.BreadthFirst.{Apart};
+ghost use Rattle.std.specs.Prelude.{◌≡◌, ℕ, List, [], Option, None, Some, IfSome};
+ghost use Rattle.fst_machine.specs.BreadthFirst.{Apart, Has};
 ghost use Rattle.fst_queue.specs.Members.{Takes};
 ghost use Rattle.fst_queue.specs.Orders.{TakesFirst, TakesLast};
 
@@ -15,6 +15,13 @@ pub trait End {
     /// Takes out the state at this end; `None` exactly where there is none. Takes constant time and no memory.
     fn pop(states: &mut VecDeque<u32>) -> Option<u32>
         ensures { leaves states.old.items result states.new.items };
+
+    /// The state at this end, where it is told; `None` says nothing. Takes constant time and no memory.
+    fn peek(_states: &VecDeque<u32>) -> Option<u32>
+        ensures { IfSome result (Has _states.now.items) }
+    {
+        None
+    }
 
     // No state leaves an empty list alone.
     ghost empty: { (old new : List ℕ) → leaves old None new → (old ≡ []) × (new ≡ []) };
@@ -38,6 +45,10 @@ impl End for First {
 
     fn pop(states: &mut VecDeque<u32>) -> Option<u32> {
         states.pop_front()
+    }
+
+    fn peek(states: &VecDeque<u32>) -> Option<u32> {
+        states.front().copied()
     }
 }
 

@@ -91,4 +91,9 @@ impl<E: End> StateQueue for InOrder<E> {
     fn is_empty(&self) -> bool {
         self.states.is_empty()
     }
+
+    /// The state at the end at which states leave, where it is told. Takes constant time and no memory.
+    fn peek(&self) -> Option<u32> {
+        E::peek(&self.states)
+    }
 }

@@ -1,8 +1,8 @@
 //! What a search knows of a queue of states.
 
-ghost use Rattle.std.specs.Prelude.{◌≡◌, [], OnOk, OnErr};
+ghost use Rattle.std.specs.Prelude.{◌≡◌, [], IfSome, OnOk, OnErr};
 ghost use Rattle.std.specs.Bool.{Decides};
-ghost use Rattle.fst_machine.specs.BreadthFirst.{Apart};
+ghost use Rattle.fst_machine.specs.BreadthFirst.{Apart, Has};
 ghost use Rattle.fst_queue.specs.Members.{Adds, Takes};
 
 use fst_semiring::Key;
@@ -34,6 +34,14 @@ pub trait StateQueue: Drop {
     /// Whether there is no member. Takes constant time and no memory.
     fn is_empty(&self) -> bool
         ensures { Decides result (members self.now ≡ []) };
+
+    /// A member that may be the next to leave, so that what is kept of it can be fetched early. `None` says nothing.
+    /// Takes constant time and no memory.
+    fn peek(&self) -> Option<u32>
+        ensures { IfSome result (Has (members self.now)) }
+    {
+        None
+    }
 }
 
 /// A queue in a box: the queue itself.
@@ -50,5 +58,9 @@ impl StateQueue for Box<dyn StateQueue> {
 
     fn is_empty(&self) -> bool {
         (**self).is_empty()
+    }
+
+    fn peek(&self) -> Option<u32> {
+        (**self).peek()
     }
 }
