@@ -64,10 +64,10 @@ loop-state-init g c =
       left = let few = left_few c.args.mark nodes in let size = b.4.marked.size in omega arith;
     }
 
-pub read_ahead-requires : goal.read_ahead-requires
-read_ahead-requires g c =
+pub read_ahead-table-requires : goal.read_ahead-table-requires
+read_ahead-table-requires g c =
     let s = c.loop-state.invariant.some in
-    let took = takes_on g (goal.at.read_ahead-requires g c).After-behind-table s.0 s.1 s.2 s.4 in
+    let took = takes_on g (goal.at.read_ahead-table-requires g c).After-behind-table s.0 s.1 s.2 s.4 in
     λ q there. took.marked.met_low q (took.marked.members_met q there)
 
 pub look-requires-clause-turn : goal.look-requires-clause-turn
