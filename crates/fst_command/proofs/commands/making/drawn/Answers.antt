@@ -1,4 +1,5 @@
-use Rattle.std.proofs.Common.{◌≡◌, ℕ, ◌≤◌, ◌<◌, List, length, sym, ap, ◌∙◌, subst, arith}
+use Rattle.std.proofs.Common.{◌≡◌, ℕ, ◌≤◌, ◌<◌, List, length, sym, ap, ◌∙◌, subst, arith, inl}
+use Rattle.std.proofs.lemmas.Result.{err_from_is_err_and}
 use Rattle.std.specs.List.{AllZip}
 use Rattle.std.proofs.lemmas.Slice.Zip.{AllZip-long}
 use Rattle.fst_semiring.specs.Cost.{Cost}
@@ -26,6 +27,11 @@ pub text_of-requires : goal.text_of-requires
 text_of-requires g c =
     let size : length c.in_ok-cascade.cascade.lines ≡ c.line_count.result = ap length c.in_ok-cascade.ensures.lines ∙ drawn_count (behind_second c.seed_of.result) c.line_count.result in
     omega (arith, size, c.line_count.ensures.few, AllZip-long _ _ _ c.in_ok-report.ensures.answers)
+
+pub returns-in_err-text-clause-settles : goal.returns-in_err-text-clause-settles
+returns-in_err-text-clause-settles g c given =
+    let p = err_from_is_err_and c.from_residual-in_err-text.result c.from_residual-in_err-text.ensures.1 in
+    rw p.1 (inl p.2)
 
 pub returns-clause-settles : goal.returns-clause-settles
 returns-clause-settles g c given =
