@@ -9,7 +9,9 @@ ghost use Rattle.fst_symbols.specs.Symbols.{number_of};
 ghost use Rattle.fst_symbols.specs.Named.{IsIndexOf, beside, other_in, place_in};
 
 use crate::coding::Coding;
+use crate::row::name_length;
 use crate::row_list::RowList;
+use fst_fields::next_line;
 use fst_table::FlatTable;
 use std::alloc::{AllocError, Global};
 use std::collections::BTreeMap;
@@ -19,6 +21,9 @@ const FEW: usize = 16;
 
 /// And of so many rows one may have it.
 const SELDOM: usize = 64;
+
+/// The names of so many lines are looked at side by side.
+pub const AHEAD: usize = 16;
 
 /// The places of rows. A row is found by the code of its name, in a table that bounds what a look-up costs. Of rows whose
 /// names have one code the first stands in that table, and the others in a sorted map. So a look-up costs a search
@@ -51,6 +56,24 @@ impl NameIndex {
     pub fn meets_often(&self, rows: usize) -> bool {
         let others = self.others.len();
         others > FEW && others > rows / SELDOM && matches!(&self.coding, Coding::Plain)
+    }
+
+    /// Looks at the slots where the looks for the names of the first lines of a text begin, and gives how many of them are
+    /// free. None of these looks waits for another, as each of the looks for one name after the other does; so what is
+    /// found is at hand when the names are noted. Takes no memory.
+    pub fn look_ahead(&self, text: &[u8]) -> usize {
+        let mut starts = [0; AHEAD];
+        let mut rest = text;
+        for start in 0..AHEAD {
+            let Some((line, behind)) = next_line(rest) else {
+                break;
+            };
+            starts[start] = self
+                .firsts
+                .start(self.coding.code(&line[..name_length(line)]));
+            rest = behind;
+        }
+        self.firsts.count_free(&starts)
     }
 
     /// The place of the row of a name that has the code of the name of this row, the first one with it.

@@ -16,6 +16,9 @@ use crate::name_index::NameIndex;
 use crate::row_list::RowList;
 use std::alloc::{AllocError, Global};
 
+/// The slots of so many rows stay in the caches that a processor has for itself.
+const NEAR_ROWS: usize = 65_536;
+
 /// Rows in order, and their places by their names.
 #[derive(Drop)]
 pub struct NamedRows {
@@ -91,6 +94,16 @@ impl NamedRows {
         }
         self.rows.push(name, number)?;
         Ok(Some(place as u32))
+    }
+
+    /// Whether there is room for so many rows that not all of what is kept of them stays in the caches.
+    pub fn is_large(&self) -> bool {
+        self.rows.room() > NEAR_ROWS
+    }
+
+    /// Looks at the slots of the names of the first lines of a text, and gives how many of them are free. Takes no memory.
+    pub fn look_ahead(&self, text: &[u8]) -> usize {
+        self.index.look_ahead(text)
     }
 
     /// Whether more names have the code of an earlier one than chance allows.

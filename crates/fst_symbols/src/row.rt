@@ -10,7 +10,7 @@ use fst_fields::next_field;
 use memchr::memchr3;
 
 /// How many bytes stand in front of the first separator. They are searched many at a time.
-fn name_length(line: &[u8]) -> usize
+pub fn name_length(line: &[u8]) -> usize
     ensures value { result ≡ position_or_len is_separator line.now }
     ensures bound { result ≤ length line.now }
 {

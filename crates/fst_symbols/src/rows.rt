@@ -13,6 +13,7 @@ ghost use Rattle.fst_symbols.specs.Reading.{after_line, symbol_of, with_symbol};
 ghost use Rattle.fst_symbols.specs.Kept.{IsKept, place_in, symbols_in};
 
 use crate::fault::SymbolsFault;
+use crate::name_index::AHEAD;
 use crate::named_rows::NamedRows;
 use crate::row::read_row;
 use fst_fields::read_label;
@@ -32,6 +33,8 @@ fn near_end(rows: usize) -> u32
 pub struct Rows {
     named: NamedRows,
     places: Places,
+    /// How many of the slots that were looked at ahead were free. It says nothing: the looks alone count.
+    ahead: usize,
 }
 
 impl Rows {
@@ -46,6 +49,7 @@ impl Rows {
         Ok(Rows {
             named: NamedRows::with_room(alloc, rows, bytes)?,
             places: Places::new(alloc, near_end(rows) as usize),
+            ahead: 0,
         })
     }
 
@@ -139,6 +143,18 @@ impl Rows {
             Ok(Some((name, number))) => self.add(alloc, line, name, number),
             Ok(None) => Ok(Ok(())),
             Err(fault) => Ok(Err(fault)),
+        }
+    }
+
+    /// Looks at the slots of the names of the next lines where many rows are kept, once for some lines. It changes the time
+    /// alone. Takes no memory.
+    pub fn look_ahead(&mut self, line: u64, text: &[u8])
+        requires { IsKept self.old }
+        ensures same { symbols_in self.new ≡ symbols_in self.old }
+        ensures kept { IsKept self.new }
+    {
+        if line % AHEAD as u64 == 1 && self.named.is_large() {
+            self.ahead = self.named.look_ahead(text);
         }
     }
 

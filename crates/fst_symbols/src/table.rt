@@ -121,6 +121,7 @@ fn read_rows(alloc: Global, bytes: &[u8]) -> Result<Result<Rows, SymbolsFault>, 
     let mut line: u64 = 0;
     while let Some((first, behind)) = next_line(rest) {
         line += 1;
+        rows.look_ahead(line, rest);
         match rows.line(alloc, line, first)? {
             Ok(()) => {}
             Err(fault) => return Ok(Err(fault)),
