@@ -12,29 +12,29 @@ FANS = [
     Row("compose, a word of 20 letters and a lexicon", "compose {word} {lexicon} {out}", memory=COMPOSE_MEMORY),
     Row("compose, a word of 20 letters and a lexicon, turned", "compose {lexicon} {word} {out}", memory=COMPOSE_MEMORY),
     Row("compose, two hubs of which 100 arcs match", "compose {hub} {other_hub} {out}", memory=COMPOSE_MEMORY),
-    Row("compose, two hubs whose arcs all match", f"compose {MOST} {{equal}} {{other_equal}} {{out}}", 0.6, 1.9, "compose {equal} {other_equal} {out}"),
+    Row("compose, two hubs whose arcs all match", f"compose {MOST} {{equal}} {{other_equal}} {{out}}", 0.5, 1.9, "compose {equal} {other_equal} {out}"),
 ]
 # All arcs between two states.
 BETWEEN = [
-    Row("invert, two states", "invert {between} {out}", 0.5, 1.7),
-    Row("closure, two states", "closure {between} {out}", 0.5, 1.7),
-    Row("connect, two states", "connect {between} {out}", 0.6, 1.7),
+    Row("invert, two states", "invert {between} {out}", 0.45, 1.7),
+    Row("closure, two states", "closure {between} {out}", 0.45, 1.7),
+    Row("connect, two states", "connect {between} {out}", 0.45, 1.7),
 ]
 # One path.
 CHAINS = [
-    Row("connect, a chain", "connect {chain} {out}"),
-    Row("info, a chain", "info {chain}"),
-    Row("reverse, a chain", "reverse {chain} {out}", 0.5, 0.9),
-    Row("closure, a chain", "closure {chain} {out}", 0.5, 0.9),
+    Row("connect, a chain", "connect {chain} {out}", 0.35, 0.9),
+    Row("info, a chain", "info {chain}", 0.35, 0.9),
+    Row("reverse, a chain", "reverse {chain} {out}", 0.35, 0.9),
+    Row("closure, a chain", "closure {chain} {out}", 0.35, 0.9),
 ]
 # Pairs of costs beside OpenFst's single ones, which are half as long: its tools do not have the arc type.
 DOUBLES = [
-    Row("invert, pairs of costs (OpenFst: tropical)", "invert {doubles.lexicographic} {out}", 0.7, 2.0, "invert {dense} {out}"),
+    Row("invert, pairs of costs (OpenFst: tropical)", "invert {doubles.lexicographic} {out}", 0.5, 2.0, "invert {dense} {out}"),
 ]
 # Names of 60 bytes in a table of each side, as many as arcs.
 NAMED = [
-    Row("compile, long names", f"compile {LONG_NAMES} {{long_named.text}} {{out}}", 0.5, 1.3),
-    Row("print, long names", f"print {LONG_NAMES} {{long_named.long_named}} {{out}}", 0.7, 1.3),
+    Row("compile, long names", f"compile {LONG_NAMES} {{long_named.text}} {{out}}", 0.4, 1.3),
+    Row("print, long names", f"print {LONG_NAMES} {{long_named.long_named}} {{out}}", 0.4, 1.3),
 ]
 # Epsilon paths from each of so many states, and paths of equal weight.
 PATHS = [
