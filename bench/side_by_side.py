@@ -64,8 +64,11 @@ def note(size, name, _sides):
 
 
 def passes(rows, found):
-    """Whether a row passes its bounds or is missing."""
-    return any(not found[row.name] or found[row.name].time() > row.time or found[row.name].memory() > row.memory for row in rows)
+    """Whether a row passes its bounds or is missing. Shows which do."""
+    past = [row.name for row in rows if not found[row.name] or found[row.name].time() > row.time or found[row.name].memory() > row.memory]
+    if past:
+        print(f"\nPast their bounds: {'; '.join(past)}")
+    return bool(past)
 
 
 def by_size(rows, words, scratch, behind=lambda inputs: False):
