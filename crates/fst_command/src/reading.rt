@@ -208,11 +208,40 @@ fn has_machine(role: Role) -> bool {
     }
 }
 
+/// From so many arcs on, the content of a machine is freed before lists of its arcs are made.
+const MANY_ARCS: u32 = 1 << 20;
+
+/// And where a state has more arcs than these, in the mean: such a machine takes little but for its arcs, and is nearly as
+/// long as its content.
+const MANY_OF_A_STATE: u32 = 16;
+
+/// Whether the content of a machine may stay while short lists of its states and arcs are made.
+fn is_light(machine: &AnyFst) -> bool {
+    let (states, arcs) = match machine {
+        AnyFst::Boolean(fst) => (fst.states(), fst.arc_count()),
+        AnyFst::Tropical(fst) => (fst.states(), fst.arc_count()),
+        AnyFst::MinMax(fst) => (fst.states(), fst.arc_count()),
+        AnyFst::Lexicographic(fst) => (fst.states(), fst.arc_count()),
+    };
+    arcs < MANY_ARCS && arcs / MANY_OF_A_STATE <= states
+}
+
+/// Whether the output of a command may be made where the content of the machines that were read stands.
+fn may_stay(command: Verb, machines: &[AnyFst]) -> bool {
+    if command != Verb::Connect {
+        return changes_in_place(command);
+    }
+    match machines {
+        [machine] => is_light(machine),
+        _ => false,
+    }
+}
+
 /// Keeps the content of a machine as a room, where the output of the command may be made there, or frees it.
 fn keep_room(command: Verb, content: Vec<u8>, held: &mut Held)
     ensures { held_seen held.new ≡ held_seen held.old }
 {
-    if changes_in_place(command) {
+    if may_stay(command, held.machines.as_slice()) {
         held.room = content;
     } else if command == Verb::Print {
         held.text_room = content;
