@@ -6,13 +6,14 @@
 
 The runs of the two programs alternate, so that a slow minute of the machine falls on both. For each run the processor time (user
 and system) and the peak resident size are taken; the tables show medians. The parts are forms, operations, algebra, cliffs,
-crafted and batch; without --only all are shown. --table shows the first three in one table with a line for each command, --growth their
-instructions, which no load changes, --floors what a program in C takes for the same bytes. With --large the machine of the cliffs
-is added that takes gigabytes.
+improving, crafted and batch; without --only all are shown. --table shows the first three in one table with a line for each
+command, --growth their instructions, which no load changes, --floors what a program in C takes for the same bytes. With --large the
+machine of the cliffs is added that takes gigabytes.
 
 With --gate the status is 1 where a ratio passes the bound of its row at 10^6 arcs, where an operation takes more than GROWTH times
-as long for ten times the arcs, where instructions grow by more than the power 1.1, where crafted keys take more than four times as
-long as plain ones, or where the program does not have a command.
+as long for ten times the arcs, where instructions grow by more than the power 1.1, where a cycle that is better than One is refused
+in more than twice the time that the machine takes without it, where crafted keys take more than four times as long as plain ones,
+or where the program does not have a command.
 """
 import argparse
 import os
@@ -28,6 +29,7 @@ from cliffs import CLIFFS, LARGE
 from crafted import KEYS, crafted
 from floors import floors
 from growth import LIMIT, growth
+from improving import improving
 from inputs import Inputs
 from measuring import adopt, compared, in_turn, lacks, measured
 from rows import ALGEBRA, FORMS, OPERATIONS
@@ -40,7 +42,7 @@ BOUND_SIZE = 1_000_000
 GROWTH = 20
 # Bounds of what stands by itself: megabytes a second, milliseconds, and times as long.
 MEGABYTES, CALL, SHUFFLED = 300, 5, 1.5
-PARTS = ["forms", "operations", "algebra", "cliffs", "crafted", "batch"]
+PARTS = ["forms", "operations", "algebra", "cliffs", "improving", "crafted", "batch"]
 
 
 def compare(rows, inputs, rounds, tell):
@@ -201,6 +203,9 @@ def measure(words, scratch):
         if wanted[part]:
             over = shown(wanted[part], words, scratch) or over
             print()
+    if words.only in (None, "improving"):
+        over = improving(words, scratch) or over
+        print()
     if words.only in (None, "crafted"):
         over = crafted(words.fst, words.rounds, scratch, words.keys, lambda name: words.rows.search(name)) or over
         print()
