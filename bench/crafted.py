@@ -7,9 +7,10 @@ from itertools import product
 from typing import Callable, NamedTuple
 
 import crafted_keys as keys
-from inputs import Inputs
+from inputs import written
 from measuring import compared, lacks
 from rows import MOST
+from tables import times_line
 
 # How many keys, and how many states a machine has whose pairs are keys.
 KEYS, PAIR_STATES = 20_000, 4096
@@ -193,15 +194,6 @@ KINDS = [
 ]
 
 
-def written(fst, folder, texts):
-    """The inputs that these texts are."""
-    os.mkdir(folder)
-    for name, lines in texts.items():
-        with open(os.path.join(folder, name + ".txt"), "wb") as out:
-            out.writelines(line if isinstance(line, bytes) else line.encode() for line in lines)
-    return Inputs(fst, folder, 0)
-
-
 def times(fst, kind, count, rounds, scratch):
     """The runs of our program on crafted and on plain keys of a kind; none where it does not have the command."""
     with tempfile.TemporaryDirectory(dir=scratch) as folder:
@@ -226,7 +218,6 @@ def crafted(fst, rounds, scratch, count=KEYS, is_wanted=lambda name: True):
             print(f"| {kind.name} | the program does not have this command | | | |", flush=True)
             over = True
             continue
-        (long, short), (least, most) = sides.seconds(), sides.spread()
-        print(f"| {kind.name} | {short:.3f} | {long:.3f} | {sides.time():.2f} | {least:.2f} to {most:.2f} |", flush=True)
+        print(times_line(kind.name, sides), flush=True)
         over = over or sides.time() > MOST_TIMES
     return over

@@ -1,13 +1,13 @@
-"""Machines with a cycle that is better than One, beside the same machines without it, by `fst` alone: it refuses them, and OpenFst's
-tools do not end on some."""
+"""Machines with a cycle that is better than One, beside the same machines without it, by `fst` alone, which refuses them: OpenFst's
+`fstshortestdistance` goes round such a loop until its floats change no more."""
 import os
 import tempfile
 from typing import NamedTuple
 
-from inputs import Inputs
+from inputs import written
 from machines import MODES
 from measuring import compared, lacks
-from tables import head
+from tables import head, times_line
 
 # How many times as long as without the cycle a command may take to refuse it.
 MOST_TIMES = 2.0
@@ -51,29 +51,26 @@ def farthest(lines):
     return order[-1]
 
 
-def with_arc(lines, kind):
-    """The lines of a machine, and the arc."""
-    source = farthest(lines)
+def with_arc(lines, source, kind):
+    """The lines of a machine, and the arc from this state."""
     target = lines[0].split("\t", 1)[0] if kind.to_start else source
     return [*lines, f"{source}\t{target}\t{kind.label}\t{kind.label}\t{kind.weight}\n"]
 
 
-def made(fst, folder, lines):
-    """The inputs that have this machine."""
-    os.mkdir(folder)
-    with open(os.path.join(folder, "machine.txt"), "w") as out:
-        out.writelines(lines)
-    return Inputs(fst, folder, 0)
+def text_of(mode, size, scratch):
+    """The lines of the machine of a mode."""
+    with tempfile.TemporaryDirectory(dir=scratch) as folder:
+        path = os.path.join(folder, "text")
+        MODES[mode][0](path, size)
+        with open(path) as file:
+            return file.readlines()
 
 
-def times(fst, kind, size, rounds, scratch):
+def times(fst, kind, lines, source, rounds, scratch):
     """The runs on the machine with the cycle and on that without it; none where the program does not have the command."""
     with tempfile.TemporaryDirectory(dir=scratch) as folder:
-        text = os.path.join(folder, "text")
-        MODES[kind.mode][0](text, size)
-        with open(text) as file:
-            lines = file.readlines()
-        sides = [made(fst, os.path.join(folder, "with"), with_arc(lines, kind)), made(fst, os.path.join(folder, "without"), lines)]
+        texts = {"with": with_arc(lines, source, kind), "without": lines}
+        sides = [written(fst, os.path.join(folder, name), {"machine": text}) for name, text in texts.items()]
         commands = [inputs.words(kind.words, "ours") for inputs in sides]
         if lacks(commands[1]):
             return None
@@ -84,16 +81,16 @@ def improving(words, scratch):
     """Shows how long commands take to refuse a cycle. Gives whether one takes too many times as long."""
     print(head("Arcs", "Command and cycle", "without: s", "with: s", "times", "in pairs of runs"))
     over = False
+    kinds = [kind for kind in KINDS if words.rows.search(kind.name)]
     for size in words.sizes:
-        for kind in KINDS:
-            if not words.rows.search(kind.name):
-                continue
-            sides = times(words.fst, kind, size, words.rounds, scratch)
+        texts = {mode: text_of(mode, size, scratch) for mode in dict.fromkeys(kind.mode for kind in kinds)}
+        sources = {mode: farthest(lines) for mode, lines in texts.items()}
+        for kind in kinds:
+            sides = times(words.fst, kind, texts[kind.mode], sources[kind.mode], words.rounds, scratch)
             if sides is None:
                 print(f"| {size} | {kind.name} | the program does not have this command | | | |", flush=True)
                 over = True
                 continue
-            (long, short), (least, most) = sides.seconds(), sides.spread()
-            print(f"| {size} | {kind.name} | {short:.3f} | {long:.3f} | {sides.time():.2f} | {least:.2f} to {most:.2f} |", flush=True)
+            print(times_line(f"{size} | {kind.name}", sides), flush=True)
             over = over or sides.time() > MOST_TIMES
     return over

@@ -196,3 +196,12 @@ class Inputs:
     def forget(self, name):
         """Removes a text, which both programs have read."""
         os.remove(self.path(name + ".txt"))
+
+
+def written(fst, folder, texts):
+    """The inputs that these texts are, in a folder of their own: lines by name."""
+    os.mkdir(folder)
+    for name, lines in texts.items():
+        with open(os.path.join(folder, name + ".txt"), "wb") as out:
+            out.writelines(line if isinstance(line, bytes) else line.encode() for line in lines)
+    return Inputs(fst, folder, 0)

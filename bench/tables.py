@@ -29,6 +29,12 @@ def floor_line(size, name, theirs, floor, ours):
     return f"| {size} | {name} | {figures[0]} | {figures[1]} | {ratios[1]} | {figures[2]} | {ratios[2]} |"
 
 
+def times_line(name, sides):
+    """A row of our program alone on two inputs: the seconds on the second and on the first, and how many times as long that is."""
+    (first, second), (least, most) = sides.seconds(), sides.spread()
+    return f"| {name} | {second:.3f} | {first:.3f} | {sides.time():.2f} | {least:.2f} to {most:.2f} |"
+
+
 def missing_line(size, name):
     """A row of a command that the program does not have."""
     return f"| {size} | {name} | the program does not have this command | | | | |"
