@@ -1,3 +1,4 @@
+# shellcheck shell=bash
 # What the checks of .ci/checks share, for bash: the program, a folder of their own, packages of Debian, what is built.
 set -u
 cd "$(dirname "${BASH_SOURCE[0]}")/.." || exit 1

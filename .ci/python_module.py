@@ -1,4 +1,4 @@
-"""Tests of scripts/jazvurd.py on the program that JAZVURD_FST names. UNBUILT has the commands that it lacks."""
+"""Tests of scripts/jazvurd/__init__.py on the program that JAZVURD_FST names. UNBUILT has the commands that it lacks."""
 import os
 import unittest
 
@@ -62,6 +62,48 @@ class Texts(unittest.TestCase):
             self.assertRaises(ValueError, work)
         self.assertRaises(FileNotFoundError, fst.compile, "", isymbols="absent")
 
+    def test_finals_and_weights(self):
+        self.assertEqual(fst.compile([(0, 1, 1, 1)], {1}), fst.compile("0 1 1 1\n1\n"))
+        truth = fst.compile([(0, 1, 1, 1, True)], {1: True, 2: False}, arc_type="boolean")
+        self.assertEqual(fst.parts(truth), (0, [(0, 1, 1, 1, None)], {1: None}))
+        for kind, cause, work in [
+            (TypeError, "final state 1: True is a weight of the type boolean, and not of tropical", lambda: fst.compile([(0, 1, 1, 1)], {1: True})),
+            (TypeError, "a weight is a whole number, a pair of them, or True or False, and not 'x'", lambda: fst.compile([(0, 1, 1, 1, "x")])),
+            (TypeError, "finals: a state is a whole number from 0 on, and not 'b'", lambda: fst.compile([(0, 1, 1, 1)], {"b"})),
+            (TypeError, "arc 0: a state is a whole number from 0 on, and not -1", lambda: fst.compile([(-1, 1, 1, 1)])),
+            (ValueError, "arc 1: an arc is (source, destination, input, output[, weight]), and not (0, 1, 1)", lambda: fst.compile([(0, 1, 1, 1), (0, 1, 1)])),
+            (TypeError, "first: a machine is bytes, as compile gives them or open(path, 'rb').read(), and not str", lambda: fst.invert("a.fst")),
+        ]:
+            with self.assertRaises(kind) as caught:
+                work()
+            self.assertEqual(str(caught.exception), cause)
+
+    def test_strings(self):
+        machine = fst.compile("0 1 a b 5\n1 2 <eps> a 7\n1 3\n2\n", isymbols=TABLE, osymbols=TABLE)
+        self.assertEqual(list(fst.strings(machine, isymbols=TABLE, osymbols=TABLE)), [(8, "a", "b"), (12, "a", "ba")])
+        self.assertEqual(list(fst.strings(machine)), [(8, "1", "2"), (12, "1", "2 1")])
+        self.assertEqual([path.weight for path in fst.strings(fst.compile("0 1 1 1 5\n1 2 1 1 7\n2\n", arc_type="minmax"))], [7])
+        self.assertEqual([path.weight for path in fst.strings(fst.compile("0 1 1 1\n1 2 1 1 1\n2 1\n", arc_type="boolean"))], [1])
+        self.assertEqual([path.weight for path in fst.strings(fst.compile("0 1 1 1 2,3\n1 4,5\n", arc_type="lexicographic"))], [(6, 8)])
+        self.assertEqual(list(fst.strings(fst.compile(""))), [])
+        with self.assertRaisesRegex(ValueError, "^state 0 lies on a cycle: "):
+            list(fst.strings(fst.compile("0 0 1 1\n0\n")))
+
+    def test_graphs(self):
+        machine = fst.compile("0 1 a <eps> 5\n1 3\n", isymbols=TABLE, osymbols=TABLE)
+        graph = fst.draw(machine, isymbols=TABLE, osymbols=TABLE)
+        self.assertIn('  0 -> 1 [label = "a:ε/5"];\n', graph)
+        self.assertIn('  1 [label = "1/3", shape = doublecircle];\n', graph)
+        picture = fst.invert(machine)._repr_svg_()
+        self.assertTrue(picture is None or "<svg" in picture)
+        path, os.environ["PATH"] = os.environ["PATH"], "/absent"
+        try:
+            self.assertIsNone(machine._repr_svg_())
+            with self.assertRaisesRegex(fst.NoProgram, "^dot: No such file"):
+                fst.draw(machine, to="svg")
+        finally:
+            os.environ["PATH"] = path
+
     def test_no_program(self):
         program = os.environ["JAZVURD_FST"]
         os.environ["JAZVURD_FST"] = "/absent/fst"
@@ -93,6 +135,7 @@ class Operations(unittest.TestCase):
         self.assertEqual(fst.decode(machine, codex), self.machine)
 
     def test_of_several(self):
+        self.assertEqual(fst.union(self.machine, self.machine, self.machine), fst.union(fst.union(self.machine, self.machine), self.machine))
         self.prints(fst.union(fst.compile(""), self.machine), "0 1 0 0\n1 2 1 2 5\n2 3\n")
         self.prints(fst.concat(self.machine, self.machine), "0 1 1 2 5\n1 2 0 0 3\n2 3 1 2 5\n3 3\n")
         first, second = fst.compile("0 1 1 0\n1 2 2 3\n2\n"), fst.compile("0 1 0 9\n1 2 3 4\n2\n")

@@ -1,10 +1,13 @@
 """What the converters share: how they speak, the texts that they read, names of labels, whole weights, whole outputs."""
 import argparse
+import io
+import operator
 import os
 import re
+import struct
+import subprocess
 import sys
 import tempfile
-from fractions import Fraction
 
 EPSILON = "<eps>"
 # The bytes 32, 9 and 13 separate the fields of a text.
@@ -14,20 +17,30 @@ SAFE_NAMES = {" ": "@_SPACE_@", "\t": "@_TAB_@"}
 DECIMAL = re.compile(r"[-+]?(\d+\.?\d*|\.\d+)([eE][-+]?\d{1,3})?")
 GREATEST_WEIGHT = 10**18
 GREATEST_LABEL = 2_147_483_647
+ARC_TYPES = ("tropical", "boolean", "minmax", "lexicographic")
+# The final weights of a state that is not final.
+ZEROS = {"tropical": ("Infinity",), "boolean": ("0",), "minmax": ("Infinity",), "lexicographic": ("Infinity,Infinity",)}
+MAGIC, TABLE_MAGIC = struct.pack("<i", 2125659606), struct.pack("<i", 2125658996)
 
 
 class Refused(Exception):
     """What cannot be turned, and where it stands."""
 
 
+def shown(text):
+    """A text for a terminal: control bytes and bytes that are no character are written out."""
+    return "".join(one if one.isprintable() else f"\\x{ord(one) & 255:02x}" if ord(one) < 160 or 0xDC80 <= ord(one) <= 0xDCFF else f"\\u{ord(one):04x}"
+                   for one in text)
+
+
 class Place:
     """A line of a file, for what is said of it."""
 
-    def __init__(self, name):
-        self.name, self.line = "standard input" if name == "-" else name, 0
+    def __init__(self, name, line_of="line"):
+        self.name, self.line, self.line_of = "standard input" if name == "-" else name, 0, line_of
 
     def refuse(self, why):
-        raise Refused(f"{self.name}: line {self.line}: {why}")
+        raise Refused(f"{self.name}: {self.line_of} {self.line}: {why}")
 
 
 class Words(argparse.ArgumentParser):
@@ -37,7 +50,7 @@ class Words(argparse.ArgumentParser):
         super().__init__(description=description, allow_abbrev=False, formatter_class=argparse.RawDescriptionHelpFormatter)
 
     def error(self, message):
-        print(f"{self.prog}: {message} ({self.prog} --help says more)", file=sys.stderr)
+        print(shown(f"{self.prog}: {message} ({self.prog} --help says more)"), file=sys.stderr)
         sys.exit(2)
 
 
@@ -51,19 +64,66 @@ def run(words, work):
         # Whoever reads the output has had enough, as head does.
         os.dup2(os.open(os.devnull, os.O_WRONLY), 1)
     except Refused as refusal:
-        sys.exit(f"{words.prog}: {refusal}")
+        sys.exit(shown(f"{words.prog}: {refusal}"))
     except OSError as fault:
-        sys.exit(f"{words.prog}: {fault.filename or 'the output'}: {fault.strerror}")
+        sys.exit(shown(f"{words.prog}: {fault.filename or 'the output'}: {fault.strerror}"))
     except KeyboardInterrupt:
         sys.exit(130)
 
 
-def read_lines(place, name):
+def arc_type_of(head):
+    """The arc type of a machine of fst, from its first bytes; none where they are of another kind of file."""
+    for arc_type in ARC_TYPES:
+        if head.startswith(MAGIC + struct.pack("<i6si", 6, b"vector", len(arc_type)) + arc_type.encode()):
+            return arc_type
+    return None
+
+
+def kind_of(head):
+    """What a file is that is no text, and what makes a text of it; none where it may be a text."""
+    kinds = [(MAGIC, "OpenFst's binary file: fst-from-openfst reads it"), (TABLE_MAGIC, "OpenFst's binary symbol table: fstsymbols makes a text of it"),
+             (b"HFST\0", "a binary file of HFST: hfst-fst2txt makes a text of it"), (b"LTTB", "a binary file of lttoolbox: lt-print makes a text of it"),
+             (b"LTTX", "a binary file of lttoolbox: lt-print makes a text of it"), (b"FSTCODEX", "the codex of fst encode, and no text"),
+             (b"\x1f\x8b", "compressed, as foma's binary files are: gzip -d, or foma's write att, makes a text of it"), (b"<?xml", "XML, and no text of lines")]
+    if arc_type_of(head) is not None:
+        return "a binary machine of fst: fst print makes a text of it"
+    return next((kind for start, kind in kinds if head.startswith(start)), "a binary file, and no text" if b"\0" in head else None)
+
+
+def opened(name):
+    """A file to read, `-` for standard input, and its first bytes, which stay unread."""
+    file = open(sys.stdin.fileno() if name == "-" else name, "rb", closefd=name != "-", buffering=1 << 16)
+    return file, file.peek(4096)[:4096]
+
+
+def read_lines(place, name, source=None):
     """The lines of a file, `-` for standard input, without a byte order mark and without the ends of lines."""
-    source = sys.stdin.fileno() if name == "-" else name
-    with open(source, encoding="utf-8", errors="surrogateescape", newline="\n", closefd=name != "-") as lines:
-        for place.line, line in enumerate(lines, 1):
+    file = source
+    if source is None:
+        file, head = opened(name)
+        kind = kind_of(head)
+        if kind:
+            raise Refused(f"{place.name}: it is {kind}")
+    with file:
+        for place.line, line in enumerate(file, 1):
+            line = line.decode("utf-8", "surrogateescape")
             yield (line.removeprefix("\ufeff") if place.line == 1 else line).removesuffix("\n").removesuffix("\r")
+
+
+def program_words(*words):
+    return [os.environ.get("JAZVURD_FST") or "fst", *words]
+
+
+def run_program(words, data):
+    """What the program writes, given these bytes as standard input: its line is the refusal."""
+    try:
+        done = subprocess.run(program_words(*words), input=data, capture_output=True, check=False)
+    except OSError as fault:
+        raise Refused(f"{program_words()[0]}: {fault.strerror} (make install puts fst on the path, JAZVURD_FST names another)") from fault
+    if done.returncode:
+        line = done.stderr.decode("utf-8", "surrogateescape").strip().removeprefix("fst: ")
+        raise Refused(line or f"fst ended with status {done.returncode}")
+    return done.stdout
 
 
 def write_draft(path, data):
@@ -139,6 +199,8 @@ class Weights:
             return "Infinity", False
         if not DECIMAL.fullmatch(text):
             place.refuse(f"bad weight {text}")
+        # It is slow to load, and few scripts need it.
+        from fractions import Fraction
         value = Fraction(text)
         if self.factor is None and value.denominator > 1:
             place.refuse(f"weight {text} is no whole number: --factor=1000, say, makes it one")
@@ -195,13 +257,97 @@ class Symbols:
         return as_bytes(f"{symbol}\t{number}\n" for symbol, number in self.numbers.items())
 
 
-class Text:
-    """A machine as `fst print` writes it: its start, and by state its arcs and its final weight, as they stand in the text."""
+def shown_name(name):
+    return "standard input" if name == "-" else name
 
-    def __init__(self, name, acceptor=False):
-        self.start, self.arcs, self.finals, self.place = None, {}, {}, Place(name)
+
+def is_number(label):
+    return label.isascii() and label.isdigit()
+
+
+def takes_machine(words, tables=True):
+    """The words of a script that reads a machine."""
+    if tables:
+        words.add_argument("--isymbols", metavar="TABLE", help="the names of the input labels of a binary machine")
+        words.add_argument("--osymbols", metavar="TABLE", help="the names of its output labels; for an acceptor those of --isymbols unless given")
+        words.add_argument("--epsilon", metavar="NAME", help="of a text: the name of epsilon, <eps> unless given; 0 where labels are numbers")
+    words.add_argument("--arc_type", choices=ARC_TYPES, help="of a text: the type of its weights, tropical unless given")
+    words.add_argument("--acceptor", action="store_true", help="an arc has one label")
+    words.add_argument("input", nargs="?", default="-", help="the binary machine, or the text of fst print; - for standard input")
+
+
+def takes_between(words):
+    """The words of a script that writes strings."""
+    words.add_argument("--between", metavar="TEXT", help="what stands between two labels: nothing between names, a blank between numbers unless given")
+    words.add_argument("--obetween", metavar="TEXT", help="the same of the output side alone")
+
+
+class Text:
+    """A machine, of its binary file or of the text that `fst print` writes: its arc type, its start, and by state its arcs
+    and its final weight, as they stand in the text. A side's epsilon has the name in `epsilons`."""
+
+    def __init__(self, options, numbers=False):
+        self.start, self.arcs, self.finals, self.name = None, {}, {}, options.input
+        self.tables = [None, None] if numbers else [options.isymbols, options.osymbols]
+        if options.acceptor and self.tables[1] is None:
+            self.tables[1] = self.tables[0]
+        file, head = opened(options.input)
+        self.arc_type = arc_type_of(head)
+        self.is_binary = self.arc_type is not None
+        if self.is_binary:
+            with file:
+                lines = self.printed(options, file)
+            self.epsilons = ["0" if table is None else Symbols(table).epsilon for table in self.tables]
+            self.read(read_lines(self.place, options.input, lines), False)
+            return
+        if any(self.tables):
+            raise Refused(f"{shown_name(options.input)}: tables are for a binary machine, and this is none")
+        kind = kind_of(head)
+        if kind:
+            raise Refused(f"{shown_name(options.input)}: it is {kind}")
+        self.arc_type = options.arc_type or "tropical"
+        self.place = Place(options.input)
+        given = "0" if numbers else options.epsilon
+        self.epsilons = [given or EPSILON] * 2
+        self.read(read_lines(self.place, options.input, file), options.acceptor)
+        if given is None:
+            self.refuse_numbers()
+
+    def printed(self, options, file):
+        """The lines of a binary machine, by the program."""
+        if options.arc_type not in (None, self.arc_type):
+            raise Refused(f"{shown_name(options.input)}: the arc type is {self.arc_type}, and not {options.arc_type}")
+        self.place = Place(options.input, "line of fst print")
+        words = ["print", *(f"--{side}={table}" for side, table in zip(("isymbols", "osymbols"), self.tables) if table is not None)]
+        try:
+            return io.BytesIO(run_program([*words, "-"], file.read()))
+        except Refused as refusal:
+            line = re.sub("^(-|cannot read -):", f"{shown_name(options.input)}:", str(refusal))
+            raise Refused(line if ": " in line else f"{shown_name(options.input)}: {line}") from None
+
+    def refuse_numbers(self):
+        """A text that was printed without tables has numbers for labels, and 0 is no name then."""
+        for side, name in enumerate(("input", "output")):
+            labels = {arc[side] for arcs in self.arcs.values() for arc in arcs}
+            if "0" in labels and all(map(is_number, labels)):
+                raise Refused(f"{self.place.name}: the {name} labels are numbers, as it seems: --epsilon=0 takes 0 for epsilon, --epsilon='<eps>' for a name")
+
+    def is_numbered(self, side):
+        """Whether the labels of a side, 0 for input and 1 for output, are numbers and not names."""
+        if self.is_binary:
+            return self.tables[side] is None
+        return self.epsilons[side] == "0"
+
+    def is_zero(self, weight):
+        return weight in ZEROS[self.arc_type]
+
+    def needs(self, *arc_types):
+        if self.arc_type not in arc_types:
+            raise Refused(f"{shown_name(self.name)}: the arc type is {self.arc_type}, which has no place there")
+
+    def read(self, lines, acceptor):
         arc_columns, targets = (3, 4) if acceptor else (4, 5), {}
-        for line in read_lines(self.place, name):
+        for line in lines:
             fields = [field for field in FIELDS.split(line) if field]
             if not fields:
                 continue
@@ -223,7 +369,56 @@ class Text:
         for target in targets:
             self.arcs.setdefault(target, [])
 
+    def final(self, state):
+        """The final weight of a state and its line; none where it is not final."""
+        weight = self.finals.get(state)
+        return None if weight is None or self.is_zero(weight[0]) else weight
+
     def at(self, line):
         """The place of a line, for what is said of it later."""
         self.place.line = line
         return self.place
+
+
+MINUS_INFINITY = float("-inf")
+# By arc type: One, how many numbers a weight has, and Times of a number.
+WEIGHTS = {"tropical": ((0,), 1, operator.add), "boolean": ((1,), 1, min), "minmax": ((MINUS_INFINITY,), 1, max), "lexicographic": ((0, 0), 2, operator.add)}
+
+
+def weight_text(weight):
+    return ",".join("-Infinity" if number == MINUS_INFINITY else str(number) for number in weight)
+
+
+class Spelling:
+    """The labels and weights of a machine as they stand in a string."""
+
+    def __init__(self, options, machine):
+        self.machine, self.plain = machine, [{epsilon: ""} for epsilon in machine.epsilons]
+        given = options.between, options.between if options.obetween is None else options.obetween
+        self.between = [" " if text is None and machine.is_numbered(side) else text or "" for side, text in enumerate(given)]
+        self.known, self.one = {}, WEIGHTS[machine.arc_type][0]
+
+    def label(self, side, name):
+        if name not in self.plain[side]:
+            plain = name + self.between[side]
+            for blank, safe in SAFE_NAMES.items():
+                plain = plain.replace(safe, blank)
+            self.plain[side][name] = plain
+        return self.plain[side][name]
+
+    def weight(self, text, line):
+        """A weight as numbers: one, or those of a pair."""
+        if text not in self.known:
+            one, parts, _ = WEIGHTS[self.machine.arc_type]
+            numbers = text.split(",") if text else []
+            if text and (len(numbers) != parts or not all(number.removeprefix("-").isdigit() for number in numbers)):
+                self.machine.at(line).refuse(f"the weight {text} is none of the type {self.machine.arc_type}")
+            self.known[text] = tuple(map(int, numbers)) if text else one
+        return self.known[text]
+
+    def times(self, left, right):
+        return tuple(map(WEIGHTS[self.machine.arc_type][2], left, right))
+
+    def without_end(self, side, text):
+        """A string without what stands after its last label."""
+        return text[:len(text) - len(self.between[side])]

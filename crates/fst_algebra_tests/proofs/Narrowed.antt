@@ -8,7 +8,7 @@ use Rattle.fst_semiring.specs.Semiring.{InRange, Within}
 use Rattle.fst_semiring.proofs.Ranges.{Within-more}
 use Rattle.fst_machine.specs.Machine.{Arc, State, valued_arc, valued_state}
 use Rattle.fst_machine.specs.Narrowing.{IsInRange}
-use Rattle.fst_distance.specs.Searching.{most_number}
+use Rattle.fst_search.specs.Searching.{most_number}
 
 -- what holds of a mapped list holds of the list
 All-unmap : {X Y : Type 0} (P : Y → Type 0) (f : X → Y) (xs : List X) → All P (map f xs) → All (λ x. P (f x)) xs

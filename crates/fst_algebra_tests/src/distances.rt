@@ -3,11 +3,11 @@
 ghost use Rattle.std.specs.Prelude.{◌≡◌, []};
 
 use crate::worst_first::WorstFirst;
-use fst_distance::{Direction, DistanceFault, distance, useful_distances};
 use fst_machine::{Fst, Path, Step};
 use fst_plain::{PlainCost, distances_to_final};
 use fst_queue::{BestFirst, Fifo, Lifo, StateQueue};
 use fst_samples::machine;
+use fst_search::{Direction, DistanceFault, distance, useful_distances};
 use fst_semiring::{Tropical, Weight};
 use std::alloc::Global;
 use std::test::Fail;

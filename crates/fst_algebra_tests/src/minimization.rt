@@ -2,7 +2,7 @@
 
 use fst_machine::Fst;
 use fst_minimize::{MinimizeFault, minimize};
-use fst_queue::Fifo;
+use fst_queue::{Fifo, StateQueue};
 use fst_samples::{is_text, machine};
 use fst_semiring::{MinMax, Tropical};
 use std::test::Fail;
@@ -43,7 +43,8 @@ fn states_that_do_the_same_are_one(rt: HostRuntime) -> Result<(), Fail> {
     let alloc = rt.alloc();
     for (text, wanted) in &MADE {
         let fst: Fst<Tropical> = machine(alloc, text)?;
-        match minimize(alloc, &fst, &mut Fifo::new(alloc)) {
+        let mut queue: Box<dyn StateQueue> = Box::new(alloc, Fifo::new(alloc))?;
+        match minimize(alloc, &fst, &mut queue) {
             Ok(made) => assert!(rt; is_text(alloc, &made, wanted)?, "{text:?}"),
             Err(_) => assert!(rt; false, "{text:?}"),
         }
@@ -60,7 +61,8 @@ fn no_value_is_divided_in_min_max(rt: HostRuntime) -> Result<(), Fail> {
         alloc,
         b"0 1 1 1 6\n0 2 2 2 6\n1 3 1 1 6\n1 3 2 2 5\n2 3 1 1 5\n2 3 2 2 5\n3 -Infinity\n",
     )?;
-    match minimize(alloc, &fst, &mut Fifo::new(alloc)) {
+    let mut queue: Box<dyn StateQueue> = Box::new(alloc, Fifo::new(alloc))?;
+    match minimize(alloc, &fst, &mut queue) {
         Ok(made) => assert!(rt; is_text(alloc, &made, MIN_MAX)?),
         Err(_) => assert!(rt; false),
     }
@@ -102,7 +104,8 @@ fn the_first_cause_is_told(rt: HostRuntime) -> Result<(), Fail> {
     let alloc = rt.alloc();
     for (text, wanted) in &FAULTS {
         let fst: Fst<Tropical> = machine(alloc, text)?;
-        match minimize(alloc, &fst, &mut Fifo::new(alloc)) {
+        let mut queue: Box<dyn StateQueue> = Box::new(alloc, Fifo::new(alloc))?;
+        match minimize(alloc, &fst, &mut queue) {
             Ok(_) => assert!(rt; false, "{text:?}"),
             Err(fault) => assert!(rt; told(&fault) == Some(*wanted), "{text:?}"),
         }

@@ -1,8 +1,8 @@
 //! Pushed machines beside what the plain programs compute, for each arc type.
 
+use fst_distance::{PushFault, push, push_wide};
 use fst_machine::{Fst, narrow_all};
 use fst_plain::distances_to_final;
-use fst_pushing::{PushFault, push, push_wide};
 use fst_queue::{BestFirst, Fifo, Lifo};
 use fst_samples::{ARCS, is_text, machine, machines, one, relation, says};
 use fst_semiring::{Boolean, Lexicographic, MinMax, Tropical, Weight};

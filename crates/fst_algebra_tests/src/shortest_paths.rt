@@ -2,10 +2,10 @@
 
 ghost use Rattle.std.specs.Prelude.{◌≡◌, ◌<◌, ◌≤◌};
 
+use fst_distance::push_wide;
 use fst_machine::{Fst, Path, Paths, Step, Steps, WideFst, narrow_all};
 use fst_nbest::{ChainsFault, NbestFault, chains, nbest, nbest_wide};
 use fst_plain::{PlainPath, successful_paths};
-use fst_pushing::push_wide;
 use fst_queue::Fifo;
 use fst_samples::machine;
 use fst_semiring::{Boolean, Lexicographic, MinMax, Tropical, Weight};

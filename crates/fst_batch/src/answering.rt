@@ -1,194 +1,111 @@
-//! What is answered of lines whose walks are over.
+//! The answer of a line whose walk is over.
 
-ghost use Rattle.std.specs.Prelude.{◌≡◌, ◌++◌, ◌<◌, ℕ, All, List, IfOk, IfSome, MatchOption, OnOk, length, map};
-ghost use Rattle.std.specs.List.{AllZip};
+ghost use Rattle.std.specs.Prelude.{◌≡◌, ◌<◌, ◌≤◌, IfErr, IfOk, OnOk, length, map};
+ghost use Rattle.fst_machine.specs.Cycles.{IsUseful};
+ghost use Rattle.fst_machine.specs.Graph.{graph_of};
+ghost use Rattle.fst_machine.specs.Machine.{most_states, valued};
+ghost use Rattle.fst_machine.specs.Steps.{written};
+ghost use Rattle.fst_search.specs.Distances.{IsListed, NoneImproves};
+ghost use Rattle.fst_nbest.specs.FirstPaths.{AreFirstPaths, IfImproving};
 ghost use Rattle.fst_delayed.specs.Caches.{IsTrueOf, keys};
 ghost use Rattle.fst_delayed.specs.Graphs.{delayed_graph};
-ghost use Rattle.fst_machine.specs.Machine.{Machine};
-ghost use Rattle.fst_batch.specs.Runs.{AreAnswerable, AreWalked, IsAnswerAt, all_lines, job_lines};
-ghost use Rattle.fst_batch.specs.Walks.{IsJob, IsOver};
-ghost use Rattle.fst_batch.specs.Phases.{AreEach};
+ghost use Rattle.fst_lattice.specs.Walks.{IsJob, IsOver};
+ghost use Rattle.fst_batch.specs.Answers.{IsAnswer};
+ghost use Rattle.fst_batch.specs.Building.{AnswersWhole, IsWhole};
+ghost use Rattle.fst_batch.specs.Filling.{AreSmall};
 
-use crate::job::Job;
-use crate::lines::Lines;
-use crate::threads::threads_for;
-use crate::worker::Worker;
-use fst_delayed::{Cache, Delayed, Meter};
+use crate::answer::LineAnswer;
+use crate::building::lattice_machine;
+use crate::fault::LineFault;
+use crate::listing::list_paths;
+use fst_delayed::{Cache, Composed};
+use fst_fields::List;
+use fst_lattice::{Job, Points, Stage};
+use fst_machine::{Paths, Steps, WideFst};
+use fst_nbest::{NbestFault, nbest_wide};
 use fst_semiring::Weight;
 use std::alloc::{AllocError, Global};
-use std::thread::{Threads, for_each_mut};
+use std::marker::Brand;
+use std::sync::ledger::{Blank, Ledger};
 
-/// What is answered of a line whose walk is over.
-pub trait Answering<W: Weight, M: Meter>: Sync {
-    /// An answer.
-    type Answer: Send + Drop;
-
-    /// The limit of the walks.
-    ghost limit: { Self → ℕ };
-
-    /// What is an answer of a line over two machines.
-    ghost answers: { Self → Machine W × Machine W → List ℕ → Self.Answer → Type 0 };
-
-    /// The answer of a line.
-    fn answer(
-        &self,
-        alloc: Global,
-        delayed: &Delayed<'_, W, M>,
-        line: &[u8],
-        cache: &Cache<W>,
-        job: &Job,
-    ) -> Result<Self::Answer, AllocError>
-        requires entries { IsTrueOf W.wide_value (delayed_graph W.KIND W.value delayed.now) cache.now }
-        requires job { IsJob W.KIND W.value delayed.now line.now (keys cache.now) job.now }
-        requires limit { job.now.limit ≡ limit self.now }
-        requires over { IsOver job.now }
-        ensures { IfOk result (answers self.now delayed.now line.now) };
+/// The best paths of a machine. Its steps are not counted.
+fn best_paths<W: Weight, L: Ledger>(
+    alloc: Global,
+    fst: &WideFst<W>,
+    n: u32,
+    blank: Blank,
+) -> Result<Paths, NbestFault>
+    requires some { 1 ≤ n }
+    requires few { n ≤ 100000 }
+    requires small { AreSmall (valued W.wide_value fst.now) }
+    requires name { blank.name ≡ L.name }
+    requires parts { blank.parts ≡ L.parts }
+    requires blank { 0 < blank.parts }
+    ensures first { IfOk result (λ paths. AreFirstPaths W.KIND (graph_of (valued W.wide_value fst.now)) n (map written paths)) }
+    ensures none { OnOk result (NoneImproves W.KIND (graph_of (valued W.wide_value fst.now)) (IsUseful (graph_of (valued W.wide_value fst.now)))) }
+    ensures cycle { IfErr result (λ f. IfImproving f (IsListed W.KIND (graph_of (valued W.wide_value fst.now)) (IsUseful (graph_of (valued W.wide_value fst.now))))) }
+{
+    let mut steps = Steps::<L>::new(blank);
+    nbest_wide(alloc, fst, n, &mut steps)
 }
 
-/// The answers of the lines of jobs, in order.
-fn answer_jobs<W: Weight, M: Meter, A: Answering<W, M>>(
+/// The answer of a line without a byte 0 whose lattice has these names, where they are not too many.
+fn answer_lattice<W: Weight, D: Composed<W>>(
     alloc: Global,
-    delayed: &Delayed<'_, W, M>,
-    lines: &Lines,
+    delayed: &D,
+    line: &[u8],
     cache: &Cache<W>,
-    answering: &A,
-    jobs: &[Job],
-) -> Result<Vec<A::Answer>, AllocError>
-    requires entries { IsTrueOf W.wide_value (delayed_graph W.KIND W.value delayed.now) cache.now }
-    requires walked { AreWalked W.KIND W.value W.wide_value delayed.now lines.now (A.limit answering.now) cache.now jobs.now }
-    ensures { IfOk result (λ answers. AllZip (IsAnswerAt (A.answers answering.now delayed.now) lines.now) (job_lines jobs.now) answers.items) }
+    points: &Points,
+    n: u32,
+) -> Result<LineAnswer<W>, AllocError>
+    requires some { 1 ≤ n }
+    requires few { n ≤ 100000 }
+    requires entries { IsTrueOf W.wide_value (delayed_graph W.KIND W.value (D.machines delayed.now)) cache.now }
+    requires whole { IsWhole W.KIND W.value (D.machines delayed.now) line.now (keys cache.now) points.now }
+    requires found { 0 < length points.now }
+    ensures { IfOk result (λ answer. AnswersWhole W.KIND W.value (D.machines delayed.now) n line.now points.now answer) }
 {
-    let mut answers = Vec::with_capacity(alloc, jobs.len())?;
-    for job in jobs {
-        let line = lines.line(job.index());
-        let answer = answering.answer(alloc, delayed, line, cache, job)?;
-        answers.push(answer)?;
-    }
-    Ok(answers)
-}
-
-/// Some jobs, and the answers of their lines, once they were made.
-#[derive(Drop)]
-struct Share<'a, X: Drop> {
-    jobs: &'a [Job],
-    answers: Option<Vec<X>>,
-}
-
-/// The jobs of workers, worker by worker, without answers.
-fn shares_of<'a, W: Weight, M: Meter, X: Drop>(
-    alloc: Global,
-    workers: &'a [Worker<W, M>],
-) -> Result<Vec<Share<'a, X>>, AllocError>
-    ensures { IfOk result (λ shares. map (λ s. s.jobs.now) shares.items ≡ map (λ w. w.jobs) workers.now) }
-{
-    let mut shares = Vec::with_capacity(alloc, workers.len())?;
-    for number in 0..workers.len() {
-        let worker = &workers[number];
-        shares.push(Share {
-            jobs: worker.jobs(),
-            answers: None,
-        })?;
-    }
-    Ok(shares)
-}
-
-/// What is read to answer lines.
-#[derive(Drop)]
-struct LineReader<'a, 'm, W: Weight, M: Meter, A> {
-    delayed: &'a Delayed<'m, W, M>,
-    lines: &'a Lines,
-    cache: &'a Cache<W>,
-    answering: &'a A,
-}
-
-/// The answers of the lines of jobs, in order.
-fn read_jobs<W: Weight, M: Meter, A: Answering<W, M>>(
-    alloc: Global,
-    reader: &LineReader<'_, '_, W, M, A>,
-    jobs: &[Job],
-) -> Result<Vec<A::Answer>, AllocError>
-    requires entries { IsTrueOf W.wide_value (delayed_graph W.KIND W.value reader.now.delayed.now) reader.now.cache.now }
-    requires walked { AreWalked W.KIND W.value W.wide_value reader.now.delayed.now reader.now.lines.now (A.limit reader.now.answering.now) reader.now.cache.now jobs.now }
-    ensures { IfOk result (λ answers. AllZip (IsAnswerAt (A.answers reader.now.answering.now reader.now.delayed.now) reader.now.lines.now) (job_lines jobs.now) answers.items) }
-{
-    answer_jobs(
-        alloc,
-        reader.delayed,
-        reader.lines,
-        reader.cache,
-        reader.answering,
-        jobs,
-    )
-}
-
-/// Answers the lines of each share of jobs, beside those of the others.
-fn answer_shares<R: Threads + Sync, W: Weight + Send + Sync, M: Meter, A: Answering<W, M>>(
-    rt: &R,
-    alloc: Global,
-    reader: &LineReader<'_, '_, W, M, A>,
-    shares: &mut [Share<'_, A::Answer>],
-)
-where
-    W::Wide: Send + Sync,
-    requires some { 0 < length shares.old }
-    requires entries { IsTrueOf W.wide_value (delayed_graph W.KIND W.value reader.now.delayed.now) reader.now.cache.now }
-    requires walked { All (λ share. AreWalked W.KIND W.value W.wide_value reader.now.delayed.now reader.now.lines.now (A.limit reader.now.answering.now) reader.now.cache.now share.jobs.now) shares.old }
-    ensures { AreEach (λ share now. IfSome now.answers (λ answers. AllZip (IsAnswerAt (A.answers reader.now.answering.now reader.now.delayed.now) reader.now.lines.now) (job_lines share.jobs.now) answers.items)) shares.old shares.new }
-{
-    let threads = threads_for(rt, shares.len());
-    for_each_mut(
-        rt,
-        shares,
-        threads,
-        &|_number: usize, share: &mut Share<A::Answer>|
-            requires entries { IsTrueOf W.wide_value (delayed_graph W.KIND W.value reader.now.delayed.now) reader.now.cache.now }
-            requires walked { AreWalked W.KIND W.value W.wide_value reader.now.delayed.now reader.now.lines.now (A.limit reader.now.answering.now) reader.now.cache.now share.now.jobs.now }
-            ensures answers { IfSome share.exit.now.answers (λ answers. AllZip (IsAnswerAt (A.answers reader.entry.now.answering.now reader.entry.now.delayed.now) reader.entry.now.lines.now) (job_lines share.entry.now.jobs.now) answers.items) }
-        {
-            share.answers = read_jobs(alloc, reader, share.jobs).ok();
-        },
-    );
-}
-
-/// Puts the answers of a share after the others.
-fn put_share<X: Drop>(share: Share<'_, X>, answers: &mut Vec<X>) -> Result<(), AllocError>
-    ensures { OnOk result (MatchOption share.entry.answers ⊥ (λ more. answers.new.items ≡ answers.old.items ++ more.items)) }
-{
-    let Some(mut more) = share.answers else {
-        return Err(AllocError);
+    let Some(fst) = lattice_machine(alloc, delayed, line, cache, points)? else {
+        return Ok(LineAnswer::Refused(LineFault::TooManyArcs));
     };
-    answers.append(&mut more)?;
-    Ok(())
+    match best_paths::<W, Brand>(alloc, &fst, n, Blank::new(1)) {
+        Ok(paths) => list_paths(alloc, &fst, 0, &paths),
+        Err(NbestFault::ImprovingCycle { cycle: _ }) => {
+            Ok(LineAnswer::Refused(LineFault::ImprovingCycle))
+        }
+        Err(NbestFault::Memory) => Err(AllocError),
+    }
 }
 
-/// Puts the answers of the lines of all workers' jobs after the others, worker by worker. Each worker's are made beside those
-/// of the others.
-pub(crate) fn answer_all<R: Threads + Sync, W: Weight + Send + Sync, M: Meter, A: Answering<W, M>>(
-    rt: &R,
+/// The answer of a line whose walk is over: the first fault that stands against it, or its `n` best paths with their weights and
+/// texts. The cache has the arcs of all names that the walk has taken.
+pub fn answer_line<W: Weight, D: Composed<W>>(
     alloc: Global,
-    delayed: &Delayed<'_, W, M>,
-    lines: &Lines,
+    delayed: &D,
+    line: &[u8],
     cache: &Cache<W>,
-    answering: &A,
-    workers: &[Worker<W, M>],
-    answers: &mut Vec<A::Answer>,
-) -> Result<(), AllocError>
-where
-    W::Wide: Send + Sync,
-    requires some { 0 < length workers.now }
-    requires ready { AreAnswerable W.KIND W.value W.wide_value delayed.now lines.now (A.limit answering.now) cache.now workers.now }
-    ensures { OnOk result ((more : List A.Answer) × (answers.new.items ≡ answers.old.items ++ more) × AllZip (IsAnswerAt (A.answers answering.now delayed.now) lines.now) (all_lines workers.now) more) }
+    job: &Job,
+    n: u32,
+) -> Result<LineAnswer<W>, AllocError>
+    requires some { 1 ≤ n }
+    requires few { n ≤ 100000 }
+    requires entries { IsTrueOf W.wide_value (delayed_graph W.KIND W.value (D.machines delayed.now)) cache.now }
+    requires job { IsJob W.KIND W.value (D.machines delayed.now) line.now (keys cache.now) job.now }
+    requires limit { job.now.limit ≤ most_states }
+    requires over { IsOver job.now }
+    ensures { IfOk result (IsAnswer W.KIND (delayed_graph W.KIND W.value (D.machines delayed.now)) n job.now.limit line.now W.value) }
 {
-    let mut shares = shares_of(alloc, workers)?;
-    let reader = LineReader {
-        delayed,
-        lines,
-        cache,
-        answering,
-    };
-    answer_shares(rt, alloc, &reader, shares.as_mut_slice());
-    for share in shares {
-        put_share(share, answers)?;
+    match job.stage() {
+        Stage::Bad => return Ok(LineAnswer::Refused(LineFault::BadByte)),
+        Stage::Stopped => {
+            let limit = job.limit();
+            return Ok(LineAnswer::Refused(LineFault::StateLimit { limit }));
+        }
+        Stage::Going => {}
     }
-    Ok(())
+    let points = job.points();
+    if points.len() == 0 {
+        return Ok(LineAnswer::Listed(List::new(alloc)));
+    }
+    answer_lattice(alloc, delayed, line, cache, points, n)
 }

@@ -1,39 +1,27 @@
-//! Batches: each line of a text is read by a composition of two machines, whose states are expanded once for all lines.
+//! The answer of a line of a batch.
 //!
-//! The lattice of a line is the graph of what a machine may do while it reads the line; its successful paths are, one to
-//! one, the paths of the machine that read the line. `specs/Lattice.antt` has it, over graphs with any kind of name,
-//! and `laws` asks for that theorem. `Lines` is the lines of a text, and `make_cascade` makes two machines and lines from
-//! a number.
+//! The answer of a line is told of the n best paths of its lattice, or it is the first fault that stands against the line.
+//! `specs/Answers.antt` has it, over graphs with any kind of name. `answer_line` gives the answer of a line whose walk is
+//! over, and `put_answer_lines` writes an answer. The walk itself is that of `fst_lattice`, handed on.
 #![tactic(auto)]
 
+mod answer;
 mod answering;
-mod batching;
-mod cascade;
-mod dealing;
-mod drawing;
-mod ending;
-mod following;
-mod gate;
-mod hiring;
-mod job;
+mod batch;
+mod building;
+mod fault;
+mod filling;
 pub mod laws;
-mod lines;
-mod phasing;
-mod points;
-mod serving;
-mod stage;
-mod state;
-mod threads;
-mod worker;
+mod listing;
+mod numbering;
+mod telling;
 
-pub use answering::Answering;
-pub use batching::{BatchReport, run_lines};
-pub use cascade::{Cascade, make_cascade};
-pub use gate::{Gate, OpenGate};
-pub use job::Job;
-pub use lines::Lines;
-pub use phasing::{PhaseReport, phase};
-pub use points::Points;
-pub use stage::Stage;
-pub use state::JobState;
-pub use worker::Worker;
+pub use answer::{Answer, Answers, LineAnswer};
+pub use answering::answer_line;
+pub use batch::{BatchOptions, run_batch};
+pub use fault::LineFault;
+pub use fst_lattice::{
+    BatchReport, Cascade, Gate, Job, JobState, Lines, OpenGate, PhaseReport, Worker, make_cascade,
+    phase,
+};
+pub use telling::{put_answer_lines, put_number};

@@ -1,6 +1,6 @@
 //! What the generator draws first, from seed 1.
 
-use fst_batch::make_cascade;
+use fst_lattice::make_cascade;
 use fst_semiring::Weight;
 use std::test::Fail;
 

@@ -4,6 +4,10 @@
 //! `specs/Spelling.antt` says how a field is written, and `specs/Reading.antt` what is read at an offset: a value and
 //! the offset after it, or the first fault. The kinds of fault of a form are its own; a reader here takes those that
 //! it may answer. What is read is what stands there, and what stands there is read: `proofs`.
+//!
+//! No wrong body is tried in this crate, since it promises nothing to a user. With weaker contracts here these could not be
+//! proved: `decode` of `fst_binary` and `read_codex` of `fst_codex`, which answer exactly the first fault of their bytes, and
+//! `encode`, whose bytes are the one spelling.
 #![tactic(auto)]
 
 mod appending;

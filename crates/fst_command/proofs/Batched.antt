@@ -6,19 +6,19 @@ use Rattle.fst_semiring.specs.Cost.{Cost}
 use Rattle.fst_semiring.specs.declared.arc_type.ArcType.{ArcType}
 use Rattle.fst_machine.specs.Graph.{Graph, graph_of}
 use Rattle.fst_machine.specs.Machine.{Machine, valued}
-use Rattle.fst_answer.specs.Answers.{IsAnswer}
-use Rattle.fst_answer.specs.AnswerText.{answer_text, path_line}
-use Rattle.fst_answer.specs.BestPaths.{IsListed, Told, valued_told}
-use Rattle.fst_answer.specs.declared.answer.LineAnswer.{LineAnswer}
-use Rattle.fst_answer.specs.declared.answer.LineAnswer.TheVariants.{Listed, Refused}
-use Rattle.fst_batch.specs.Lattice.{lattice}
+use Rattle.fst_batch.specs.Answers.{IsAnswer}
+use Rattle.fst_batch.specs.AnswerText.{answer_text, path_line}
+use Rattle.fst_batch.specs.BestPaths.{IsListed, Told, valued_told}
+use Rattle.fst_batch.specs.declared.answer.LineAnswer.{LineAnswer}
+use Rattle.fst_batch.specs.declared.answer.LineAnswer.TheVariants.{Listed, Refused}
+use Rattle.fst_lattice.specs.Lattice.{lattice}
 use Rattle.fst_compose.specs.Answers.{IsSorted}
 use Rattle.fst_compose.specs.Composition.{composed, composition}
 use Rattle.fst_compose.specs.Faults.{compose_text}
 use Rattle.fst_compose.specs.declared.fault.ComposeFault.TheVariants.{NotSorted}
 use Rattle.fst_trim.specs.declared.side.Side.TheVariants.{Input, Output}
 use Rattle.fst_trim.proofs.Valued.{IsSortedOn-valued}
-use Rattle.fst_batch.specs.Expansions.{IsExpansions}
+use Rattle.fst_lattice.specs.Expansions.{IsExpansions}
 use Rattle.fst_words.specs.declared.options.Options.{Options}
 use Rattle.fst_command.specs.Batching.{AreAnswered, IsBatch, batch_text, lines_from, valued_answer}
 use Rattle.fst_command.specs.Causes.{faulty, refused, unmade}

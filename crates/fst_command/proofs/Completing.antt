@@ -5,7 +5,8 @@ use Rattle.fst_desk.specs.Seen.{Files, Seen}
 use Rattle.fst_words.specs.declared.plan.Plan.{Plan}
 use Rattle.fst_words.specs.Inputs.{Input, plan_inputs}
 use Rattle.fst_command.specs.Causes.{Cause, Answer, done, usage, refused, no_memory, unread, unwritten, status_of}
-use Rattle.fst_command.specs.Outcome.{Agrees, Answers, Completes, IsCause, Refuses, Runs}
+use Rattle.fst_command.specs.Meaning.{Made, ending_of}
+use Rattle.fst_command.specs.Outcome.{Agrees, Answers, Completes, IsCause, Makes, Refuses, Runs}
 
 -- told contents are one list
 same_contents : (files : Files) (is : List Input) (cs ds : List (List ℕ)) → Agrees (Some files) is cs → Agrees (Some files) is ds → cs ≡ ds
@@ -31,8 +32,9 @@ completes words old new status runs plan files contents planned told agrees pass
           let e : length old.filed.missed ≡ length (old.filed.missed ++ name ∷ []) = ap length (sym missed ∙ grew) in
           omega (arith, length-append old.filed.missed (name ∷ []))
 
-      go : (answer : Answer) → status ≡ status_of answer → Answers (Some plan) old.filed new.filed answer → (status ≡ 0) ⊎ (status ≡ 3)
-      go done is answers = inl is
+      go : (answer : Answer) → status ≡ status_of answer → Answers (Some plan) old.filed new.filed answer
+          → ((made : Made) × Makes plan (Some files) made × (status ≡ ending_of made)) ⊎ (status ≡ 3)
+      go (done s) is answers = inl (answers.1.made, subst (λ (t : Option Files). Makes plan t answers.1.made) told answers.1.makes, is ∙ answers.2)
       go usage is answers = absurd answers
       go (refused cause) is answers = absurd (refuted cause answers.0)
       go no_memory is answers = inr is

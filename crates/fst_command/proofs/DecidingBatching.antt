@@ -7,10 +7,10 @@ use Rattle.fst_machine.specs.Graph.{Graph, graph_of}
 use Rattle.fst_machine.specs.Machine.{Machine}
 use Rattle.fst_machine.proofs.Elements.{Apart_within}
 use Rattle.fst_compose.specs.Composition.{composed}
-use Rattle.fst_batch.specs.Expansions.{IsExpansions}
-use Rattle.fst_answer.specs.Answers.{IsAnswer}
-use Rattle.fst_answer.specs.declared.answer.LineAnswer.{LineAnswer}
-use Rattle.fst_answer.proofs.OneAnswer.{one_answer}
+use Rattle.fst_lattice.specs.Expansions.{IsExpansions}
+use Rattle.fst_batch.specs.Answers.{IsAnswer}
+use Rattle.fst_batch.specs.declared.answer.LineAnswer.{LineAnswer}
+use Rattle.fst_batch.proofs.OneAnswer.{one_answer}
 use Rattle.fst_words.specs.declared.options.Options.{Options}
 use Rattle.fst_command.specs.Batching.{AreAnswered, IsBatch, batch_text}
 use Rattle.fst_command.specs.Composing.{state_limit}

@@ -12,7 +12,7 @@ use Rattle.fst_machine.specs.declared.path.Step.{Step}
 use Rattle.fst_machine.specs.Paths.{places}
 use Rattle.fst_machine.specs.PathOrder.{WeightedPath}
 use Rattle.fst_machine.proofs.PathOrder.{one_IsFirst}
-use Rattle.fst_distance.specs.Distances.{NoneImproves}
+use Rattle.fst_search.specs.Distances.{NoneImproves}
 use Rattle.fst_nbest.specs.Chains.{IsChained, arcs_written, chain_of, chained}
 use Rattle.fst_nbest.specs.FirstPaths.{AreFirstPaths, IfImproving}
 use Rattle.fst_nbest.specs.Listing.{IsWritten}

@@ -5,11 +5,11 @@ use Rattle.fst_semiring.specs.Cost.{Cost}
 use Rattle.fst_machine.specs.Cycles.{IsUseful}
 use Rattle.fst_machine.specs.Graph.{graph_of}
 use Rattle.fst_machine.specs.Machine.{Machine}
-use Rattle.fst_distance.specs.Distances.{NoneImproves}
-use Rattle.fst_pushing.specs.Totals.{IsPushFault, IsTotalled, IsWithin, push_text}
-use Rattle.fst_pushing.specs.declared.fault.PushFault.{PushFault}
-use Rattle.fst_pushing.specs.declared.fault.PushFault.TheVariants.{Memory}
-use Rattle.fst_pushing.proofs.OneAnswer.{no_fault, one_fault, one_totalled}
+use Rattle.fst_search.specs.Distances.{NoneImproves}
+use Rattle.fst_distance.specs.Totals.{IsPushFault, IsTotalled, IsWithin, push_text}
+use Rattle.fst_distance.specs.declared.fault.PushFault.{PushFault}
+use Rattle.fst_distance.specs.declared.fault.PushFault.TheVariants.{Memory}
+use Rattle.fst_distance.proofs.OneAnswer.{no_fault, one_fault, one_totalled}
 use Rattle.fst_command.specs.Causes.{faulty, refused, unmade}
 use Rattle.fst_command.specs.Meaning.{Declines, Passes, Stops}
 use Rattle.fst_command.specs.OneOutcome.{One}

@@ -6,8 +6,8 @@ use Rattle.fst_machine.specs.Machine.{Arc, Machine, State}
 use Rattle.fst_trim.specs.declared.side.Side.TheVariants.{Input}
 use Rattle.fst_trim.specs.Sides.{IsSortedOn, StandsBy}
 use Rattle.fst_compose.specs.Answers.{IsSorted}
-use Rattle.fst_batch.specs.Cascade.{behind_first, drawn_lines, letters, second_arcs, second_machine, second_size, second_states}
-use Rattle.fst_batch.specs.Draws.{after, drawn, skip}
+use Rattle.fst_lattice.specs.Cascade.{behind_first, drawn_lines, letters, second_arcs, second_machine, second_size, second_states}
+use Rattle.fst_lattice.specs.Draws.{after, drawn, skip}
 
 pub drawn_count : (x n : ℕ) → length (drawn_lines x n) ≡ n
 unfolding drawn_lines

@@ -21,7 +21,7 @@ use Rattle.fst_command.specs.Commands.{meaning_by}
 use Rattle.fst_command.specs.Composing.{state_limit}
 use Rattle.fst_command.specs.Given.{Given, Held, choices_by}
 use Rattle.fst_command.specs.Listing.{path_count}
-use Rattle.fst_command.specs.Meaning.{Made, Meaning, bytes_of}
+use Rattle.fst_command.specs.Meaning.{Made, Meaning, Product, bytes_of}
 use Rattle.fst_command.specs.Measuring.{direction_of}
 use Rattle.fst_command.specs.OneOutcome.{HasOneOutcome, One}
 use Rattle.fst_command.specs.Steps.{IsWorked}
@@ -126,6 +126,6 @@ pub one_meaning : (verb : Verb) (labels : List ℕ) (o : Options) (given : Given
 one_meaning verb labels o given = record { stopped = (lawful verb labels o given).stopped; made = (lawful verb labels o given).makes.one }
 
 -- the bytes of a command are as many as its outputs
-pub stored_fits : (plan : Plan) (held : Held) (bytes : List (List ℕ)) → IsWhole plan → IsWorked plan held bytes → length (outputs_of plan) ≡ length bytes
-stored_fits plan held bytes whole w =
+pub stored_fits : (plan : Plan) (held : Held) (product : Product) → IsWhole plan → IsWorked plan held product → length (outputs_of plan) ≡ length product.bytes
+stored_fits plan held product whole w =
     stored_all plan whole ∙ sym ((lawful plan.command _ plan.options w.given).makes.count w.made w.makes) ∙ ap length (sym w.spells)

@@ -11,10 +11,10 @@ use Rattle.fst_semiring.specs.declared.arc_type.ArcType.TheVariants.{Tropical}
 use Rattle.fst_machine.specs.Machine.{Machine, valued}
 use Rattle.fst_trim.proofs.Valued.{valued_costs}
 use Rattle.fst_compose.specs.Composition.{composition}
-use Rattle.fst_batch.specs.Cascade.{behind_second, drawn_lines, first_machine, second_machine}
-use Rattle.fst_batch.specs.Expansions.{IsExpansions}
-use Rattle.fst_answer.specs.Answers.{IsAnswer}
-use Rattle.fst_answer.specs.declared.answer.LineAnswer.{LineAnswer}
+use Rattle.fst_lattice.specs.Cascade.{behind_second, drawn_lines, first_machine, second_machine}
+use Rattle.fst_lattice.specs.Expansions.{IsExpansions}
+use Rattle.fst_batch.specs.Answers.{IsAnswer}
+use Rattle.fst_batch.specs.declared.answer.LineAnswer.{LineAnswer}
 use Rattle.fst_words.specs.declared.options.Options.{Options}
 use Rattle.fst_command.specs.Batching.{AreAnswered}
 use Rattle.fst_command.specs.Composing.{state_limit}

@@ -14,11 +14,11 @@ use Rattle.fst_machine.specs.Machine.{Machine}
 use Rattle.fst_machine.proofs.OneMachine.{one_list}
 use Rattle.fst_machine.proofs.Weights.{one_least}
 use Rattle.fst_machine.specs.declared.path.Step.{Step}
-use Rattle.fst_distance.specs.Distances.{Counts, IfImproving, IsDistanceTo, IsStartDistance, NoneImproves}
-use Rattle.fst_distance.specs.declared.fault.DistanceFault.{DistanceFault}
-use Rattle.fst_distance.specs.declared.fault.DistanceFault.TheVariants as faults
-use Rattle.fst_distance.specs.declared.direction.Direction.{Direction}
-use Rattle.fst_distance.specs.declared.direction.Direction.TheVariants.{FromStart, ToFinals}
+use Rattle.fst_search.specs.Distances.{Counts, IfImproving, IsDistanceTo, IsStartDistance, NoneImproves}
+use Rattle.fst_search.specs.declared.fault.DistanceFault.{DistanceFault}
+use Rattle.fst_search.specs.declared.fault.DistanceFault.TheVariants as faults
+use Rattle.fst_search.specs.declared.direction.Direction.{Direction}
+use Rattle.fst_search.specs.declared.direction.Direction.TheVariants.{FromStart, ToFinals}
 use Rattle.fst_machine.proofs.BreadthFirst.{at_take}
 use Rattle.fst_machine.proofs.Arcs.{at_mapped, mapped_at}
 use Rattle.fst_machine.proofs.Elements.{Apart_within}

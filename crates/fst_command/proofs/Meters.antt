@@ -7,7 +7,7 @@ use Rattle.fst_words.specs.Inputs.{expands, plan_inputs}
 use Rattle.fst_command.specs.Causes.{Answer, done, no_memory, refused, unread, unwritten, usage}
 use Rattle.fst_command.specs.Commands.{meaning_for}
 use Rattle.fst_command.specs.Given.{Given, Held, given_at, kind_of}
-use Rattle.fst_command.specs.Meaning.{Made, Settles, bytes_of}
+use Rattle.fst_command.specs.Meaning.{Made, Product, Settles, bytes_of, ending_of}
 use Rattle.fst_command.specs.Metering.{Metered, Raises}
 use Rattle.fst_command.specs.Outcome.{MetersBy, MetersPlan}
 use Rattle.fst_command.specs.Steps.{MetersEnd, MetersWords, MetersWorkBy, Progress}
@@ -20,12 +20,12 @@ pub raises_nothing : (plan : Plan) (before : Metered) (result : Result Made Refu
 raises_nothing plan before result none = subst (λ (b : Bool). Raises b before before result) (sym none) refl
 
 -- what is made raised it, and so did the work
-pub work_raised : (b : Bool) (plan : Plan) (held : Held) (kind : ArcType) (given : Given) (made : Made) (bytes : List (List ℕ)) (before after : Metered)
-    → kind_of plan.options held.machines ≡ kind → given_at kind held ≡ Ok given → Settles (meaning_for plan) given (Ok made) → bytes ≡ bytes_of made
-    → Raises b before after (Ok made) → MetersWorkBy b plan held before after (Ok bytes)
-work_raised false plan held kind given made bytes before after e reads settles spells raises = raises
-work_raised true plan held kind given made bytes before after e reads settles spells raises =
-    (record { given = given; reads = ap (λ k. given_at k held) e ∙ reads; passes = settles.0; made = made; makes = settles.1; spells = spells }, raises)
+pub work_raised : (b : Bool) (plan : Plan) (held : Held) (kind : ArcType) (given : Given) (made : Made) (product : Product) (before after : Metered)
+    → kind_of plan.options held.machines ≡ kind → given_at kind held ≡ Ok given → Settles (meaning_for plan) given (Ok made) → product.bytes ≡ bytes_of made → product.status ≡ ending_of made
+    → Raises b before after (Ok made) → MetersWorkBy b plan held before after (Ok product)
+work_raised false plan held kind given made product before after e reads settles spells ends raises = raises
+work_raised true plan held kind given made product before after e reads settles spells ends raises =
+    (record { given = given; reads = ap (λ k. given_at k held) e ∙ reads; passes = settles.0; made = made; makes = settles.1; spells = spells; ends = ends }, raises)
 
 -- a refusal of the work
 pub work_refused : (b : Bool) (plan : Plan) (held : Held) (refusal other : Refusal) (before after : Metered) → Raises b before after (Err refusal) → MetersWorkBy b plan held before after (Err other)
@@ -52,15 +52,15 @@ pub end_refused : (b : Bool) (plan : Plan) (held : Held) (told : Option Files) (
 end_refused false plan held told refusal other before after work = work
 end_refused true plan held told refusal other before after work = tt
 
-pub end_stored : (b : Bool) (plan : Plan) (held : Held) (bytes : List (List ℕ)) (old now : Seen) (result : Result (Unit {0}) Refusal) (before after : Metered)
-    → Progress plan (plan_inputs plan) held old now → MetersWorkBy b plan held before after (Ok bytes) → MetersEnd b plan old.filed.told before after result
-end_stored false plan held bytes old now result before after p work = work
-end_stored true plan held bytes old now (Ok u) before after p (w, e) = (w.made, makes-ready plan held bytes old now p w, e)
-end_stored true plan held bytes old now (Err refusal) before after p work = tt
+pub end_stored : (b : Bool) (plan : Plan) (held : Held) (product : Product) (old now : Seen) (result : Result ℕ Refusal) (before after : Metered)
+    → Progress plan (plan_inputs plan) held old now → MetersWorkBy b plan held before after (Ok product) → MetersEnd b plan old.filed.told before after result
+end_stored false plan held product old now result before after p work = work
+end_stored true plan held product old now (Ok status) before after p (w, e) = (w.made, makes-ready plan held product old now p w, e)
+end_stored true plan held product old now (Err refusal) before after p work = tt
 
 -- a refusal has no status of Ok
 pub no_success : (answer : Answer) (refusal : Refusal) → Tells answer refusal → told_status refusal ≡ 0 → ⊥
-no_success done refusal tells zero = let none = tells.line in absurd cc
+no_success (done status) refusal tells zero = let none = tells.line in absurd cc
 no_success usage refusal tells zero = let one = tells.status in absurd cc
 no_success (refused cause) refusal tells zero = let one = tells.status in absurd cc
 no_success no_memory refusal tells zero = let three = tells.status in absurd cc
@@ -68,11 +68,11 @@ no_success (unread name) refusal tells zero = let four = tells.status in absurd 
 no_success (unwritten name) refusal tells zero = let five = tells.status in absurd cc
 
 -- from the end of the command to the run
-pub run_ended : (plan : Option Plan) (told : Option Files) (u : Unit {0}) (before after : Metered) → MetersWords plan told before after (Ok u) → MetersPlan plan told before after 0
-run_ended None told u before after meters = meters
-run_ended (Some plan) told u before after meters = by (expands plan) meters
+pub run_ended : (plan : Option Plan) (told : Option Files) (status : ℕ) (before after : Metered) → MetersWords plan told before after (Ok status) → MetersPlan plan told before after status
+run_ended None told status before after meters = meters
+run_ended (Some plan) told status before after meters = by (expands plan) meters
   where
-    by : (b : Bool) → MetersEnd b plan told before after (Ok u) → MetersBy b plan told before after 0
+    by : (b : Bool) → MetersEnd b plan told before after (Ok status) → MetersBy b plan told before after status
     by false same = same
     by true made = λ e. made
 

@@ -9,7 +9,7 @@ use Rattle.fst_machine.specs.Narrowing.{IsFirstPast, IsInRange}
 use Rattle.fst_machine.proofs.Narrowing.{all_at}
 use Rattle.fst_trim.specs.FirstArcs as arcs
 use Rattle.fst_trim.proofs.Valued.{repeats-valued, two_labels-valued}
-use Rattle.fst_distance.specs.Distances.{NoneImproves}
+use Rattle.fst_search.specs.Distances.{NoneImproves}
 use Rattle.fst_minimize.specs.Minimized.{IsMinimizeFault, IsMinimized}
 use Rattle.fst_minimize.specs.declared.fault.MinimizeFault.{MinimizeFault}
 use Rattle.fst_minimize.specs.declared.fault.MinimizeFault.TheVariants.{NotAcceptor, NotDeterministic, ImprovingCycle, Overflow, Memory}

@@ -7,8 +7,8 @@ use Rattle.fst_words.specs.Plans.{outputs_of, rule_labels}
 use Rattle.fst_command.specs.Causes.{Cause, Fault, faulty}
 use Rattle.fst_command.specs.Commands.{meaning_for}
 use Rattle.fst_command.specs.Given.{Given, given_of}
-use Rattle.fst_command.specs.Meaning.{Made, bytes_of}
-use Rattle.fst_command.specs.OneOutcome.{HasOneOutcome, One, OneOutcome}
+use Rattle.fst_command.specs.Meaning.{Made, bytes_of, ending_of}
+use Rattle.fst_command.specs.OneOutcome.{EndsWith, HasOneOutcome, One, OneOutcome}
 use Rattle.fst_command.specs.Outcome.{Agrees, AreNamed, IsCause, Makes, Output, Prescribes, Refuses}
 use Rattle.fst_command.proofs.Deciding.{one_error, one_value}
 use Rattle.fst_command.proofs.Lawful.{one_meaning}
@@ -34,13 +34,18 @@ module _ (plan : Plan) (files : Files) where
   one_stop : (given : Given) → HasOneOutcome (meaning_for plan) given
   one_stop given = one_meaning plan.command (rule_labels plan) plan.options given
 
-  same_given : (a b : List Output) (one : Prescribes plan (Some files) a) (two : Prescribes plan (Some files) b) → one.makes.given ≡ two.makes.given
-  same_given a b one two = one_value (given_of plan two.makes.contents) one.makes.given two.makes.given (sym (one_given one.makes.contents two.makes.contents one.makes.agrees two.makes.agrees) ∙ one.makes.reads) two.makes.reads
+  same_given : (a b : Made) (one : Makes plan (Some files) a) (two : Makes plan (Some files) b) → one.given ≡ two.given
+  same_given a b one two = one_value (given_of plan two.contents) one.given two.given (sym (one_given one.contents two.contents one.agrees two.agrees) ∙ one.reads) two.reads
+
+  one_making : One (Makes plan (Some files))
+  one_making a b one two = (one_stop two.given).made a b (subst (λ (g : Given). (meaning_for plan).makes g a) (same_given a b one two) one.is) two.is
+
+  one_status : One (EndsWith plan (Some files))
+  one_status x y one two = one.2 ∙ (ap ending_of (one_making one.0 two.0 one.1 two.1) ∙ sym two.2)
 
   one_list_of_outputs : One (Prescribes plan (Some files))
   one_list_of_outputs a b one two =
-      let given = same_given a b one two in
-      let made : one.made ≡ two.made = (one_stop two.makes.given).made one.made two.made (subst (λ (g : Given). (meaning_for plan).makes g one.made) given one.makes.is) two.makes.is in
+      let made : one.made ≡ two.made = one_making one.made two.made one.makes two.makes in
       one_naming (outputs_of plan) (bytes_of two.made) a b (subst (λ (m : Made). AreNamed (outputs_of plan) (bytes_of m) a) made one.named) two.named
 
   one_fault : (contents : List (List ℕ)) → One (IsCause plan contents)
@@ -73,4 +78,4 @@ module _ (plan : Plan) (files : Files) where
       by read e (inr stops) = does.passes stops.2 (subst (λ (g : Given). (meaning_for plan).stops g stops.2) (one_value read stops.0 does.given stops.1 e) stops.3)
 
 pub one_outcome : (plan : Plan) (files : Files) → OneOutcome plan files
-one_outcome plan files = record { outputs = one_list_of_outputs plan files; cause = one_refused plan files; apart = never_both plan files }
+one_outcome plan files = record { outputs = one_list_of_outputs plan files; status = one_status plan files; cause = one_refused plan files; apart = never_both plan files }

@@ -1,4 +1,4 @@
--- A command that ended with a refusal, and the line that was then shown, are a run.
+-- A command that ended with outputs is a run; so is one that ended with a refusal, with the line that was then shown.
 use Rattle.std.proofs.Common.{◌≡◌, ◌⊎◌, ℕ, List, [], Option, Some, None, Result, Ok, Err, refl, sym, ap, ◌∙◌, subst, inl, inr}
 use Rattle.std.proofs.lemmas.List.{append-nil}
 use Rattle.fst_desk.specs.Seen.{Filed, Showing, Seen}
@@ -6,6 +6,7 @@ use Rattle.fst_desk.specs.Desk.{ToldAppends, ShowAnswer, DeskShows}
 use Rattle.fst_desk.specs.declared.edge.StoreFault.{StoreFault}
 use Rattle.fst_desk.specs.declared.edge.StoreFault.TheVariants as storing
 use Rattle.fst_command.specs.declared.refusal.Refusal.{Refusal}
+use Rattle.fst_command.specs.Causes.{Answer, line_of, status_of}
 use Rattle.fst_words.specs.Plans.{plan_of}
 use Rattle.fst_command.specs.Outcome.{Answers, ShowsFront, ShowsLine, Runs}
 use Rattle.fst_command.specs.Told.{told_line, told_status}
@@ -27,6 +28,14 @@ shows line old new (Err storing.Memory) h = inr (record {
   splits = refl;
   shown = appends_nothing old.shown new.shown h.shown;
 })
+
+pub runs-done : (words : List (List ℕ)) (old new : Seen) (status : ℕ) → Works (plan_of words) old new (Ok status) → Runs words old new status
+runs-done words old new status w = record {
+  answer = w.answer;
+  status_is = sym (ap (λ (a : Answer). status_of a) w.ends);
+  answers = w.answers;
+  shows = subst (λ (a : Answer). ShowsLine (line_of a) old.showing new.showing) (sym w.ends) w.showing;
+}
 
 pub runs-refused : (words : List (List ℕ)) (old mid new : Seen) (refusal : Refusal) (line : List ℕ) (shown : Result (Unit {0}) StoreFault) (status : ℕ) → Works (plan_of words) old mid (Err refusal) → line ≡ told_line refusal → DeskShows line mid new shown → status ≡ told_status refusal → Runs words old new status
 runs-refused words old mid new refusal line shown status w e s t = record {

@@ -12,12 +12,12 @@ use Rattle.fst_compose.specs.Answers.{IsSorted}
 use Rattle.fst_compose.specs.Composition.{composed}
 use Rattle.fst_compose.specs.Faults.{compose_text}
 use Rattle.fst_compose.specs.declared.fault.ComposeFault.TheVariants.{NotSorted}
-use Rattle.fst_batch.specs.Expansions.{IsExpansions}
-use Rattle.fst_answer.specs.Answers.{IsAnswer}
-use Rattle.fst_answer.specs.AnswerText.{answer_text}
-use Rattle.fst_answer.specs.BestPaths.{valued_told}
-use Rattle.fst_answer.specs.declared.answer.LineAnswer.{LineAnswer}
-use Rattle.fst_answer.specs.declared.answer.LineAnswer.TheVariants.{Listed, Refused}
+use Rattle.fst_lattice.specs.Expansions.{IsExpansions}
+use Rattle.fst_batch.specs.Answers.{IsAnswer}
+use Rattle.fst_batch.specs.AnswerText.{answer_text}
+use Rattle.fst_batch.specs.BestPaths.{valued_told}
+use Rattle.fst_batch.specs.declared.answer.LineAnswer.{LineAnswer}
+use Rattle.fst_batch.specs.declared.answer.LineAnswer.TheVariants.{Listed, Refused}
 use Rattle.fst_words.specs.declared.options.Options.{Options}
 use Rattle.fst_command.specs.Causes.{unmade}
 use Rattle.fst_command.specs.Composing.{state_limit}

@@ -24,8 +24,8 @@ pub data Cause : Type 0 where
 
 -- how a run ends
 pub data Answer : Type 0 where
-  -- the outputs stand
-  done : Answer
+  -- the outputs stand; the status is that of what is made
+  done : ℕ → Answer
   -- the words are not of the stated form
   usage : Answer
   -- the first cause that holds
@@ -39,7 +39,7 @@ pub data Answer : Type 0 where
 
 -- the status of a run
 abbrev pub status_of : Answer → ℕ
-status_of done = 0
+status_of (done status) = status
 status_of usage = 1
 status_of (refused cause) = 1
 status_of no_memory = 3
@@ -60,7 +60,7 @@ cause_line (faulty fault) = fault_line fault
 
 -- the line that a run shows, if it shows one
 abbrev pub line_of : Answer → Option (List ℕ)
-line_of done = None
+line_of (done status) = None
 line_of usage = Some (codes "fst: bad command line\n")
 line_of (refused cause) = Some (cause_line cause)
 line_of no_memory = Some (codes "fst: out of memory\n")

@@ -6,9 +6,9 @@ use Rattle.std.specs.List.{concat, filter_map}
 use Rattle.fst_semiring.specs.Cost.{Cost, first_of}
 use Rattle.fst_semiring.specs.declared.arc_type.ArcType.TheVariants.{Tropical}
 use Rattle.fst_machine.specs.Machine.{Machine, arc_total}
-use Rattle.fst_batch.specs.Cascade.{behind_second, drawn_lines, first_machine, second_machine}
-use Rattle.fst_answer.specs.declared.answer.LineAnswer.{LineAnswer}
-use Rattle.fst_answer.specs.declared.answer.LineAnswer.TheVariants.{Listed, Refused}
+use Rattle.fst_lattice.specs.Cascade.{behind_second, drawn_lines, first_machine, second_machine}
+use Rattle.fst_batch.specs.declared.answer.LineAnswer.{LineAnswer}
+use Rattle.fst_batch.specs.declared.answer.LineAnswer.TheVariants.{Listed, Refused}
 use Rattle.fst_words.specs.declared.options.Options.{Options}
 use Rattle.fst_command.specs.Batching.{AreAnswered}
 use Rattle.fst_command.specs.Descriptions.{named_line}

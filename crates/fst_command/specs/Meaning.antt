@@ -29,6 +29,18 @@ bytes_of (text bytes) = bytes ∷ []
 bytes_of (coded kind table m) = codex_spelling kind table ∷ spelling kind m ∷ []
 bytes_of (answered bytes expansions) = bytes ∷ []
 
+-- the status that a run ends with which makes it
+abbrev pub ending_of : Made → ℕ
+ending_of (machine kind m) = 0
+ending_of (text bytes) = 0
+ending_of (coded kind table m) = 0
+ending_of (answered bytes expansions) = 0
+
+-- what a command hands on for its outputs: the status, and their bytes
+pub record Product : Type 0 where
+  pub status : ℕ
+  pub bytes : List (List ℕ)
+
 -- how many states of a cascade were expanded for it
 abbrev pub expansions_of : Made → ℕ
 expansions_of (machine kind m) = 0

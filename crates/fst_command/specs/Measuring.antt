@@ -11,9 +11,9 @@ use Rattle.fst_machine.specs.Cycles.{IsImprovingCycle}
 use Rattle.fst_machine.specs.Graph.{graph_of}
 use Rattle.fst_machine.specs.Machine.{Machine}
 use Rattle.fst_machine.specs.Paths.{Transition}
-use Rattle.fst_distance.specs.Distances.{Counts, IsDistanceTo}
-use Rattle.fst_distance.specs.declared.direction.Direction.{Direction}
-use Rattle.fst_distance.specs.declared.direction.Direction.TheVariants.{FromStart, ToFinals}
+use Rattle.fst_search.specs.Distances.{Counts, IsDistanceTo}
+use Rattle.fst_search.specs.declared.direction.Direction.{Direction}
+use Rattle.fst_search.specs.declared.direction.Direction.TheVariants.{FromStart, ToFinals}
 use Rattle.fst_words.specs.declared.options.Options.{Options}
 use Rattle.fst_command.specs.Causes.{unmade}
 use Rattle.fst_command.specs.Meaning.{Meaning, for_one, text}

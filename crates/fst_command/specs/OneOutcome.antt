@@ -1,11 +1,12 @@
--- There is one outcome: the same words and the same contents prescribe one list of outputs or one cause, and never both.
-use Rattle.std.specs.Prelude.{◌≡◌, List, Some}
+-- There is one outcome: the same words and the same contents prescribe one list of outputs, with one status, or one
+-- cause, and never both.
+use Rattle.std.specs.Prelude.{◌≡◌, ℕ, List, Option, Some}
 use Rattle.fst_desk.specs.Seen.{Files}
 use Rattle.fst_words.specs.declared.plan.Plan.{Plan}
 use Rattle.fst_command.specs.Causes.{Cause}
 use Rattle.fst_command.specs.Given.{Given}
-use Rattle.fst_command.specs.Meaning.{Meaning}
-use Rattle.fst_command.specs.Outcome.{Output, Prescribes, Refuses}
+use Rattle.fst_command.specs.Meaning.{Made, Meaning, ending_of}
+use Rattle.fst_command.specs.Outcome.{Makes, Output, Prescribes, Refuses}
 
 -- no two have the property
 abbrev pub One : {X : Type 0} → (X → Type 0) → Type 0
@@ -16,8 +17,13 @@ pub record HasOneOutcome (m : Meaning) (given : Given) : Type 0 where
   pub stopped : One (m.stops given)
   pub made : One (m.makes given)
 
--- of what the files hold, a plan has one list of outputs, or one cause
+-- the status is that of what the plan makes
+abbrev pub EndsWith : Plan → Option Files → ℕ → Type 0
+EndsWith plan told status = (made : Made) × Makes plan told made × (status ≡ ending_of made)
+
+-- of what the files hold, a plan has one list of outputs and one status, or one cause
 pub record OneOutcome (plan : Plan) (files : Files) : Type 0 where
   pub outputs : One (Prescribes plan (Some files))
+  pub status : One (EndsWith plan (Some files))
   pub cause : One (Refuses plan (Some files))
   pub apart : (outputs : List Output) (cause : Cause) → Prescribes plan (Some files) outputs → Refuses plan (Some files) cause → ⊥

@@ -8,7 +8,7 @@ use Rattle.fst_words.specs.Plans.{outputs_of, plan_of}
 use Rattle.fst_command.specs.Causes.{Cause, too_long, faulty, Fault, Answer, done, usage, refused, no_memory, unread, unwritten, status_of, line_of}
 use Rattle.fst_command.specs.Commands.{meaning_for}
 use Rattle.fst_command.specs.Given.{Given, Held, given_by, given_of, nothing, read_limit}
-use Rattle.fst_command.specs.Meaning.{Made, Passes, bytes_of, expansions_of}
+use Rattle.fst_command.specs.Meaning.{Made, Passes, bytes_of, ending_of, expansions_of}
 use Rattle.fst_command.specs.Metering.{Metered, risen_by}
 
 -- the contents are those that are told under the names of the inputs
@@ -122,14 +122,15 @@ pub record IsStarved (plan : Plan) (old new : Filed) : Type 0 where
 
 -- what each answer says of the words, the contents and the files, by the plan of the words
 abbrev pub Answers : Option Plan → Filed → Filed → Answer → Type 0
-Answers None old new done = ⊥
+Answers None old new (done status) = ⊥
 Answers None old new usage = new ≡ old
 Answers None old new (refused cause) = ⊥
 Answers None old new no_memory = new ≡ old
 Answers None old new (unread name) = ⊥
 Answers None old new (unwritten name) = ⊥
-Answers (Some plan) old new done =
-    (outputs : List Output) × Prescribes plan old.told outputs × Leaves outputs old.told new.told × Calls (length (plan_inputs plan)) (length outputs) old new
+Answers (Some plan) old new (done status) =
+    (outputs : List Output) × (p : Prescribes plan old.told outputs) × (status ≡ ending_of p.made) × Leaves outputs old.told new.told
+    × Calls (length (plan_inputs plan)) (length outputs) old new
 Answers (Some plan) old new usage = ⊥
 Answers (Some plan) old new (refused cause) = Refuses plan old.told cause × TakesMore cause new.taken × (new.told ≡ old.told) × OnlyFetches plan old new
 Answers (Some plan) old new no_memory = ((new.told ≡ old.told) × OnlyFetches plan old new) ⊎ IsStarved plan old new
@@ -157,13 +158,13 @@ pub record Runs (words : List (List ℕ)) (old new : Seen) (status : ℕ) : Type
   pub shows : ShowsLine (line_of answer) old.showing new.showing
 
 -- Words of the stated form, contents that are told and of which nothing stops the command, and a run in which no name
--- was missed and no write failed: the status is that of Ok, or of out of memory.
+-- was missed and no write failed: the status is that of what the command makes, or of out of memory.
 abbrev pub Completes : List (List ℕ) → Seen → Seen → ℕ → Type 0
 Completes words old new status =
     (plan : Plan) (files : Files) (contents : List (List ℕ)) → plan_of words ≡ Some plan → old.filed.told ≡ Some files →
     Agrees (Some files) (plan_inputs plan) contents → ((cause : Cause) → IsCause plan contents cause → ⊥) →
     new.filed.missed ≡ old.filed.missed → (Rises old.filed.write_faults new.filed.write_faults → ⊥) →
-    (status ≡ 0) ⊎ (status ≡ 3)
+    ((made : Made) × Makes plan (Some files) made × (status ≡ ending_of made)) ⊎ (status ≡ 3)
 
 -- how a run leaves the meter: a command that expands no states leaves it as it was, and one that does has raised it by
 -- the expansions of what it makes, where the status is that of Ok; after its refusal nothing is said

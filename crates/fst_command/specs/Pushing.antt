@@ -7,9 +7,9 @@ use Rattle.fst_machine.specs.Distance.{IsFinalDistance}
 use Rattle.fst_machine.specs.Graph.{graph_of}
 use Rattle.fst_machine.specs.Machine.{Machine}
 use Rattle.fst_machine.specs.Relation.{Rel}
-use Rattle.fst_pushing.specs.Pushing.{IsPushed}
-use Rattle.fst_pushing.specs.Totals.{IsPushFault, IsTotalled, RelatesBy, push_text}
-use Rattle.fst_pushing.specs.declared.fault.PushFault.{PushFault}
+use Rattle.fst_distance.specs.Pushing.{IsPushed}
+use Rattle.fst_distance.specs.Totals.{IsPushFault, IsTotalled, RelatesBy, push_text}
+use Rattle.fst_distance.specs.declared.fault.PushFault.{PushFault}
 use Rattle.fst_words.specs.declared.options.Options.{Options}
 use Rattle.fst_command.specs.Causes.{unmade}
 use Rattle.fst_command.specs.Meaning.{IsMachine, Meaning, for_one}

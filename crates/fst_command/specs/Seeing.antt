@@ -8,7 +8,7 @@ use Rattle.fst_codex.specs.Table.{valued_table}
 use Rattle.fst_symbols.specs.Symbols.{Symbol}
 use Rattle.fst_any.specs.Typed.{typed, typed_codex}
 use Rattle.fst_command.specs.Given.{Given, Held}
-use Rattle.fst_command.specs.Meaning.{Made, answered, coded, machine, text}
+use Rattle.fst_command.specs.Meaning.{Made, Product, answered, coded, machine, text}
 use Rattle.fst_command.specs.declared.tables.Tables.{Tables}
 use Rattle.fst_command.specs.declared.given.Held.{Held as DeclaredHeld}
 use Rattle.fst_command.specs.declared.given.Given.{Given as DeclaredGiven}
@@ -16,6 +16,7 @@ use Rattle.fst_command.specs.declared.made.Made.{Made as DeclaredMade}
 use Rattle.fst_command.specs.declared.made.Made.TheVariants as made
 use Rattle.fst_command.specs.declared.made.Bytes.{Bytes}
 use Rattle.fst_command.specs.declared.made.Bytes.TheVariants as bytes
+use Rattle.fst_command.specs.declared.made.Product.{Product as DeclaredProduct}
 
 -- the names of the labels of each side: those of its own table, or else of the table of both sides
 abbrev pub input_names : Tables → Option (List Symbol)
@@ -61,6 +62,10 @@ made_seen kind value (made.Answered bytes expansions) = answered bytes.items exp
 abbrev pub bytes_seen : Bytes → List (List ℕ)
 bytes_seen (bytes.One first) = first.items ∷ []
 bytes_seen (bytes.Two first second) = first.items ∷ second.items ∷ []
+
+-- and the status beside them
+abbrev pub product_seen : DeclaredProduct → Product
+product_seen p = record { status = p.status; bytes = bytes_seen p.bytes }
 
 -- what a command is given where it is machines alone, and where the new labels of both sides, the symbol tables, or a
 -- codex stand beside them

@@ -8,7 +8,7 @@ use Rattle.fst_words.specs.Inputs.{Input, expands, plan_inputs}
 use Rattle.fst_command.specs.Causes.{Answer, Fault, done, faulty, no_memory, refused, too_long, unread, unwritten}
 use Rattle.fst_command.specs.Commands.{meaning_for}
 use Rattle.fst_command.specs.Given.{Given, Held, given_at, given_by, kind_of, nothing, put, read_limit}
-use Rattle.fst_command.specs.Meaning.{Made, Passes, bytes_of, expansions_of}
+use Rattle.fst_command.specs.Meaning.{Made, Passes, Product, bytes_of, ending_of, expansions_of}
 use Rattle.fst_command.specs.Metering.{Metered, risen_by}
 use Rattle.fst_command.specs.Outcome.{Agrees, Answers, Calls, Makes}
 use Rattle.fst_command.specs.declared.refusal.Refusal.{Refusal}
@@ -141,12 +141,12 @@ pub record Progress (plan : Plan) (front : List Input) (held : Held) (old now : 
 -- ---- the whole command
 
 -- the answer of a command that ended so
-abbrev pub Ends : Answer → Result Unit Refusal → Type 0
-Ends answer (Ok _) = answer ≡ done
+abbrev pub Ends : Answer → Result ℕ Refusal → Type 0
+Ends answer (Ok status) = answer ≡ done status
 Ends answer (Err refusal) = Tells answer refusal
 
 -- a command that was wanted by its words: its answer, with no show
-pub record Works (plan : Option Plan) (old new : Seen) (result : Result Unit Refusal) : Type 0 where
+pub record Works (plan : Option Plan) (old new : Seen) (result : Result ℕ Refusal) : Type 0 where
   pub answer : Answer
   pub ends : Ends answer result
   pub answers : Answers plan old.filed new.filed answer
@@ -157,14 +157,15 @@ abbrev pub ReadsAll : Plan → Seen → Seen → Result Held Refusal → Type 0
 ReadsAll plan old new (Ok held) = Progress plan (plan_inputs plan) held old new
 ReadsAll plan old new (Err refusal) = Works (Some plan) old new (Err refusal)
 
--- these are the bytes of what the command makes of what was read, and nothing stops it
-pub record IsWorked (plan : Plan) (held : Held) (bytes : List (List ℕ)) : Type 0 where
+-- these are the status and the bytes of what the command makes of what was read, and nothing stops it
+pub record IsWorked (plan : Plan) (held : Held) (product : Product) : Type 0 where
   pub given : Given
   pub reads : given_at (kind_of plan.options held.machines) held ≡ Ok given
   pub passes : Passes ((meaning_for plan).stops given)
   pub made : Made
   pub makes : (meaning_for plan).makes given made
-  pub spells : bytes ≡ bytes_of made
+  pub spells : product.bytes ≡ bytes_of made
+  pub ends : product.status ≡ ending_of made
 
 -- the fault of what was read, or else that which stops the command
 abbrev pub IsFault : Plan → Held → Fault → Type 0
@@ -173,38 +174,44 @@ IsFault plan held fault =
     ⊎ ((given : Given) × (given_at (kind_of plan.options held.machines) held ≡ Ok given) × (meaning_for plan).stops given fault)
 
 -- the work on what was read
-abbrev pub Decides : Plan → Held → Result (List (List ℕ)) Refusal → Type 0
-Decides plan held (Ok bytes) = IsWorked plan held bytes
+abbrev pub Decides : Plan → Held → Result Product Refusal → Type 0
+Decides plan held (Ok product) = IsWorked plan held product
 Decides plan held (Err refusal) = IsMemory refusal ⊎ ((fault : Fault) × IsFault plan held fault × Tells (refused (faulty fault)) refusal)
 
--- all inputs are read, and these are the bytes of the outputs
-pub record IsReady (plan : Plan) (bytes : List (List ℕ)) (old now : Seen) : Type 0 where
+-- all inputs are read, and these are the status and the bytes of the outputs
+pub record IsReady (plan : Plan) (product : Product) (old now : Seen) : Type 0 where
   pub held : Held
   pub progress : Progress plan (plan_inputs plan) held old now
-  pub worked : IsWorked plan held bytes
+  pub worked : IsWorked plan held product
 
--- ending a command where the bytes were ready
+-- what storing the outputs gives, where the status was ready
+abbrev pub ended : ℕ → Result Unit Refusal → Result ℕ Refusal
+ended status (Ok _) = Ok status
+ended status (Err refusal) = Err refusal
+
+-- ending a command where the bytes were ready, with the status that was ready beside them
 abbrev pub WorksAfter : Plan → List (List ℕ) → Seen → Seen → Result Unit Refusal → Type 0
-WorksAfter plan bytes mid new result = (old : Seen) → IsReady plan bytes old mid → Works (Some plan) old new result
+WorksAfter plan bytes mid new result =
+    (old : Seen) (status : ℕ) → IsReady plan (record { status = status; bytes = bytes }) old mid → Works (Some plan) old new (ended status result)
 
 -- ---- the meter
 
 -- how the work on what was read leaves it
-abbrev pub MetersWorkBy : (expanding : Bool) → Plan → Held → Metered → Metered → Result (List (List ℕ)) Refusal → Type 0
+abbrev pub MetersWorkBy : (expanding : Bool) → Plan → Held → Metered → Metered → Result Product Refusal → Type 0
 MetersWorkBy false plan held before after result = after ≡ before
-MetersWorkBy true plan held before after (Ok bytes) = (w : IsWorked plan held bytes) × (after ≡ risen_by (expansions_of w.made) before)
+MetersWorkBy true plan held before after (Ok product) = (w : IsWorked plan held product) × (after ≡ risen_by (expansions_of w.made) before)
 MetersWorkBy true plan held before after (Err refusal) = Unit {0}
 
-abbrev pub MetersWork : Plan → Held → Metered → Metered → Result (List (List ℕ)) Refusal → Type 0
+abbrev pub MetersWork : Plan → Held → Metered → Metered → Result Product Refusal → Type 0
 MetersWork plan held before after result = MetersWorkBy (expands plan) plan held before after result
 
 -- how the whole command leaves it
-abbrev pub MetersEnd : (expanding : Bool) → Plan → Option Files → Metered → Metered → Result Unit Refusal → Type 0
+abbrev pub MetersEnd : (expanding : Bool) → Plan → Option Files → Metered → Metered → Result ℕ Refusal → Type 0
 MetersEnd false plan told before after result = after ≡ before
 MetersEnd true plan told before after (Ok _) = (made : Made) × Makes plan told made × (after ≡ risen_by (expansions_of made) before)
 MetersEnd true plan told before after (Err refusal) = Unit {0}
 
 -- for words of a command, and for others
-abbrev pub MetersWords : Option Plan → Option Files → Metered → Metered → Result Unit Refusal → Type 0
+abbrev pub MetersWords : Option Plan → Option Files → Metered → Metered → Result ℕ Refusal → Type 0
 MetersWords None told before after result = after ≡ before
 MetersWords (Some plan) told before after result = MetersEnd (expands plan) plan told before after result

@@ -38,7 +38,7 @@ fn store<D: Desk>(alloc: Global, desk: &mut D, plan: &Plan, bytes: Bytes) -> Res
     }
 }
 
-/// Does what a plan asks for. All bytes are there before the first is written.
+/// Does what a plan asks for, and gives the status of what it made. All bytes are there before the first is written.
 pub(crate) fn carry_out<R: Threads + Sync, D: Desk, M: Meter>(
     rt: &R,
     alloc: Global,
@@ -46,7 +46,7 @@ pub(crate) fn carry_out<R: Threads + Sync, D: Desk, M: Meter>(
     plan: &Plan,
     queues: Queues,
     meter: &mut M,
-) -> Result<(), Refusal>
+) -> Result<u8, Refusal>
     requires whole { IsWhole plan.now }
     requires free { IsFree (meter_seen M.count M.parts_out M.is_part meter.old) }
     ensures works { Works (Some plan.now) (D.seen desk.old) (D.seen desk.new) result }
@@ -56,9 +56,13 @@ pub(crate) fn carry_out<R: Threads + Sync, D: Desk, M: Meter>(
         Ok(held) => held,
         Err(refusal) => return Err(refusal),
     };
-    let bytes = match worked(rt, alloc, plan, held, queues, meter) {
-        Ok(bytes) => bytes,
+    let product = match worked(rt, alloc, plan, held, queues, meter) {
+        Ok(product) => product,
         Err(refusal) => return Err(refusal),
     };
-    store(alloc, desk, plan, bytes)
+    let status = product.status;
+    match store(alloc, desk, plan, product.bytes) {
+        Ok(()) => Ok(status),
+        Err(refusal) => Err(refusal),
+    }
 }

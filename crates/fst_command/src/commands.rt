@@ -37,23 +37,6 @@ use fst_words::{Plan, Verb};
 use std::alloc::Global;
 use std::thread::Threads;
 
-/// Whether a command makes its machine of those that it reads where they stand, with no long list beside them. The
-/// content that was read last may stay then until the bytes of the output are made where it stands: they stood beside
-/// the machines in any case.
-pub(crate) fn changes_in_place(command: Verb) -> bool {
-    match command {
-        Verb::Compile
-        | Verb::Invert
-        | Verb::Project
-        | Verb::Relabel
-        | Verb::Arcsort
-        | Verb::Closure
-        | Verb::Union
-        | Verb::Concat => true,
-        _ => false,
-    }
-}
-
 /// What a command makes of what it is given, or why it makes nothing.
 pub(crate) fn made<R: Threads + Sync, W: Weight + Send + Sync, M: Meter>(
     rt: &R,

@@ -7,7 +7,7 @@ ghost use Rattle.fst_command.specs.Given.{Given};
 ghost use Rattle.fst_command.specs.OneOutcome.{HasOneOutcome, OneOutcome};
 
 /// Of what a command is given, one fault stops it and one thing is made; so the same words and the same contents of
-/// files prescribe one list of outputs or one cause, and never both.
+/// files prescribe one list of outputs and one status, or one cause, and never both.
 pub fn one_outcome()
     ensures meanings { (plan : Plan) (given : Given) → HasOneOutcome (meaning_for plan) given }
     ensures outcomes { (plan : Plan) (files : Files) → OneOutcome plan files }

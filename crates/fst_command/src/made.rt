@@ -1,7 +1,7 @@
-//! What a command makes, and its bytes.
+//! What a command makes, and the status and the bytes of it.
 
 ghost use Rattle.std.specs.Prelude.{◌≡◌, IfOk};
-ghost use Rattle.fst_command.specs.Meaning.{bytes_of};
+ghost use Rattle.fst_command.specs.Meaning.{bytes_of, ending_of};
 ghost use Rattle.fst_command.specs.Seeing.{bytes_seen, made_seen};
 
 use fst_binary::{encode_into, encode_joined};
@@ -34,24 +34,46 @@ pub(crate) enum Bytes {
     Two(Vec<u8>, Vec<u8>),
 }
 
-/// The bytes of what a command makes, those of a machine where the content of a room stood. A codex is freed before the
-/// machine beside it is written, the room of a machine as it is written, where the bytes did not stand beside it before, and
-/// of a machine in two lists the first before the second is written.
-pub(crate) fn bytes_of<W: Weight>(
+/// What a command hands on for its outputs.
+#[derive(Drop)]
+pub(crate) struct Product {
+    /// The status that the run ends with.
+    pub(crate) status: u8,
+    /// The bytes of the outputs.
+    pub(crate) bytes: Bytes,
+}
+
+/// The status and the bytes of what a command makes, those of a machine where the content of a room stood. A codex is
+/// freed before the machine beside it is written, the room of a machine as it is written, where the bytes did not stand
+/// beside it before, and of a machine in two lists the first before the second is written.
+pub(crate) fn product_of<W: Weight>(
     alloc: Global,
     room: Vec<u8>,
     made: Made<W>,
-) -> Result<Bytes, AllocError>
-    ensures { IfOk result (λ bytes. bytes_seen bytes ≡ bytes_of (made_seen W.KIND W.value made)) }
+) -> Result<Product, AllocError>
+    ensures bytes { IfOk result (λ product. bytes_seen product.bytes ≡ bytes_of (made_seen W.KIND W.value made)) }
+    ensures status { IfOk result (λ product. product.status ≡ ending_of (made_seen W.KIND W.value made)) }
 {
     match made {
-        Made::Machine(machine) => Ok(Bytes::One(encode_into(room, machine)?)),
-        Made::Joined(joined) => Ok(Bytes::One(encode_joined(room, joined)?)),
-        Made::Text(text) | Made::Answered(text, _) => Ok(Bytes::One(text)),
+        Made::Machine(machine) => Ok(Product {
+            status: 0,
+            bytes: Bytes::One(encode_into(room, machine)?),
+        }),
+        Made::Joined(joined) => Ok(Product {
+            status: 0,
+            bytes: Bytes::One(encode_joined(room, joined)?),
+        }),
+        Made::Text(text) | Made::Answered(text, _) => Ok(Product {
+            status: 0,
+            bytes: Bytes::One(text),
+        }),
         Made::Coded(codex, machine) => {
             let first = write_codex(alloc, &codex)?;
             drop(codex);
-            Ok(Bytes::Two(first, encode_into(room, machine)?))
+            Ok(Product {
+                status: 0,
+                bytes: Bytes::Two(first, encode_into(room, machine)?),
+            })
         }
     }
 }

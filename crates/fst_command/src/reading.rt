@@ -15,7 +15,6 @@ ghost use Rattle.fst_command.specs.Seeing.{held_seen, input_names, output_names}
 ghost use Rattle.fst_command.specs.Steps.{ReadsAll, StepAnswer};
 ghost use Rattle.fst_command.specs.Told.{IsMade, Judges};
 
-use crate::commands::changes_in_place;
 use crate::files::read_input;
 use crate::given::{Held, arc_type_of};
 use crate::refusal::{Refusal, misread};
@@ -27,7 +26,7 @@ use fst_desk::Desk;
 use fst_rational::{Pairs, PairsFault};
 use fst_symbols::{SymbolTable, SymbolsFault};
 use fst_text::{TextFault, TextOptions};
-use fst_words::{Input, Options, Plan, Role, Verb};
+use fst_words::{Input, Options, Plan, Role, Room};
 use std::alloc::Global;
 
 /// A content is not of its form, at a line.
@@ -215,7 +214,7 @@ const MANY_ARCS: u32 = 1 << 20;
 /// long as its content.
 const MANY_OF_A_STATE: u32 = 16;
 
-/// Whether the content of a machine may stay while short lists of its states and arcs are made.
+/// Whether the content of the machine may stay while short lists of its states and arcs are made.
 fn is_light(machine: &AnyFst) -> bool {
     let (states, arcs) = match machine {
         AnyFst::Boolean(fst) => (fst.states(), fst.arc_count()),
@@ -226,25 +225,27 @@ fn is_light(machine: &AnyFst) -> bool {
     arcs < MANY_ARCS && arcs / MANY_OF_A_STATE <= states
 }
 
-/// Whether the output of a command may be made where the content of the machines that were read stands.
-fn may_stay(command: Verb, machines: &[AnyFst]) -> bool {
-    if command != Verb::Connect {
-        return changes_in_place(command);
-    }
+/// Whether the one machine is light.
+fn are_light(machines: &[AnyFst]) -> bool {
     match machines {
         [machine] => is_light(machine),
         _ => false,
     }
 }
 
-/// Keeps the content of a machine as a room, where the output of the command may be made there, or frees it.
-fn keep_room(command: Verb, content: Vec<u8>, held: &mut Held)
+/// Keeps the content of a machine for the bytes or the text of the output, as the command's row says, or frees it.
+fn keep_room(room: Room, content: Vec<u8>, held: &mut Held)
     ensures { held_seen held.new ≡ held_seen held.old }
 {
-    if may_stay(command, held.machines.as_slice()) {
-        held.room = content;
-    } else if command == Verb::Print {
-        held.text_room = content;
+    match room {
+        Room::Freed => {}
+        Room::Output => held.room = content,
+        Room::LightOutput => {
+            if are_light(held.machines.as_slice()) {
+                held.room = content;
+            }
+        }
+        Room::Text => held.text_room = content,
     }
 }
 
@@ -272,7 +273,7 @@ fn read_one<D: Desk>(
         held,
     )?;
     if has_machine(input.role) {
-        keep_room(plan.command, content, held);
+        keep_room(plan.command.room(), content, held);
     }
     Ok(())
 }

@@ -15,7 +15,7 @@ use fst_words::{WordsFault, read_words};
 use std::alloc::Global;
 use std::thread::Threads;
 
-/// Does what the words ask for.
+/// Does what the words ask for, and gives the status of what was made.
 fn work<R: Threads + Sync, D: Desk, M: Meter>(
     rt: &R,
     alloc: Global,
@@ -23,7 +23,7 @@ fn work<R: Threads + Sync, D: Desk, M: Meter>(
     desk: &mut D,
     queues: Queues,
     meter: &mut M,
-) -> Result<(), Refusal>
+) -> Result<u8, Refusal>
     requires free { IsFree (meter_seen M.count M.parts_out M.is_part meter.old) }
     ensures meter { MetersWords (plan_of (map (λ w. string_bytes w) words.now)) (D.seen desk.old).filed.told (meter_seen M.count M.parts_out M.is_part meter.old) (meter_seen M.count M.parts_out M.is_part meter.new) result }
     ensures works { Works (plan_of (map (λ w. string_bytes w) words.now)) (D.seen desk.old) (D.seen desk.new) result }
@@ -49,10 +49,11 @@ fn finish<R: Threads + Sync, D: Desk, M: Meter>(
     ensures runs { Runs (map (λ w. string_bytes w) words.now) (D.seen desk.old) (D.seen desk.new) result }
 {
     match work(rt, alloc, words, desk, queues, meter) {
-        Ok(()) => 0,
+        Ok(status) => status,
         Err(refusal) => {
+            let line = refusal.line();
             // A line that cannot be shown leaves the status as it is.
-            let _ = desk.show(refusal.line());
+            let _ = desk.show(line);
             refusal.status()
         }
     }
@@ -62,11 +63,11 @@ fn finish<R: Threads + Sync, D: Desk, M: Meter>(
 /// name. It fetches, works and stores through the desk, and on a refusal shows one line. A search of distances takes
 /// its states from the queue that the words name, whose own states are taken out first; the other queues are dropped.
 ///
-/// The result is the status: 0 where the outputs stand, 3 out of memory, 4 where an input could not be
-/// read, 5 where an output could not be written, and 1 for every other refusal.
+/// The result is the status: that of what the command makes where the outputs stand, which is 0 for every command, 3 out of
+/// memory, 4 where an input could not be read, 5 where an output could not be written, and 1 for every other refusal.
 ///
-/// With 0 there was one fetch for each input, one store for each output and no show. Else there was at most one
-/// fetch for each input, no store but those of the outputs as far as one that failed, and one show.
+/// Where the outputs stand there was one fetch for each input, one store for each output and no show. Else there was at most
+/// one fetch for each input, no store but those of the outputs as far as one that failed, and one show.
 pub fn run<R: Threads + Sync, D: Desk, M: Meter>(
     rt: &R,
     alloc: Global,

@@ -7,12 +7,12 @@ ghost use Rattle.fst_words.specs.Inputs.{has_codex, machine_count};
 ghost use Rattle.fst_words.specs.PlanLaws.{IsWhole};
 ghost use Rattle.fst_command.specs.Given.{kind_of, read_limit};
 ghost use Rattle.fst_command.specs.Metering.{IsFree, meter_seen};
-ghost use Rattle.fst_command.specs.Seeing.{bytes_seen, held_seen};
+ghost use Rattle.fst_command.specs.Seeing.{held_seen, product_seen};
 ghost use Rattle.fst_command.specs.Steps.{Decides, MetersWork};
 
 use crate::commands::made;
 use crate::given::{Given, Held, alike};
-use crate::made::{Bytes, bytes_of};
+use crate::made::{Product, product_of};
 use crate::queues::Queues;
 use crate::refusal::Refusal;
 use fst_any::Kinded;
@@ -23,7 +23,7 @@ use std::alloc::Global;
 use std::mem::replace;
 use std::thread::Threads;
 
-/// The bytes of what a command makes of what was read, whose arc type is that of the weights.
+/// The status and the bytes of what a command makes of what was read, whose arc type is that of the weights.
 fn worked_as<R: Threads + Sync, W: Kinded + Send + Sync, M: Meter>(
     rt: &R,
     alloc: Global,
@@ -31,7 +31,7 @@ fn worked_as<R: Threads + Sync, W: Kinded + Send + Sync, M: Meter>(
     held: Held,
     queues: Queues,
     meter: &mut M,
-) -> Result<Bytes, Refusal>
+) -> Result<Product, Refusal>
 where
     W::Wide: Send + Sync,
     requires whole { IsWhole plan.now }
@@ -40,8 +40,8 @@ where
     requires codex { has_codex plan.now ≡ true → IsSome held.codex }
     requires lines { length held.lines.items ≤ read_limit }
     requires free { IsFree (meter_seen M.count M.parts_out M.is_part meter.old) }
-    ensures decides { Decides plan.now (held_seen held) (result_map_both bytes_seen (λ e. e) result) }
-    ensures meter { MetersWork plan.now (held_seen held) (meter_seen M.count M.parts_out M.is_part meter.old) (meter_seen M.count M.parts_out M.is_part meter.new) (result_map_both bytes_seen (λ e. e) result) }
+    ensures decides { Decides plan.now (held_seen held) (result_map_both product_seen (λ e. e) result) }
+    ensures meter { MetersWork plan.now (held_seen held) (meter_seen M.count M.parts_out M.is_part meter.old) (meter_seen M.count M.parts_out M.is_part meter.new) (result_map_both product_seen (λ e. e) result) }
 {
     let mut held = held;
     let room = replace(&mut held.room, Vec::new(alloc));
@@ -53,13 +53,13 @@ where
         Ok(made) => made,
         Err(refusal) => return Err(refusal),
     };
-    match bytes_of(alloc, room, made) {
-        Ok(bytes) => Ok(bytes),
+    match product_of(alloc, room, made) {
+        Ok(product) => Ok(product),
         Err(_) => Err(Refusal::Memory),
     }
 }
 
-/// The bytes of what a command makes of what was read.
+/// The status and the bytes of what a command makes of what was read.
 pub(crate) fn worked<R: Threads + Sync, M: Meter>(
     rt: &R,
     alloc: Global,
@@ -67,14 +67,14 @@ pub(crate) fn worked<R: Threads + Sync, M: Meter>(
     held: Held,
     queues: Queues,
     meter: &mut M,
-) -> Result<Bytes, Refusal>
+) -> Result<Product, Refusal>
     requires whole { IsWhole plan.now }
     requires machines { length held.machines.items ≡ machine_count plan.now }
     requires codex { has_codex plan.now ≡ true → IsSome held.codex }
     requires lines { length held.lines.items ≤ read_limit }
     requires free { IsFree (meter_seen M.count M.parts_out M.is_part meter.old) }
-    ensures decides { Decides plan.now (held_seen held) (result_map_both bytes_seen (λ e. e) result) }
-    ensures meter { MetersWork plan.now (held_seen held) (meter_seen M.count M.parts_out M.is_part meter.old) (meter_seen M.count M.parts_out M.is_part meter.new) (result_map_both bytes_seen (λ e. e) result) }
+    ensures decides { Decides plan.now (held_seen held) (result_map_both product_seen (λ e. e) result) }
+    ensures meter { MetersWork plan.now (held_seen held) (meter_seen M.count M.parts_out M.is_part meter.old) (meter_seen M.count M.parts_out M.is_part meter.new) (result_map_both product_seen (λ e. e) result) }
 {
     match held.kind(&plan.options) {
         ArcType::Boolean => worked_as::<R, Boolean, M>(rt, alloc, plan, held, queues, meter),

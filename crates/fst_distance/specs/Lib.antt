@@ -1,10 +1,5 @@
-pub mod Hops
-pub mod Searching
-pub mod Beginning
-pub mod ArcHops
-pub mod Trying
-pub mod Cycles
-pub mod Distances
-pub mod Laws
-pub mod Closure
-pub mod Near
+pub mod Pushing
+pub mod PushLaws
+pub mod Values
+pub mod Totals
+pub mod Filling

@@ -15,7 +15,7 @@ use Rattle.fst_machine.specs.Graph.{Graph}
 use Rattle.fst_machine.proofs.Arcs.{at_mapped, mapped_at}
 use Rattle.fst_machine.proofs.Elements.{at_Has, Has_at}
 use Rattle.fst_machine.proofs.Narrowing.{all_at}
-use Rattle.fst_distance.specs.Closure.{IsClosure, Reached, states_of, valued_reached}
+use Rattle.fst_search.specs.Closure.{IsClosure, Reached, states_of, valued_reached}
 use Rattle.fst_epsilon.specs.Construction.{IsClosureList}
 use Rattle.fst_epsilon.specs.Gathering.{pairs_of, rank}
 use Rattle.fst_epsilon.proofs.Theorem.{silent_here}

@@ -14,7 +14,7 @@ use Rattle.fst_machine.specs.Graph.{Graph}
 use Rattle.fst_machine.specs.Machine.{Arc}
 use Rattle.fst_machine.proofs.Connected.{accessible_next}
 use Rattle.fst_machine.proofs.Elements.{at_Has, Has_at, Has-append_cases, Has-append_left, Has-append_right}
-use Rattle.fst_distance.specs.Hops.{NoWorse}
+use Rattle.fst_search.specs.Hops.{NoWorse}
 use Rattle.fst_epsilon.specs.Construction.{IsClosureList, IsRemoved, behind_arc, best_final, collected, is_silent, merged, spoken}
 use Rattle.fst_epsilon.specs.Removal.{IsBehind, Removes, StandsFor}
 use Rattle.fst_epsilon.proofs.Merging.{Best, From, merged_each, merged_from, no_worse_left, no_worse_right}

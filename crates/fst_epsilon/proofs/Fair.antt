@@ -14,8 +14,8 @@ use Rattle.fst_machine.specs.Letters.{product}
 use Rattle.fst_machine.specs.Paths.{Transition, letters}
 use Rattle.fst_machine.proofs.Letters.{letters-append, product-append}
 use Rattle.fst_machine.proofs.PathParts.{IsPath-append}
-use Rattle.fst_distance.specs.Hops.{NoWorse}
-use Rattle.fst_distance.proofs.Order.{better_not}
+use Rattle.fst_search.specs.Hops.{NoWorse}
+use Rattle.fst_search.proofs.Order.{better_not}
 use Rattle.fst_epsilon.specs.Construction.{IsClosureList}
 use Rattle.fst_epsilon.proofs.Theorem.{AllArcs-append}
 

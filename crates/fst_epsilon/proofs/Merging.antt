@@ -6,7 +6,7 @@ use Rattle.fst_semiring.proofs.Order.{plus_assoc, plus_comm, plus_picks, plus_sa
 use Rattle.fst_machine.specs.BreadthFirst.{Has}
 use Rattle.fst_machine.specs.Machine.{Arc}
 use Rattle.fst_machine.proofs.Elements.{Has-append_cases, Has-append_left, Has-append_right}
-use Rattle.fst_distance.specs.Hops.{NoWorse}
+use Rattle.fst_search.specs.Hops.{NoWorse}
 use Rattle.fst_epsilon.specs.Construction.{is_alike, merged, put_arc}
 use Rattle.fst_epsilon.specs.Removal.{StandsFor}
 

@@ -14,8 +14,8 @@ use Rattle.fst_machine.specs.Relation.{IsWeight, Rel, RelFrom}
 use Rattle.fst_machine.specs.Distance.{AllArcs, EpsilonArc, Reaches}
 use Rattle.fst_machine.proofs.Letters.{input-append, letters-append, output-append, product-append}
 use Rattle.fst_machine.proofs.PathParts.{IsPath-append}
-use Rattle.fst_distance.specs.Hops.{NoWorse}
-use Rattle.fst_distance.proofs.Order.{after_infinite}
+use Rattle.fst_search.specs.Hops.{NoWorse}
+use Rattle.fst_search.proofs.Order.{after_infinite}
 use Rattle.fst_epsilon.specs.Removal.{Removes}
 
 -- an arc is epsilon or not

@@ -19,7 +19,7 @@ use Rattle.fst_machine.specs.declared.path.Step.{Step}
 use Rattle.fst_machine.proofs.Arcs.{mapped_at}
 use Rattle.fst_machine.proofs.PathParts.{IsPath-append}
 use Rattle.fst_machine.proofs.Valued.{IsMachine-unvalued, IsMachine-valued}
-use Rattle.fst_distance.specs.Closure.{IsClosure, IsSilentCycle, Reached, valued_reached}
+use Rattle.fst_search.specs.Closure.{IsClosure, IsSilentCycle, Reached, valued_reached}
 use Rattle.fst_epsilon.specs.Answers.{IsFine, IsImprovingSilently, IsRemovedMachine, IsRemovedState, KeepsWeights, Stops}
 use Rattle.fst_epsilon.specs.Construction.{IsClosureList, IsRemoved, best_final, collected, merged}
 use Rattle.fst_epsilon.specs.Gathering.{pairs_of, rank}

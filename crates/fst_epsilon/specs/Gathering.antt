@@ -1,7 +1,7 @@
 -- The closure of a state as a list that is gone through.
 use Rattle.std.specs.Prelude.{ℕ, ◌+◌, List, if◌then◌else◌, map, nat_eq}
 use Rattle.fst_semiring.specs.Cost.{Cost}
-use Rattle.fst_distance.specs.Closure.{Reached}
+use Rattle.fst_search.specs.Closure.{Reached}
 
 -- the state itself before all others, and these by number
 abbrev pub rank : ℕ → ℕ → ℕ

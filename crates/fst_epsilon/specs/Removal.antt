@@ -7,7 +7,7 @@ use Rattle.fst_semiring.specs.Semiring.{times}
 use Rattle.fst_machine.specs.Machine.{Arc}
 use Rattle.fst_machine.specs.Graph.{Graph}
 use Rattle.fst_machine.specs.Distance.{EpsilonArc, Reaches}
-use Rattle.fst_distance.specs.Hops.{NoWorse}
+use Rattle.fst_search.specs.Hops.{NoWorse}
 
 -- both have the same labels and lead to the same name
 pub record StandsFor {N : Type 0} (a b : Arc Cost N) : Type 0 where

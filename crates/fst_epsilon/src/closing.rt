@@ -2,10 +2,10 @@
 
 ghost use Rattle.std.specs.Prelude.{◌≡◌, ℕ};
 ghost use Rattle.std.specs.List.Sorted.{IsNonDecreasingBy, IsPermutation};
-ghost use Rattle.fst_distance.specs.Closure.{Reached as ReachedValue};
+ghost use Rattle.fst_search.specs.Closure.{Reached as ReachedValue};
 ghost use Rattle.fst_epsilon.specs.Gathering.{rank};
 
-use fst_distance::Reached;
+use fst_search::Reached;
 
 /// A number by which the state itself stands before all others, and these by number.
 fn rank_of(own: u32, state: u32) -> u64

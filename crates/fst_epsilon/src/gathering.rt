@@ -6,14 +6,14 @@ ghost use Rattle.fst_semiring.specs.Semiring.{times, InRange, IsWide};
 ghost use Rattle.fst_machine.specs.Graph.{graph_of};
 ghost use Rattle.fst_machine.specs.Machine.{valued, valued_arc, valued_state};
 ghost use Rattle.fst_machine.specs.Narrowing.{IsInRange};
-ghost use Rattle.fst_distance.specs.Closure.{Reached as ReachedValue, valued_reached};
+ghost use Rattle.fst_search.specs.Closure.{Reached as ReachedValue, valued_reached};
 ghost use Rattle.fst_epsilon.specs.Construction.{best_final, collected, merged, spoken};
 ghost use Rattle.fst_epsilon.specs.Gathering.{pairs_of};
 ghost use Rattle.fst_epsilon.specs.Merging.{AreMarked, ArePaired};
 
 use crate::few::Few;
 use crate::merged::Merged;
-use fst_distance::Reached;
+use fst_search::Reached;
 use fst_machine::{Fst, FstArc, WideArc};
 use fst_semiring::{Weight, is_zero};
 use std::alloc::{AllocError, Global};

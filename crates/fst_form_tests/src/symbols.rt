@@ -1,6 +1,6 @@
 //! Worked examples of symbol tables.
 
-use fst_symbols::{SymbolTable, SymbolsFault};
+use fst_symbols::{AddSymbolFault, SymbolTable, SymbolsFault};
 use std::test::Fail;
 
 const DENSE: &[u8] = b"<eps> 0\na 1\nb 2\n";
@@ -71,4 +71,47 @@ fn names_the_first_fault(rt: HostRuntime) {
         let fault = SymbolTable::read(rt.alloc(), text).err();
         assert!(rt; fault == Some(*want), "{text:?} gives {fault:?}");
     }
+}
+
+/// A name and a number that are added one after the other, and what is answered.
+static ADDED: [(&[u8], u32, Result<(), AddSymbolFault>); 9] = [
+    (b"a", 1, Ok(())),
+    (b"a", 2, Err(AddSymbolFault::SymbolTaken)),
+    (b"b", 1, Err(AddSymbolFault::NumberTaken)),
+    (b"a", 1, Err(AddSymbolFault::SymbolTaken)),
+    (b"<eps>", 0, Ok(())),
+    (b"b", 2147483647, Ok(())),
+    (b"c", 2147483647, Err(AddSymbolFault::NumberTaken)),
+    (b"b", 0, Err(AddSymbolFault::SymbolTaken)),
+    (b"\xc3\xa4", 3, Ok(())),
+];
+
+/// The symbols that stand then.
+static STANDING: [(&[u8], u32); 4] = [
+    (b"a", 1),
+    (b"<eps>", 0),
+    (b"b", 2147483647),
+    (b"\xc3\xa4", 3),
+];
+
+#[test]
+fn adds_or_leaves_the_table(rt: HostRuntime) {
+    let mut table = SymbolTable::new(rt.alloc());
+    assert!(rt; table.len() == 0);
+    for (name, number, want) in &ADDED {
+        let before = table.len();
+        let answer = table.add(rt.alloc(), name, *number);
+        assert!(rt; answer == *want, "{name:?} {number} gives {answer:?}");
+        assert!(rt; table.len() == before + u64::from(answer.is_ok()));
+    }
+    assert!(rt; table.len() == STANDING.len() as u64);
+    for place in 0..STANDING.len() {
+        let (name, number) = table.pair(place as u64);
+        let (want, wanted) = STANDING[place];
+        assert!(rt; name == want && number == wanted, "at {place}");
+        assert!(rt; table.find(want) == Some(wanted));
+        assert!(rt; table.name(wanted).is_some_and(|own| own == want));
+    }
+    assert!(rt; table.name_bytes() == 9);
+    assert!(rt; table.mean_name_length() == 3);
 }

@@ -1,6 +1,6 @@
-//! Arc types by their names, and the weights that they choose.
+//! Arc types by their names.
 
-use fst_semiring::{ArcType, ByWeight, Weight, by_arc_type};
+use fst_semiring::ArcType;
 
 /// Names of arc types, and bytes that are no name.
 static NAMES: [(&[u8], Option<ArcType>); 9] = [
@@ -32,35 +32,5 @@ fn finds_an_arc_type_by_its_name(rt: HostRuntime) {
     }
     for count in &NO_LENGTHS {
         assert!(rt; !ArcType::is_length_of_name(*count), "{count}");
-    }
-}
-
-/// Asks the weights for their arc type.
-#[derive(Clone, Copy)]
-struct Kind;
-
-impl ByWeight for Kind {
-    ghost use Rattle.std.specs.Prelude.{◌≡◌};
-
-    type Outcome = ArcType;
-
-    ghost gives = { λ work kind outcome. outcome ≡ kind };
-
-    fn with<W: Weight>(self) -> ArcType {
-        W::KIND
-    }
-}
-
-static KINDS: [ArcType; 4] = [
-    ArcType::Boolean,
-    ArcType::Tropical,
-    ArcType::MinMax,
-    ArcType::Lexicographic,
-];
-
-#[test]
-fn chooses_the_weights_of_an_arc_type(rt: HostRuntime) {
-    for kind in &KINDS {
-        assert!(rt; by_arc_type(*kind, Kind) == *kind, "{kind:?}");
     }
 }

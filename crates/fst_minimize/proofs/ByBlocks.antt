@@ -16,7 +16,7 @@ use Rattle.fst_minimize.specs.Parts.{IsMarked, Marks, Splits}
 use Rattle.fst_minimize.specs.declared.backs.Keyed.{Keyed}
 use Rattle.fst_minimize.specs.declared.parts.Parts.{Parts}
 use Rattle.fst_minimize.proofs.Moved.{moved_to}
-use Rattle.fst_pushing.proofs.Lists.{push_last}
+use Rattle.fst_distance.proofs.Lists.{push_last}
 
 pub alike_sym : (g : Graph ℕ) (p q : ℕ) → Alike g g p q → Alike g g q p
 alike_sym g p q alike ls w = ((alike ls w).1, (alike ls w).0)

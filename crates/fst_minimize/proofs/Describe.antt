@@ -12,7 +12,7 @@ use Rattle.fst_minimize.specs.declared.weights.WeightKey.{WeightKey}
 use Rattle.fst_minimize.specs.Saying.{Extends, IsByLabel, SaysState}
 use Rattle.fst_minimize.specs.Described.{DescribedBy, OncePlaced}
 use Rattle.fst_minimize.proofs.Ascending.{sorted_ascend}
-use Rattle.fst_pushing.proofs.Lists.{push_at, push_last}
+use Rattle.fst_distance.proofs.Lists.{push_at, push_last}
 use Rattle.fst_minimize.proofs.Said.{says_more}
 
 -- the order by labels is that of the values

@@ -12,7 +12,7 @@ use Rattle.fst_machine.specs.Machine.{Arc}
 use Rattle.fst_machine.specs.Graph.{Graph}
 use Rattle.fst_machine.specs.Letters.{letter_of}
 use Rattle.fst_machine.specs.Distance.{IsFinalDistance}
-use Rattle.fst_pushing.proofs.Potential.{times_not_zero, zero_or_not}
+use Rattle.fst_distance.proofs.Potential.{times_not_zero, zero_or_not}
 use Rattle.fst_minimize.specs.Behaviour.{Alike, IsSingle, Follows}
 use Rattle.fst_minimize.specs.Words.{Weighs, WordWeighs, HasKind}
 use Rattle.fst_minimize.proofs.Stable.{stable_alike}

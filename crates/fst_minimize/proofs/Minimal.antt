@@ -12,7 +12,7 @@ use Rattle.fst_machine.specs.Graph.{Graph, graph_of, no_state}
 use Rattle.fst_machine.specs.Letters.{label_word, product}
 use Rattle.fst_machine.specs.Paths.{Transition, IsPath, letters}
 use Rattle.fst_machine.proofs.Cycles.{state_below}
-use Rattle.fst_pushing.proofs.Potential.{times_not_zero}
+use Rattle.fst_distance.proofs.Potential.{times_not_zero}
 use Rattle.fst_minimize.specs.Behaviour.{Alike, IsSingle, GoesOn}
 use Rattle.fst_minimize.specs.Classes.{HasClasses}
 use Rattle.fst_minimize.specs.Words.{Weighs, WordWeighs, IsWordWeight, HasKind, SameWords}

@@ -4,7 +4,7 @@ use Rattle.std.proofs.lemmas.List.{length-append}
 use Rattle.std.proofs.lemmas.Option.{slice_get-get_or, slice_get_within, same_Some}
 use Rattle.std.specs.Bool.{Decides}
 use Rattle.fst_machine.proofs.Arcs.{at_append_left}
-use Rattle.fst_pushing.proofs.Lists.{push_at, push_last}
+use Rattle.fst_distance.proofs.Lists.{push_at, push_last}
 use Rattle.fst_minimize.specs.Pairs.{IsNext, IsNumberTable, KnowsMore, Spells, packed}
 use Rattle.fst_minimize.specs.Numbered.{AreSmall, IsNumbering, Notes, Reads, Numbers, TellsApart}
 use Rattle.fst_minimize.proofs.Tables.{Spells_more, Spells_same, Spells_once, packed_once}

@@ -13,7 +13,7 @@ use Rattle.fst_machine.specs.Distance.{IsFinalDistance}
 use Rattle.fst_machine.proofs.Elements.{at_Has, Has_at}
 use Rattle.fst_machine.proofs.OneMachine.{one_ascending, one_connected, one_list, one_machine}
 use Rattle.fst_machine.proofs.Weights.{one_least}
-use Rattle.fst_pushing.specs.Pushing.{IsPushed, Pushes, pushed_arc, value_at}
+use Rattle.fst_distance.specs.Pushing.{IsPushed, Pushes, pushed_arc, value_at}
 use Rattle.fst_minimize.specs.Classes.{HasClasses}
 use Rattle.fst_minimize.specs.Laws.{totalled}
 use Rattle.fst_minimize.specs.Minimized.{IsMinimized}

@@ -9,7 +9,7 @@ use Rattle.fst_machine.specs.Graph.{Graph, nexts}
 use Rattle.fst_machine.specs.BreadthFirst.{Has}
 use Rattle.fst_machine.proofs.Arcs.{at_append_left, at_mapped}
 use Rattle.fst_machine.proofs.Elements.{at_Has, Has_at}
-use Rattle.fst_pushing.proofs.Lists.{push_at, push_last}
+use Rattle.fst_distance.proofs.Lists.{push_at, push_last}
 use Rattle.fst_minimize.specs.Along.{AreAlong, Before, IsWhole, Renumbers, seen_of}
 use Rattle.fst_minimize.specs.Behaviour.{Alike}
 use Rattle.fst_minimize.specs.Numbered.{AreRows, RowsBelow, TellsApart, TellsBehaviour, number_in}

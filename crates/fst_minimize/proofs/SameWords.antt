@@ -10,10 +10,10 @@ use Rattle.fst_machine.specs.Paths.{Transition, letters}
 use Rattle.fst_machine.specs.Serving.{Serves}
 use Rattle.fst_machine.proofs.Serving.{served_path}
 use Rattle.fst_machine.proofs.Connected.{connected_serves, machine_serves}
-use Rattle.fst_pushing.specs.Pushing.{IsPushed, value_at}
-use Rattle.fst_pushing.specs.PushLaws.{NoArcIsZero}
-use Rattle.fst_pushing.proofs.PushedMachine.{potential, Below}
-use Rattle.fst_pushing.proofs.PushedPaths.{pushed_path, path_there, path_back, finish_undone, final_there, final_back}
+use Rattle.fst_distance.specs.Pushing.{IsPushed, value_at}
+use Rattle.fst_distance.specs.PushLaws.{NoArcIsZero}
+use Rattle.fst_distance.proofs.PushedMachine.{potential, Below}
+use Rattle.fst_distance.proofs.PushedPaths.{pushed_path, path_there, path_back, finish_undone, final_there, final_back}
 use Rattle.fst_minimize.specs.Classes.{HasClasses}
 use Rattle.fst_minimize.specs.Laws.{IsNormal, totalled}
 use Rattle.fst_minimize.specs.Words.{WordWeighs, IsWordWeight, SameWords}

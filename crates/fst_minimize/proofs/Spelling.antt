@@ -12,7 +12,7 @@ use Rattle.fst_machine.specs.Paths.{Transition, IsPath, letters}
 use Rattle.fst_machine.specs.Distance.{IsFinalDistance}
 use Rattle.fst_machine.proofs.Letters.{label_word-append, product-append, letters-append}
 use Rattle.fst_machine.proofs.PathParts.{IsPath-append}
-use Rattle.fst_pushing.proofs.Potential.{times_not_zero}
+use Rattle.fst_distance.proofs.Potential.{times_not_zero}
 use Rattle.fst_minimize.specs.Behaviour.{IsSingle}
 use Rattle.fst_minimize.specs.Words.{Weighs, HasKind}
 

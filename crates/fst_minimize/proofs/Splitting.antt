@@ -11,7 +11,7 @@ use Rattle.fst_machine.proofs.Narrowing.{all_at}
 use Rattle.fst_minimize.specs.Numbered.{IsNumbering, TellsApart, number_in, SeenRows, SplitsRows, RowsBelow, AreRows, TellsBehaviour}
 use Rattle.fst_minimize.specs.Refining.{IsRefined, IsRound}
 use Rattle.fst_minimize.proofs.Few.{few}
-use Rattle.fst_pushing.proofs.Lists.{push_last}
+use Rattle.fst_distance.proofs.Lists.{push_last}
 use Rattle.fst_minimize.proofs.Refining.{EndsBelow, round_refined, round_last}
 
 -- nothing is seen at first

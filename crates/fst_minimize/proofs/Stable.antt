@@ -9,7 +9,7 @@ use Rattle.fst_machine.specs.Graph.{Graph}
 use Rattle.fst_machine.specs.Letters.{Letter, letter_of, input, output, product}
 use Rattle.fst_machine.specs.Paths.{Transition, IsPath, letters}
 use Rattle.fst_machine.specs.Relation.{RelFrom}
-use Rattle.fst_pushing.proofs.Potential.{zero_or_not}
+use Rattle.fst_distance.proofs.Potential.{zero_or_not}
 use Rattle.fst_minimize.specs.Behaviour.{Behaves, Alike, IsSingle, GoesOn, Follows, IsStable}
 use Rattle.fst_minimize.specs.Laws.{StableLaw, BehaviourLaws}
 

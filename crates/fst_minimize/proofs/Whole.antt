@@ -13,10 +13,10 @@ use Rattle.fst_machine.proofs.Arcs.{mapped_at}
 use Rattle.fst_machine.proofs.Cycles.{state_below}
 use Rattle.fst_machine.proofs.Narrowing.{all_at}
 use Rattle.fst_trim.specs.FirstArcs.{IsAcceptor, IsDeterministic}
-use Rattle.fst_pushing.specs.Pushing.{IsPushed, value_at}
-use Rattle.fst_pushing.specs.PushLaws.{NoArcIsZero}
-use Rattle.fst_pushing.proofs.PushedMachine.{potential, pushed_one, pushed_next, pushed_start, pushed_trim, pushed_some, pushed_acceptor, pushed_once}
-use Rattle.fst_pushing.proofs.View.{valued_at}
+use Rattle.fst_distance.specs.Pushing.{IsPushed, value_at}
+use Rattle.fst_distance.specs.PushLaws.{NoArcIsZero}
+use Rattle.fst_distance.proofs.PushedMachine.{potential, pushed_one, pushed_next, pushed_start, pushed_trim, pushed_some, pushed_acceptor, pushed_once}
+use Rattle.fst_distance.proofs.View.{valued_at}
 use Rattle.fst_minimize.specs.Behaviour.{IsSingle}
 use Rattle.fst_minimize.specs.Classes.{HasClasses}
 use Rattle.fst_minimize.specs.Described.{OfKind, OncePlacedAll}

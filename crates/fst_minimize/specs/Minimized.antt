@@ -7,8 +7,8 @@ use Rattle.fst_machine.specs.Graph.{graph_of}
 use Rattle.fst_machine.specs.Cycles.{IsUseful}
 use Rattle.fst_machine.specs.Narrowing.{IsFirstPast}
 use Rattle.fst_trim.specs.FirstArcs.{HasTwoLabels, Repeats, IsFirstArc, IsAcceptor, IsDeterministic}
-use Rattle.fst_distance.specs.Distances.{IsListed, NoneImproves}
-use Rattle.fst_pushing.specs.Pushing.{IsPushed}
+use Rattle.fst_search.specs.Distances.{IsListed, NoneImproves}
+use Rattle.fst_distance.specs.Pushing.{IsPushed}
 use Rattle.fst_minimize.specs.Classes.{HasClasses}
 use Rattle.fst_minimize.specs.Laws.{totalled}
 use Rattle.fst_minimize.specs.declared.fault.MinimizeFault.{MinimizeFault}

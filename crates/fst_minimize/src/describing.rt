@@ -14,9 +14,9 @@ ghost use Rattle.fst_minimize.specs.Saying.{Extends, IsByLabel, SaysArcs};
 use crate::numberer::{Numberer, Numbering};
 use crate::rows::Rows;
 use crate::weights::{WeightKey, key_of, number_weight};
+use fst_distance::Pushing;
 use fst_keys::KeySet;
 use fst_machine::WideArc;
-use fst_pushing::Pushing;
 use fst_semiring::Weight;
 use std::alloc::{AllocError, Global};
 

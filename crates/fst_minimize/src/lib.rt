@@ -24,4 +24,4 @@ mod rows;
 mod weights;
 
 pub use fault::MinimizeFault;
-pub use minimizing::{minimize, minimize_boxed};
+pub use minimizing::minimize;

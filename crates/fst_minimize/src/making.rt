@@ -8,7 +8,7 @@ ghost use Rattle.fst_semiring.specs.Semiring.{Within};
 ghost use Rattle.fst_machine.specs.Graph.{graph_of, renamed};
 ghost use Rattle.fst_machine.specs.Machine.{Machine, arc_total, most_arcs, valued, valued_arc, valued_state};
 ghost use Rattle.fst_machine.specs.Narrowing.{IsCause, IsInRange};
-ghost use Rattle.fst_pushing.specs.Values.{most_distance};
+ghost use Rattle.fst_distance.specs.Values.{most_distance};
 ghost use Rattle.fst_minimize.specs.Classes.{class_machine, class_state};
 ghost use Rattle.fst_minimize.specs.Described.{OfKind};
 ghost use Rattle.fst_minimize.specs.Laws.{totalled, totalled_state};
@@ -18,8 +18,8 @@ ghost use Rattle.fst_minimize.specs.Ready.{IsReady};
 use crate::describing::describe;
 use crate::numberer::Numbering;
 use crate::rounds::refine;
+use fst_distance::Pushing;
 use fst_machine::{Fst, FstArc, NarrowFault, StateList, WideArc, narrow_state};
-use fst_pushing::Pushing;
 use fst_semiring::Weight;
 use std::alloc::{AllocError, Global};
 

@@ -6,16 +6,16 @@ ghost use Rattle.fst_machine.specs.Graph.{graph_of};
 ghost use Rattle.fst_machine.specs.Machine.{valued};
 ghost use Rattle.fst_machine.specs.Narrowing.{IsInRange};
 ghost use Rattle.fst_trim.specs.FirstArcs.{IsAcceptor, IsDeterministic};
-ghost use Rattle.fst_distance.specs.Distances.{NoneImproves};
+ghost use Rattle.fst_search.specs.Distances.{NoneImproves};
 ghost use Rattle.fst_minimize.specs.Minimized.{IsMinimizeFault, IsMinimized};
 ghost use Rattle.fst_minimize.specs.Words.{IsMinimal, SameWords};
 
 use crate::fault::MinimizeFault;
 use crate::making::{make, number_classes};
-use fst_distance::DistanceFault;
+use fst_distance::push_lazily;
 use fst_machine::{Fst, NarrowFault, Step};
-use fst_pushing::push_lazily;
 use fst_queue::StateQueue;
+use fst_search::DistanceFault;
 use fst_semiring::Weight;
 use fst_trim::{Handed, not_acceptor_at, not_deterministic_at};
 use std::alloc::Global;
@@ -34,12 +34,12 @@ use std::alloc::Global;
 ///
 /// Time: that of the distances, and linear in the states and the arcs where no path comes back to a state, else at worst n
 /// times the square of log n in them. Space: linear.
-pub fn minimize<W: Weight, Q: StateQueue>(
+pub fn minimize<W: Weight>(
     alloc: Global,
     fst: &Fst<W>,
-    queue: &mut Q,
+    queue: &mut Box<dyn StateQueue>,
 ) -> Result<Fst<W>, MinimizeFault>
-    requires { Q.members queue.old ≡ [] }
+    requires { members queue.old ≡ [] }
     ensures machine { IfOk result (λ r. IsMinimized W.KIND (valued W.value fst.now) (valued W.value r)) }
     ensures words { IfOk result (λ r. SameWords W.KIND (graph_of (valued W.value fst.now)) (graph_of (valued W.value r))) }
     ensures minimal { IfOk result (λ r. W.CANCELS ≡ true → IsMinimal W.KIND (valued W.value r)) }
@@ -48,7 +48,7 @@ pub fn minimize<W: Weight, Q: StateQueue>(
     ensures none { OnOk result (NoneImproves W.KIND (graph_of (valued W.value fst.now)) (IsUseful (graph_of (valued W.value fst.now)))) }
     ensures range { IfOk result (λ r. All IsInRange (valued W.value r).states) }
     ensures fault { IfErr result (IsMinimizeFault W.KIND fst.now (valued W.value fst.now)) }
-    ensures empty { OnOk result (Q.members queue.new ≡ []) }
+    ensures empty { OnOk result (members queue.new ≡ []) }
 {
     let _states = fst.states();
     match not_acceptor_at(fst) {
@@ -76,24 +76,4 @@ pub fn minimize<W: Weight, Q: StateQueue>(
         Err(NarrowFault::Overflow { state }) => Err(MinimizeFault::Overflow { state }),
         Err(NarrowFault::Memory) => Err(MinimizeFault::Memory),
     }
-}
-
-/// The same with a queue in a box.
-pub fn minimize_boxed<W: Weight>(
-    alloc: Global,
-    fst: &Fst<W>,
-    queue: &mut Box<dyn StateQueue>,
-) -> Result<Fst<W>, MinimizeFault>
-    requires { members queue.old ≡ [] }
-    ensures machine { IfOk result (λ r. IsMinimized W.KIND (valued W.value fst.now) (valued W.value r)) }
-    ensures words { IfOk result (λ r. SameWords W.KIND (graph_of (valued W.value fst.now)) (graph_of (valued W.value r))) }
-    ensures minimal { IfOk result (λ r. W.CANCELS ≡ true → IsMinimal W.KIND (valued W.value r)) }
-    ensures acceptor { OnOk result (IsAcceptor fst.now) }
-    ensures deterministic { OnOk result (IsDeterministic fst.now) }
-    ensures none { OnOk result (NoneImproves W.KIND (graph_of (valued W.value fst.now)) (IsUseful (graph_of (valued W.value fst.now)))) }
-    ensures range { IfOk result (λ r. All IsInRange (valued W.value r).states) }
-    ensures fault { IfErr result (IsMinimizeFault W.KIND fst.now (valued W.value fst.now)) }
-    ensures empty { OnOk result (members queue.new ≡ []) }
-{
-    minimize(alloc, fst, queue)
 }

@@ -12,8 +12,8 @@ use Rattle.fst_machine.specs.BreadthFirst.{Has}
 use Rattle.fst_machine.specs.Machine.{Arc, IsMachine, Machine, State, valued, valued_state}
 use Rattle.fst_machine.specs.Graph.{graph_of, no_state}
 use Rattle.fst_trim.specs.Links.{Link, turned_links}
-use Rattle.fst_distance.specs.Hops.{Hop}
-use Rattle.fst_distance.proofs.MachineHops.{back_all, back_only}
+use Rattle.fst_search.specs.Hops.{Hop}
+use Rattle.fst_search.proofs.MachineHops.{back_all, back_only}
 use Rattle.fst_nbest.specs.Counts.{Ends, Hops, IsLeastCount, count_of, uncounted}
 use Rattle.fst_nbest.specs.Words.{Says}
 use Rattle.fst_nbest.specs.PathWords.{arc_step, path_words, toward, IsCount}

@@ -30,7 +30,7 @@ use Rattle.fst_nbest.specs.Heap.{FirstLeaves}
 use Rattle.fst_queue.specs.HeapOrder.{NotAfter}
 use Rattle.fst_nbest.specs.PathWords.{AreDistances, HasSolidArcs}
 use Rattle.fst_nbest.specs.FirstPaths.{AreFirstPaths, IsTraceable, traced}
-use Rattle.fst_distance.proofs.MachineHops.{arc_good}
+use Rattle.fst_search.proofs.MachineHops.{arc_good}
 use Rattle.fst_nbest.proofs.Searches.{Has-map, map_Has}
 use Rattle.fst_nbest.proofs.PathWords.{no_better, one_path, reaches}
 use Rattle.fst_nbest.proofs.BestHops.{final_low}

@@ -16,8 +16,8 @@ use Rattle.fst_machine.specs.Graph.{Graph, graph_of}
 use Rattle.fst_machine.specs.Paths.{Transition, IsPath, letters}
 use Rattle.fst_machine.specs.PathOrder.{arc_places}
 use Rattle.fst_trim.specs.Links.{Link, turned_links}
-use Rattle.fst_distance.proofs.Finishing.{known_turned}
-use Rattle.fst_distance.proofs.MachineHops.{arc_good}
+use Rattle.fst_search.proofs.Finishing.{known_turned}
+use Rattle.fst_search.proofs.MachineHops.{arc_good}
 use Rattle.fst_nbest.specs.Counts.{Ends, Hops, IsLeastCount, count_of, uncounted}
 use Rattle.fst_nbest.specs.declared.turns.Turn.{Turn}
 use Rattle.fst_nbest.specs.Turns.{HasTurn}

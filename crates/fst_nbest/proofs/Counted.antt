@@ -6,7 +6,7 @@ use Rattle.std.proofs.lemmas.List.Elements.{All-push}
 use Rattle.std.proofs.lemmas.Option.{get_or_from_slice_get, same_Some, slice_get_read, slice_get_within}
 use Rattle.std.specs.List.{All}
 use Rattle.fst_machine.specs.BreadthFirst.{Has, Apart}
-use Rattle.fst_distance.proofs.MachineHops.{all_at}
+use Rattle.fst_search.proofs.MachineHops.{all_at}
 use Rattle.fst_machine.proofs.Arcs.{append_at, at_append_left}
 use Rattle.fst_machine.proofs.Elements.{Has-append_left, Has-append_right, Has-append_cases, at_Has, Has_at, Apart_below, Apart-push}
 use Rattle.fst_nbest.specs.Counts.{AreStops, Ends, IsLeastCount, Meets, MeetsAll, count_of, uncounted}

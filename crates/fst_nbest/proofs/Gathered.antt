@@ -17,10 +17,10 @@ use Rattle.fst_machine.specs.Cycles.{IsAccessible}
 use Rattle.fst_machine.specs.Distance.{IsFinalDistance}
 use Rattle.fst_machine.proofs.Arcs.{at_mapped}
 use Rattle.fst_machine.proofs.Connected.{accessible_next}
-use Rattle.fst_distance.specs.Distances.{IsUsefulDistance}
-use Rattle.fst_distance.specs.Searching.{most_number}
-use Rattle.fst_distance.proofs.Links.{arcs_in_graph, arcs_of}
-use Rattle.fst_distance.proofs.MachineHops.{arc_before, arc_good}
+use Rattle.fst_search.specs.Distances.{IsUsefulDistance}
+use Rattle.fst_search.specs.Searching.{most_number}
+use Rattle.fst_search.proofs.Links.{arcs_in_graph, arcs_of}
+use Rattle.fst_search.proofs.MachineHops.{arc_before, arc_good}
 use Rattle.fst_nbest.specs.Ready.{HasDistances, dist_in, most_distance}
 
 -- what stands in a place of a list, unless it is past the end

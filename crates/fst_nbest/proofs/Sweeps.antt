@@ -21,8 +21,8 @@ use Rattle.fst_machine.specs.Paths.{Transition, IsPath, letters}
 use Rattle.fst_machine.proofs.Arcs.{at_mapped}
 use Rattle.fst_machine.proofs.Letters.{letters-append, product-append}
 use Rattle.fst_machine.proofs.PathParts.{IsPath-append}
-use Rattle.fst_distance.proofs.Links.{arcs_in_graph}
-use Rattle.fst_distance.proofs.MachineHops.{arc_good}
+use Rattle.fst_search.proofs.Links.{arcs_in_graph}
+use Rattle.fst_search.proofs.MachineHops.{arc_good}
 use Rattle.fst_nbest.specs.Counts.{count_of, uncounted}
 use Rattle.fst_nbest.specs.declared.sweeping.Near.{Near}
 use Rattle.fst_nbest.specs.PathWords.{AreDistances, HasSolidArcs, IsCount, path_words}

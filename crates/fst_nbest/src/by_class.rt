@@ -26,7 +26,7 @@ use crate::naming::{is_reached_by, named};
 use crate::totals::{ByWeight, totals_of};
 use crate::traced::put_traced;
 use crate::values::is_same;
-use fst_distance::Widens;
+use fst_search::Widens;
 use fst_machine::{Paths, Steps};
 use fst_semiring::Weight;
 use fst_trim::Links;

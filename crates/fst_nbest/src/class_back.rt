@@ -6,7 +6,7 @@ ghost use Rattle.fst_nbest.specs.Classes.{name_at};
 
 use crate::counting::Backward;
 use crate::naming::{is_fitting, is_reached_by, is_under, named, parted};
-use fst_distance::Widens;
+use fst_search::Widens;
 use fst_semiring::Weight;
 use fst_trim::{Link, Links};
 use std::alloc::AllocError;

@@ -14,7 +14,7 @@ use crate::counting::UNCOUNTED;
 use crate::naming::{is_fitting, is_reached_by, is_under, named, parted};
 use crate::system::System;
 use crate::turns::{Turn, in_order};
-use fst_distance::Widens;
+use fst_search::Widens;
 use fst_machine::FstArc;
 use fst_semiring::{Boolean, Weight};
 use std::alloc::{AllocError, Global};

@@ -6,10 +6,10 @@ ghost use Rattle.fst_semiring.specs.Semiring.{IsCost};
 ghost use Rattle.fst_machine.specs.Cycles.{IsUseful};
 ghost use Rattle.fst_machine.specs.Graph.{graph_of};
 ghost use Rattle.fst_machine.specs.Machine.{Arc, valued};
-ghost use Rattle.fst_distance.specs.Distances.{IfImproving, IsListed, NoneImproves};
+ghost use Rattle.fst_search.specs.Distances.{IfImproving, IsListed, NoneImproves};
 ghost use Rattle.fst_nbest.specs.Ready.{HasDistances};
 
-use fst_distance::{DistanceFault, Widens, useful_distances};
+use fst_search::{DistanceFault, Widens, useful_distances};
 use fst_machine::FstArc;
 use fst_queue::{BestFirst, Fifo};
 use fst_semiring::Weight;

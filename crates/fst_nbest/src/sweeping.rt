@@ -5,7 +5,7 @@ ghost use Rattle.fst_semiring.specs.Cost.{infinite};
 ghost use Rattle.fst_semiring.specs.Semiring.{IsCost, Within, cancels, times};
 ghost use Rattle.fst_machine.specs.Machine.{valued};
 ghost use Rattle.fst_machine.specs.Graph.{graph_of};
-ghost use Rattle.fst_distance.specs.Distances.{NoneImproves};
+ghost use Rattle.fst_search.specs.Distances.{NoneImproves};
 ghost use Rattle.fst_machine.specs.Cycles.{IsUseful};
 ghost use Rattle.fst_nbest.specs.Counts.{count_of, uncounted};
 ghost use Rattle.fst_nbest.specs.PathWords.{HasSolidArcs};
@@ -15,7 +15,7 @@ ghost use Rattle.fst_nbest.specs.Words.{NoLess};
 
 use crate::counting::UNCOUNTED;
 use crate::measured::has_better;
-use fst_distance::Widens;
+use fst_search::Widens;
 use fst_machine::FstArc;
 use fst_semiring::Weight;
 use fst_trim::AsMachine;

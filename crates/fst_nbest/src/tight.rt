@@ -6,7 +6,7 @@ ghost use Rattle.fst_nbest.specs.Ready.{dist_in, most_distance};
 
 use crate::counting::Backward;
 use crate::values::{is_same, is_zero_wide};
-use fst_distance::Widens;
+use fst_search::Widens;
 use fst_semiring::Weight;
 use fst_trim::{Link, Links};
 use std::alloc::AllocError;

@@ -12,7 +12,7 @@ ghost use Rattle.fst_nbest.specs.Totals.{HasTotals, Keeps, MayTotal, wide_cmp};
 use crate::heap::{Earlier, put};
 use crate::naming::is_under;
 use crate::values::is_zero_wide;
-use fst_distance::Widens;
+use fst_search::Widens;
 use fst_machine::FstArc;
 use fst_semiring::Weight;
 use std::alloc::{AllocError, Global};

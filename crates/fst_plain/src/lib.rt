@@ -2,6 +2,8 @@
 //!
 //! The contract of each is the definition itself, over paths of at most so many arcs: the weight of a pair of
 //! strings, distances, all successful paths in their order; and the breadth-first list.
+//!
+//! No wrong body is tried in this crate, since tests alone stand on it.
 #![tactic(auto)]
 
 mod cost;

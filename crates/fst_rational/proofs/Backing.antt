@@ -8,6 +8,7 @@ use Rattle.std.proofs.lemmas.List.{ext_get_or, get_or-append-add, length-append,
 use Rattle.std.proofs.lemmas.List.Elements.{All-append, All-cons, All-head, All-map, All-nil, All-tail}
 use Rattle.std.proofs.lemmas.List.FromFn.{get_or-map-range_with_len, length-map-range_with_len}
 use Rattle.std.proofs.lemmas.List.Sums.{sum_by-cons}
+use Rattle.std.proofs.lemmas.Option.{slice_get-get_or}
 use Rattle.fst_machine.proofs.Arcs.{mapped_some}
 use Rattle.fst_semiring.specs.Cost.{Cost, best, finite, infinite}
 use Rattle.fst_semiring.specs.declared.arc_type.ArcType.{ArcType}
@@ -105,11 +106,11 @@ pub length-put_all : (q : ℕ) (rest states : List (State Cost)) → length (put
 length-put_all q [] states = refl
 length-put_all q (s ∷ rest) states = length-put_all (suc q) rest (put_back q s.arcs states) ∙ length-put_back q s.arcs states
 
-pub put_all_first : (q : ℕ) (rest states : List (State Cost)) → get_or (put_all q rest states) 0 no_state ≡ get_or states 0 no_state
+put_all_first : (q : ℕ) (rest states : List (State Cost)) → get_or (put_all q rest states) 0 no_state ≡ get_or states 0 no_state
 put_all_first q [] states = refl
 put_all_first q (s ∷ rest) states = put_all_first (suc q) rest (put_back q s.arcs states) ∙ put_back_first q s.arcs states
 
-pub put_all_at : (q : ℕ) (rest states : List (State Cost)) (n r : ℕ) → length states ≡ n + 1 → All (λ s. All (IsArc (λ v. v) n) s.arcs) rest → get_or (put_all q rest states) (1 + r) no_state ≡ record { final = (get_or states (1 + r) no_state).final; arcs = (get_or states (1 + r) no_state).arcs ++ turned_arcs r q rest }
+put_all_at : (q : ℕ) (rest states : List (State Cost)) (n r : ℕ) → length states ≡ n + 1 → All (λ s. All (IsArc (λ v. v) n) s.arcs) rest → get_or (put_all q rest states) (1 + r) no_state ≡ record { final = (get_or states (1 + r) no_state).final; arcs = (get_or states (1 + r) no_state).arcs ++ turned_arcs r q rest }
 put_all_at q [] states n r size good = λ i. record { final = (get_or states (1 + r) no_state).final; arcs = sym (append-nil (get_or states (1 + r) no_state).arcs) i }
 put_all_at q (s ∷ rest) states n r size good =
     let Good : State Cost → Type 0 = λ t. All (IsArc (λ v. v) n) t.arcs in
@@ -260,11 +261,13 @@ range_more a (suc n) =
 
 module _ {V : Type 0} (value : V → Cost) where
   -- one more arc is put back
-  pub back_step : (q : ℕ) (x y : Arc V ℕ) (left rest : List (Arc Cost ℕ)) (old new : List (State V)) (whole : List (State Cost)) → left ≡ valued_arc value x ∷ rest → y ≡ x → new ≡ changed (with_arc (back q y)) old (1 + y.next) → put_back q left (map (valued_state value) old) ≡ whole → put_back q rest (map (valued_state value) new) ≡ whole
-  back_step q x y left rest old new whole first same put so_far =
+  pub back_step : (q : ℕ) (arcs : List (Arc V ℕ)) (i : ℕ) (x y : Arc V ℕ) (old new : List (State V)) (whole : List (State Cost)) → i < length arcs → x ≡ get_or arcs i x → y ≡ x → new ≡ changed (with_arc (back q y)) old (1 + y.next) → put_back q (drop i (map (valued_arc value) arcs)) (map (valued_state value) old) ≡ whole → put_back q (drop (i + 1) (map (valued_arc value) arcs)) (map (valued_state value) new) ≡ whole
+  back_step q arcs i x y old new whole low at same put so_far =
+      let there : slice_get arcs i ≡ Some x = slice_get-get_or arcs i x low ∙ ap (λ (z : Arc V ℕ). Some z) (sym at) in
+      let rest = drop (i + 1) (map (valued_arc value) arcs) in
       let grown : map (valued_state value) new ≡ changed (with_arc (back q (valued_arc value x))) (map (valued_state value) old) (1 + x.next) =
       ap (map (valued_state value)) put ∙ (map-with_arc value (back q y) old (1 + y.next) ∙ ap (λ (z : Arc V ℕ). changed (with_arc (back q (valued_arc value z))) (map (valued_state value) old) (1 + z.next)) same) in
-      ap (put_back q rest) grown ∙ (ap (λ zs. put_back q zs (map (valued_state value) old)) (sym first) ∙ so_far)
+      ap (put_back q rest) grown ∙ (ap (λ zs. put_back q zs (map (valued_state value) old)) (sym (left (valued_arc value) arcs i x there)) ∙ so_far)
 
   -- the arcs of one more state are put back
   pub all_step : (states : List (State V)) (i : ℕ) (arcs : List (Arc V ℕ)) → option_map (λ s. s.arcs) (slice_get states i) ≡ Some arcs → (old new whole : List (State Cost)) → put_all (i + 1) (drop i (map (valued_state value) states)) old ≡ whole → new ≡ put_back (i + 1) (map (valued_arc value) arcs) old → put_all (i + 1 + 1) (drop (i + 1) (map (valued_state value) states)) new ≡ whole

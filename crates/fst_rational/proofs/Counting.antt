@@ -5,6 +5,7 @@ use Rattle.std.specs.Option.{option_map}
 use Rattle.std.proofs.lemmas.List.{length-append, length-map}
 use Rattle.std.proofs.lemmas.List.FromFn.{length-range_with_len}
 use Rattle.std.proofs.lemmas.List.Sums.{sum_by-cons}
+use Rattle.std.proofs.lemmas.Option.{slice_get-get_or}
 use Rattle.fst_semiring.specs.Cost.{Cost, best, finite, infinite, is_infinite}
 use Rattle.fst_semiring.specs.declared.arc_type.ArcType.{ArcType}
 use Rattle.fst_machine.specs.Machine.{Arc, State, Machine, IsMachine, arc_total, changed, valued_arc, valued_state, with_arc}
@@ -160,11 +161,13 @@ drop_total whole i low = let next : suc i ≡ i + 1 = omega arith in go whole i 
     go (s ∷ whole) (suc i) low = go whole i (omega (arith, low))
 
 -- there is room for the first of the arcs that are put back
-pub room_here : {V : Type 0} (value : V → Cost) (q : ℕ) (x : Arc V ℕ) (left rest : List (Arc Cost ℕ)) (states : List (State V)) (whole : List (State Cost)) → left ≡ valued_arc value x ∷ rest → put_back q left (map (valued_state value) states) ≡ whole → 1 + x.next < length states → get_or (arc_counts states) (1 + x.next) 0 < get_or (arc_counts whole) (1 + x.next) 0
-room_here {V} value q x left rest states whole first becomes place =
+pub room_here : {V : Type 0} (value : V → Cost) (q : ℕ) (arcs : List (Arc V ℕ)) (i : ℕ) (x : Arc V ℕ) (states : List (State V)) (whole : List (State Cost)) → i < length arcs → x ≡ get_or arcs i x → put_back q (drop i (map (valued_arc value) arcs)) (map (valued_state value) states) ≡ whole → 1 + x.next < length states → get_or (arc_counts states) (1 + x.next) 0 < get_or (arc_counts whole) (1 + x.next) 0
+room_here {V} value q arcs i x states whole low at becomes place =
+    let there : slice_get arcs i ≡ Some x = slice_get-get_or arcs i x low ∙ ap (λ (z : Arc V ℕ). Some z) (sym at) in
+    let rest = drop (i + 1) (map (valued_arc value) arcs) in
     let counts : counted_back (valued_arc value x ∷ rest) (arc_counts states) ≡ arc_counts whole =
-    ap₂ (λ (zs : List (Arc Cost ℕ)) (ns : List ℕ). counted_back zs ns) (sym first) (sym (counts-valued value states))
-    ∙ (sym (counts_put q left (map (valued_state value) states)) ∙ ap (λ (ss : List (State Cost)). arc_counts ss) becomes) in
+    ap₂ (λ (zs : List (Arc Cost ℕ)) (ns : List ℕ). counted_back zs ns) (sym (left (valued_arc value) arcs i x there)) (sym (counts-valued value states))
+    ∙ (sym (counts_put q (drop i (map (valued_arc value) arcs)) (map (valued_state value) states)) ∙ ap (λ (ss : List (State Cost)). arc_counts ss) becomes) in
     let size : length (arc_counts states) ≡ length states = length-map states (λ (s : State V). length s.arcs) in
     omega (arith, counted_here (valued_arc value x) rest (arc_counts states) (omega (arith, place, size)), ap (λ ns. get_or ns (1 + x.next) 0) counts)
 

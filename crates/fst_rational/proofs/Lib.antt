@@ -16,4 +16,3 @@ pub mod Closing
 pub mod Reversing
 pub mod Backing
 pub mod Counting
-pub mod Banding

@@ -1,6 +1,6 @@
 -- Arcs that are put back where they lead, one after the other.
-use Rattle.std.specs.Prelude.{ℕ, ◌+◌, suc, ◌&&◌, leb, ltb, List, [], ◌∷◌, ◌++◌, length, map}
-use Rattle.std.specs.List.{filter, range_with_len}
+use Rattle.std.specs.Prelude.{ℕ, ◌+◌, suc, List, [], ◌∷◌, ◌++◌, length, map}
+use Rattle.std.specs.List.{range_with_len}
 use Rattle.fst_semiring.specs.Cost.{Cost, infinite}
 use Rattle.fst_semiring.specs.declared.arc_type.ArcType.{ArcType}
 use Rattle.fst_machine.specs.Machine.{Arc, State, Machine, changed, with_arc}
@@ -19,14 +19,6 @@ put_back q (a ∷ arcs) states = put_back q arcs (changed (with_arc (back q a)) 
 abbrev pub put_all : ℕ → List (State Cost) → List (State Cost) → List (State Cost)
 put_all q [] states = states
 put_all q (s ∷ rest) states = put_all (suc q) rest (put_back q s.arcs states)
-
--- those of these arcs that lead to the states from `first` on, before `behind`
-abbrev pub arcs_into : {V : Type 0} → ℕ → ℕ → List (Arc V ℕ) → List (Arc V ℕ)
-arcs_into first behind arcs = filter (λ a. leb first a.next && ltb a.next behind) arcs
-
--- the state with these of its arcs alone
-abbrev pub state_into : {V : Type 0} → ℕ → ℕ → State V → State V
-state_into first behind s = record { final = s.final; arcs = arcs_into first behind s.arcs }
 
 -- a state that has no arcs yet
 abbrev pub turned_bare : ArcType → Machine Cost → ℕ → State Cost

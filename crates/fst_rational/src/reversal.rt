@@ -4,7 +4,7 @@ ghost use Rattle.std.specs.Prelude.{◌≡◌, ◌<◌, ◌≤◌, ◌+◌, ◌-
 ghost use Rattle.std.specs.List.{range_with_len};
 ghost use Rattle.fst_machine.specs.Machine.{IsArc, IsMachine, arc_total, changed, most_arcs, most_states, valued, valued_arc, valued_state};
 ghost use Rattle.fst_machine.specs.Placing.{arc_counts};
-ghost use Rattle.fst_rational.specs.Backing.{arcs_into, bare_states, counted_back, put_all, put_back, state_into, turned_bare, with_more};
+ghost use Rattle.fst_rational.specs.Backing.{bare_states, counted_back, put_all, put_back, turned_bare, with_more};
 ghost use Rattle.fst_rational.specs.Changing.{onward};
 ghost use Rattle.fst_rational.specs.Constructions.{final_arcs, reverse_of, start_weight};
 ghost use Rattle.fst_rational.specs.Limits.{IsLimited, IsSize, IsSmall};
@@ -122,28 +122,17 @@ fn put_finals<W: Weight>(states: &mut Placing<W>, a: &Fst<W>)
     }
 }
 
-/// States that stand side by side: those from `first` on, before `behind`.
-#[derive(Clone, Copy)]
-struct Band {
-    first: u32,
-    behind: u32,
-}
-
-/// Puts those of these arcs that lead into a band, back to `place`, behind those of the state one place beyond where
-/// it leads.
-fn put_arcs_back<W: Weight>(states: &mut Placing<W>, arcs: &[FstArc<W>], place: u32, band: Band)
+/// Puts these arcs back to `place`, each behind those of the state one place beyond where it leads.
+fn put_arcs_back<W: Weight>(states: &mut Placing<W>, arcs: &[FstArc<W>], place: u32)
     requires few { length states.old.states ≤ most_states }
     requires good { All (IsArc W.value (length states.old.states - 1)) arcs.now }
-    requires room { (i : ℕ) → get_or (arc_counts (put_back place (arcs_into band.first band.behind (map (valued_arc W.value) arcs.now)) (map (valued_state W.value) states.old.states))) i 0 ≤ get_or states.old.rooms i 0 }
-    ensures states { map (valued_state W.value) states.new.states ≡ put_back place (arcs_into band.first band.behind (map (valued_arc W.value) arcs.now)) (map (valued_state W.value) states.old.states) }
+    requires room { (i : ℕ) → get_or (arc_counts (put_back place (map (valued_arc W.value) arcs.now) (map (valued_state W.value) states.old.states))) i 0 ≤ get_or states.old.rooms i 0 }
+    ensures states { map (valued_state W.value) states.new.states ≡ put_back place (map (valued_arc W.value) arcs.now) (map (valued_state W.value) states.old.states) }
     ensures size { length states.new.states ≡ length states.old.states }
     ensures rooms { states.new.rooms ≡ states.old.rooms }
     ensures left { states.new.left ≡ states.old.left }
 {
     for arc in arcs {
-        if arc.next < band.first || arc.next >= band.behind {
-            continue;
-        }
         let turned = FstArc {
             ilabel: arc.ilabel,
             olabel: arc.olabel,
@@ -154,68 +143,7 @@ fn put_arcs_back<W: Weight>(states: &mut Placing<W>, arcs: &[FstArc<W>], place: 
     }
 }
 
-/// Puts the arcs that lead into a band, back to where their state stands one place further on, where they led.
-fn put_band_back<W: Weight>(states: &mut Placing<W>, a: &Fst<W>, band: Band)
-    requires size { length states.old.states ≡ length a.now.states + 1 }
-    requires few { length states.old.states ≤ most_states }
-    requires room { (i : ℕ) → get_or (arc_counts (put_all 1 (map (state_into band.first band.behind) (map (valued_state W.value) a.now.states)) (map (valued_state W.value) states.old.states))) i 0 ≤ get_or states.old.rooms i 0 }
-    ensures states { map (valued_state W.value) states.new.states ≡ put_all 1 (map (state_into band.first band.behind) (map (valued_state W.value) a.now.states)) (map (valued_state W.value) states.old.states) }
-    ensures size { length states.new.states ≡ length states.old.states }
-    ensures rooms { states.new.rooms ≡ states.old.rooms }
-    ensures left { states.new.left ≡ states.old.left }
-{
-    for state in 0..a.states() {
-        put_arcs_back(states, a.arcs(state), state + 1, band);
-    }
-}
-
-/// Arcs lead far apart where more states than these are between. What is kept of so many states and of their arcs
-/// stays in the cache.
-const NEAR: u32 = 4096;
-
-/// Whether arcs of two states that stand side by side lead far apart, as the first of these and the last of those tell.
-fn lead_apart<W>(these: &[FstArc<W>], those: &[FstArc<W>]) -> bool {
-    match (these.first(), those.last()) {
-        (Some(one), Some(other)) => one.next.abs_diff(other.next) > NEAR,
-        _ => false,
-    }
-}
-
-/// At how many states, which stand evenly apart, it is seen whether arcs lead here and there.
-const LOOKS: u32 = 256;
-
-/// Whether arcs often lead far from where the arcs before them lead, as those of some states tell.
-fn leads_about<W: Weight>(a: &Fst<W>) -> bool {
-    let count = a.states();
-    let step = count / LOOKS + 1;
-    let mut apart: u32 = 0;
-    let mut state: u32 = 1;
-    while state < count {
-        if lead_apart(a.arcs(state - 1), a.arcs(state)) {
-            apart += 1;
-        }
-        state += step;
-    }
-    apart > LOOKS / 4
-}
-
-/// For so many arcs there is a further band: their part of the store stays in the cache while they are put.
-const BAND_ARCS: u32 = 262_144;
-
-/// In how many bands the arcs are put back. The machine is the same for any number.
-fn band_count<W: Weight>(a: &Fst<W>) -> u32
-    ensures some { 1 ≤ result }
-    ensures few { result ≤ 8 }
-{
-    let arcs = a.arc_count();
-    if arcs < BAND_ARCS || !leads_about(a) {
-        return 1;
-    }
-    (1 + arcs / BAND_ARCS).min(8)
-}
-
-/// Puts the arcs of each state, back to where it stands one place further on, where they led. It goes along all arcs
-/// for each band, which is read in order, and so takes less time than to put them here and there in the whole store.
+/// Puts the arcs of each state, back to where it stands one place further on, where they led.
 fn put_all_back<W: Weight>(states: &mut Placing<W>, a: &Fst<W>)
     requires size { length states.old.states ≡ length a.now.states + 1 }
     requires few { length states.old.states ≤ most_states }
@@ -224,13 +152,8 @@ fn put_all_back<W: Weight>(states: &mut Placing<W>, a: &Fst<W>)
     ensures rooms { states.new.rooms ≡ states.old.rooms }
     ensures left { states.new.left ≡ states.old.left }
 {
-    let count = a.states();
-    let width = count / band_count(a) + 1;
-    let mut first = 0;
-    while first < count {
-        let behind = first + width;
-        put_band_back(states, a, Band { first, behind });
-        first = behind;
+    for state in 0..a.states() {
+        put_arcs_back(states, a.arcs(state), state + 1);
     }
 }
 

@@ -4,6 +4,8 @@
 //! operations are tried on; `sized` makes large ones. `triples` lists what a machine relates over paths of few arcs, by
 //! the slow programs of `fst_plain`, and compares such lists. Nothing here may abort: a function says whether machines
 //! or relations agree, and a test asks for it.
+//!
+//! No wrong body is tried in this crate, since tests alone stand on it.
 #![tactic(auto)]
 
 mod sized;

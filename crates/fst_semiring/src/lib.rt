@@ -5,12 +5,11 @@
 //! `specs/Division.antt`; `value_laws` asks for their laws. The trait `Weight` is what generic code knows of a
 //! weight: each of its calls is a function of values, so that the laws hold of every type. Each weight has a wide form
 //! with numbers of 128 bits, in which products are computed, and a `Key`, one type for all arc types, that compares as
-//! the weights do. `by_arc_type` is the one place where an arc type chooses a type of weights.
+//! the weights do.
 #![tactic(auto)]
 
 mod arc_type;
 mod boolean;
-mod choice;
 mod extended;
 mod key;
 mod lexicographic;
@@ -23,7 +22,6 @@ mod weight;
 
 pub use arc_type::ArcType;
 pub use boolean::Boolean;
-pub use choice::{ByWeight, by_arc_type};
 pub use key::Key;
 pub use lexicographic::{Lexicographic, WideLexicographic};
 pub use minmax::{MinMax, WideMinMax};

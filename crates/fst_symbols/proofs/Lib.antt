@@ -1,7 +1,3 @@
-pub mod Buffering
 pub mod Names
 pub mod Tables
-pub mod Naming
-pub mod Noting
-pub mod Keeping
-pub mod Ends
+pub mod Entries

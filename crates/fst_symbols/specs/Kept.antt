@@ -1,28 +1,41 @@
--- How the rows of a table are kept.
-use Rattle.std.specs.Prelude.{◌≡◌, ◌<◌, ℕ, List, length, slice_get, Option, Some}
-use Rattle.std.specs.Option.{option_and_then, option_map}
-use Rattle.fst_table.specs.Found.{found_in}
-use Rattle.fst_symbols.specs.declared.rows.Rows.{Rows}
-use Rattle.fst_symbols.specs.Listed.{symbols_of}
-use Rattle.fst_symbols.specs.Named.{IsNamed}
-use Rattle.fst_symbols.specs.Places.{place_of}
-use Rattle.fst_symbols.specs.Symbols.{IsTable, Symbol, name_of}
+-- How the symbols of a table are kept: in a map of names in their order, and in a set of numbers, place for place.
+use Rattle.std.specs.Prelude.{◌≡◌, ◌<◌, ℕ, ◌∷◌, ◌++◌, [], false, true, length, List, map, nat_eq, Option, Result, Ok, Err, sum_by}
+use Rattle.std.specs.List.{list_any}
+use Rattle.std.specs.Map.{lookup}
+use Rattle.std.specs.Str.{bytes_eq}
+use Rattle.fst_symbols.specs.declared.fault.AddSymbolFault.{AddSymbolFault}
+use Rattle.fst_symbols.specs.declared.fault.AddSymbolFault.TheVariants.{SymbolTaken, NumberTaken, Memory}
+use Rattle.fst_symbols.specs.declared.name.Name.{Name}
+use Rattle.fst_symbols.specs.Symbols.{IsTable, Symbol}
 
--- the symbols of the rows, in order
-abbrev pub symbols_in : Rows → List Symbol
-symbols_in rows = symbols_of rows.named.rows
+-- the symbols of the entries of a map
+abbrev pub symbols_of : List (Name × ℕ) → List Symbol
+symbols_of entries = map (λ e. record { name = e.0.bytes.items; number = e.1 }) entries
 
--- the name of the symbol in a place
-abbrev pub name_in : List Symbol → Option ℕ → Option (List ℕ)
-name_in symbols place = option_map (λ s. s.name) (option_and_then (slice_get symbols) place)
+-- The entries are a table; the numbers are theirs in their order; the names have so many bytes together,
+-- which a word of 32 bits tells.
+pub record IsKept (entries : List (Name × ℕ)) (numbers : List ℕ) (total : ℕ) : Type 0 where
+  pub table : IsTable (symbols_of entries)
+  pub placed : numbers ≡ map (λ e. e.1) entries
+  pub counted : total ≡ sum_by (λ s. length s.name) (symbols_of entries)
+  pub fits : total < 4294967296
 
--- the place of a number among the rows
-abbrev pub place_in : Rows → ℕ → Option ℕ
-place_in rows n = place_of (symbols_in rows) (found_in rows.places) n
+-- the number of a name among entries
+abbrev pub found_in : List (Name × ℕ) → List ℕ → Option ℕ
+found_in entries name = lookup (λ (k : Name). bytes_eq name k.bytes.items) entries
 
--- The rows are a table; each name is found, and the place of each number is that of its name.
-pub record IsKept (rows : Rows) : Type 0 where
-  pub table : IsTable (symbols_in rows)
-  pub found : IsNamed rows.named
-  pub within : (n place : ℕ) → place_in rows n ≡ Some place → place < length (symbols_in rows)
-  pub named : (n : ℕ) → name_in (symbols_in rows) (place_in rows n) ≡ name_of (symbols_in rows) n
+-- a number stands behind the others, among which it was not; or it was, or memory ran out, and all stays as it was
+abbrev pub PutsNumber : {X : Type 0} → List ℕ → ℕ → List ℕ → Result X AddSymbolFault → Type 0
+PutsNumber numbers number left (Ok u) = (list_any (nat_eq number) numbers ≡ false) × (left ≡ numbers ++ number ∷ [])
+PutsNumber numbers number left (Err SymbolTaken) = ⊥
+PutsNumber numbers number left (Err NumberTaken) = (list_any (nat_eq number) numbers ≡ true) × (left ≡ numbers)
+PutsNumber numbers number left (Err Memory) = left ≡ numbers
+
+-- A name and a number stand behind the others, among which the number was not; or it was, or memory ran out, and all stays
+-- as it was.
+abbrev pub Puts : {X : Type 0} → List (Name × ℕ) → List ℕ → Name → ℕ → List (Name × ℕ) → List ℕ → Result X AddSymbolFault → Type 0
+Puts entries numbers name number after left (Ok u) =
+    (after ≡ entries ++ (name, number) ∷ []) × (list_any (nat_eq number) numbers ≡ false) × (left ≡ numbers ++ number ∷ [])
+Puts entries numbers name number after left (Err SymbolTaken) = ⊥
+Puts entries numbers name number after left (Err NumberTaken) = (after ≡ entries) × (list_any (nat_eq number) numbers ≡ true) × (left ≡ numbers)
+Puts entries numbers name number after left (Err Memory) = (after ≡ entries) × (left ≡ numbers)

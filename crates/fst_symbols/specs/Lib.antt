@@ -1,9 +1,6 @@
-pub mod Buffered
-pub mod Codes
-pub mod Places
-pub mod Listed
-pub mod Named
-pub mod Kept
-pub mod Reading
 pub mod Symbols
+pub mod Reading
+pub mod Adding
 pub mod Faults
+pub mod Kept
+pub mod Seeds

@@ -46,3 +46,14 @@ impl SymbolsFault {
         }
     }
 }
+
+/// Why a symbol is not added to a table.
+#[derive(Clone, Copy, Debug, PartialEq, Eq)]
+pub enum AddSymbolFault {
+    /// A symbol has the name.
+    SymbolTaken,
+    /// A symbol has the number, and none the name.
+    NumberTaken,
+    /// There is no memory, or the names would have more than 4,294,967,295 bytes together.
+    Memory,
+}

@@ -1,17 +1,15 @@
 //! Symbol tables: the names of labels.
 //!
 //! A line of a table is a name and its number. `SymbolTable::read` reads a text, with each fault at its line;
-//! `find` gives the number of a name, and `name` the name of a number.
+//! `add` adds one symbol; `find` gives the number of a name, and `name` the name of a number.
 #![tactic(auto)]
 
-mod coding;
 mod fault;
-mod name_index;
-mod named_rows;
+mod keeping;
+mod name;
 mod row;
-mod row_list;
-mod rows;
+mod seeded;
 mod table;
 
-pub use fault::SymbolsFault;
+pub use fault::{AddSymbolFault, SymbolsFault};
 pub use table::SymbolTable;

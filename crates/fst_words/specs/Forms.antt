@@ -60,55 +60,119 @@ form_of verbs.Make = record {
   shape = NoInput;
 }
 
--- ---- how many names there are
+-- ---- what a shape says of the names
 
--- how many names must be given: the others may be missing
+pub record Facts : Type 0 where
+  -- how many names must be given: the others may be missing
+  pub least : ℕ
+  -- how many names there are where n are given, with those that are missing
+  pub all : (n : ℕ) → ℕ
+  -- the place of the first name that is stored, of n names
+  pub place : (decode : Bool) → (n : ℕ) → ℕ
+  -- the names are pairs of a machine and a label, and then an output
+  pub rules : Bool
+  -- what the input in a place is, from 0
+  pub role : (place : ℕ) → Role
+  -- how many machines are fetched, of n names; whether a codex is; how many files are stored
+  pub machines : (n : ℕ) → ℕ
+  pub codex : (decode : Bool) → Bool
+  pub stored : (decode : Bool) → ℕ
+  -- lines run through a cascade, whose states are expanded
+  pub expands : Bool
+
+-- an output alone; one machine; two; two and lines; rules, which are pairs of a machine and a label, and an output after
+-- them; a machine and a codex, which is stored unless it is decoded by. Each but that of rules has a number of names of its
+-- own.
+abbrev pub facts_of : Shape → Facts
+facts_of NoInput = record {
+  least = 0;
+  all = λ n. 1;
+  place = λ decode n. 0;
+  rules = false;
+  role = λ place. roles.Machine;
+  machines = λ n. 0;
+  codex = λ decode. false;
+  stored = λ decode. 1;
+  expands = true;
+}
+facts_of Text = record {
+  least = 0;
+  all = λ n. 2;
+  place = λ decode n. 1;
+  rules = false;
+  role = λ place. roles.Text;
+  machines = λ n. 1;
+  codex = λ decode. false;
+  stored = λ decode. 1;
+  expands = false;
+}
+facts_of One = record {
+  least = 0;
+  all = λ n. 2;
+  place = λ decode n. 1;
+  rules = false;
+  role = λ place. roles.Machine;
+  machines = λ n. 1;
+  codex = λ decode. false;
+  stored = λ decode. 1;
+  expands = false;
+}
+facts_of Two = record {
+  least = 2;
+  all = λ n. 3;
+  place = λ decode n. 2;
+  rules = false;
+  role = λ place. roles.Machine;
+  machines = λ n. 2;
+  codex = λ decode. false;
+  stored = λ decode. 1;
+  expands = false;
+}
+facts_of Three = record {
+  least = 2;
+  all = λ n. 4;
+  place = λ decode n. 3;
+  rules = false;
+  role = λ place. if nat_lt place 2 then roles.Machine else roles.Lines;
+  machines = λ n. 2;
+  codex = λ decode. false;
+  stored = λ decode. 1;
+  expands = true;
+}
+facts_of Rules = record {
+  least = 2;
+  all = λ n. 2 * (n / 2) + 1;
+  place = λ decode n. n - 1;
+  rules = true;
+  role = λ place. roles.Machine;
+  machines = λ n. n / 2;
+  codex = λ decode. false;
+  stored = λ decode. 1;
+  expands = false;
+}
+facts_of Codex = record {
+  least = 2;
+  all = λ n. 3;
+  place = λ decode n. if decode then 2 else 1;
+  rules = false;
+  role = λ place. if nat_lt place 1 then roles.Machine else roles.Codex;
+  machines = λ n. 1;
+  codex = λ decode. decode;
+  stored = λ decode. if decode then 1 else 2;
+  expands = false;
+}
+
 abbrev pub least_of : Shape → ℕ
-least_of NoInput = 0
-least_of Text = 0
-least_of One = 0
-least_of Two = 2
-least_of Three = 2
-least_of Rules = 2
-least_of Codex = 2
+least_of shape = (facts_of shape).least
 
--- how many names there are where n are given, with those that are missing: rules are pairs of a machine and a label,
--- and an output follows them; every other shape has a number of its own
 abbrev pub all_of : Shape → ℕ → ℕ
-all_of NoInput n = 1
-all_of Text n = 2
-all_of One n = 2
-all_of Two n = 3
-all_of Three n = 4
-all_of Rules n = 2 * (n / 2) + 1
-all_of Codex n = 3
+all_of shape n = (facts_of shape).all n
 
--- the place of the first name that is stored, of n names; the codex is stored unless it is decoded by
 abbrev pub place_of : Shape → (decode : Bool) → (n : ℕ) → ℕ
-place_of NoInput decode n = 0
-place_of Text decode n = 1
-place_of One decode n = 1
-place_of Two decode n = 2
-place_of Three decode n = 3
-place_of Rules decode n = n - 1
-place_of Codex decode n = if decode then 2 else 1
+place_of shape decode n = (facts_of shape).place decode n
 
--- the names are pairs of a machine and a label, and then an output
 abbrev pub has_rules : Shape → Bool
-has_rules NoInput = false
-has_rules Text = false
-has_rules One = false
-has_rules Two = false
-has_rules Three = false
-has_rules Rules = true
-has_rules Codex = false
+has_rules shape = (facts_of shape).rules
 
--- what the input in a place is, from 0
 abbrev pub role_of : Shape → (place : ℕ) → Role
-role_of NoInput place = roles.Machine
-role_of Text place = roles.Text
-role_of One place = roles.Machine
-role_of Two place = roles.Machine
-role_of Three place = if nat_lt place 2 then roles.Machine else roles.Lines
-role_of Rules place = roles.Machine
-role_of Codex place = if nat_lt place 1 then roles.Machine else roles.Codex
+role_of shape place = (facts_of shape).role place

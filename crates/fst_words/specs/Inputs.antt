@@ -1,15 +1,14 @@
 -- The inputs of a plan, in the order in which they are read: the files of the options come first.
-use Rattle.std.specs.Prelude.{ℕ, suc, ◌/◌, Bool, true, false, List, [], ◌∷◌, ◌++◌, length, Option, Some, None, if◌then◌else◌}
+use Rattle.std.specs.Prelude.{ℕ, suc, Bool, true, false, List, [], ◌∷◌, ◌++◌, length, Option, Some, None, if◌then◌else◌}
 use Rattle.std.specs.Str.{bytes_eq}
 use Rattle.fst_words.specs.declared.form.Role.{Role}
 use Rattle.fst_words.specs.declared.form.Role.TheVariants as roles
 use Rattle.fst_words.specs.declared.form.Role.TheVariants.{InputSymbols, OutputSymbols, BothSymbols, InputPairs, OutputPairs}
 use Rattle.fst_words.specs.declared.form.Shape.{Shape}
-use Rattle.fst_words.specs.declared.form.Shape.TheVariants.{NoInput, Text, One, Two, Three, Rules, Codex}
 use Rattle.fst_words.specs.declared.inputs.Input as declared
 use Rattle.fst_words.specs.declared.options.Options.{Options}
 use Rattle.fst_words.specs.declared.plan.Plan.{Plan}
-use Rattle.fst_words.specs.Forms.{form_of, role_of}
+use Rattle.fst_words.specs.Forms.{facts_of, form_of, role_of}
 use Rattle.fst_words.specs.Plans.{input_files}
 
 -- an input: the name of a file, and what it is for
@@ -83,41 +82,17 @@ is_codex roles.Lines = false
 
 -- how many machines a command fetches, whether a codex, and how many files it stores, by the shape of its names
 abbrev pub machines_by : Shape → (names : ℕ) → ℕ
-machines_by NoInput names = 0
-machines_by Text names = 1
-machines_by One names = 1
-machines_by Two names = 2
-machines_by Three names = 2
-machines_by Rules names = names / 2
-machines_by Codex names = 1
+machines_by shape names = (facts_of shape).machines names
 
 abbrev pub codex_by : Shape → (decode : Bool) → Bool
-codex_by NoInput decode = false
-codex_by Text decode = false
-codex_by One decode = false
-codex_by Two decode = false
-codex_by Three decode = false
-codex_by Rules decode = false
-codex_by Codex decode = decode
+codex_by shape decode = (facts_of shape).codex decode
 
 abbrev pub stored_by : Shape → (decode : Bool) → ℕ
-stored_by NoInput decode = 1
-stored_by Text decode = 1
-stored_by One decode = 1
-stored_by Two decode = 1
-stored_by Three decode = 1
-stored_by Rules decode = 1
-stored_by Codex decode = if decode then 1 else 2
+stored_by shape decode = (facts_of shape).stored decode
 
 -- whether a command runs lines through a cascade, and expands its states
 abbrev pub expands_by : Shape → Bool
-expands_by NoInput = true
-expands_by Text = false
-expands_by One = false
-expands_by Two = false
-expands_by Three = true
-expands_by Rules = false
-expands_by Codex = false
+expands_by shape = (facts_of shape).expands
 
 abbrev pub machine_count : Plan → ℕ
 machine_count plan = machines_by (form_of plan.command).shape (length plan.names)

@@ -26,7 +26,20 @@ pub(crate) enum Shape {
     Codex,
 }
 
-/// What a command takes.
+/// What becomes of the content of a machine that a command has read, while the command works. No result depends on it.
+#[derive(Clone, Copy, Debug, PartialEq, Eq)]
+pub enum Room {
+    /// It is freed, since lists as long as the machine are made.
+    Freed,
+    /// The bytes of the output are made where it is: the command changes its machine in place.
+    Output,
+    /// The same, but only of a machine with few arcs: the command makes lists of its states and arcs.
+    LightOutput,
+    /// The text of the output is made where it is.
+    Text,
+}
+
+/// What a command takes, and what it does with the contents that it reads.
 #[derive(Clone, Copy)]
 pub(crate) struct Form {
     /// The name, without `fst` in front.
@@ -37,16 +50,19 @@ pub(crate) struct Form {
     pub(crate) flags: &'static [&'static str],
     /// The shape of its names.
     pub(crate) shape: Shape,
+    /// What becomes of the content of a machine.
+    pub(crate) room: Room,
 }
 
 /// A row of the table: a command, its name without `fst` in front, its options with a value, its flags, which have no
-/// value, and the shape of its names.
+/// value, the shape of its names, and what becomes of the content of a machine.
 type Row = (
     Verb,
     &'static str,
     &'static [&'static str],
     &'static [&'static str],
     Shape,
+    Room,
 );
 
 /// The commands, a row each, in the order of `Verb`.
@@ -57,6 +73,7 @@ pub(crate) static ROWS: &[Row] = &[
         &["arc_type", "isymbols", "osymbols"],
         &["acceptor", "keep_state_numbering"],
         Shape::Text,
+        Room::Output,
     ),
     (
         Verb::Print,
@@ -64,36 +81,68 @@ pub(crate) static ROWS: &[Row] = &[
         &["isymbols", "osymbols"],
         &["acceptor", "show_weight_one"],
         Shape::One,
+        Room::Text,
     ),
-    (Verb::Info, "info", &[], &[], Shape::One),
-    (Verb::Invert, "invert", &[], &[], Shape::One),
-    (Verb::Reverse, "reverse", &[], &[], Shape::One),
-    (Verb::Connect, "connect", &[], &[], Shape::One),
-    (Verb::Union, "union", &[], &[], Shape::Two),
-    (Verb::Concat, "concat", &[], &[], Shape::Two),
-    (Verb::Closure, "closure", &[], &["closure_plus"], Shape::One),
+    (Verb::Info, "info", &[], &[], Shape::One, Room::Freed),
+    (Verb::Invert, "invert", &[], &[], Shape::One, Room::Output),
+    (Verb::Reverse, "reverse", &[], &[], Shape::One, Room::Freed),
+    (
+        Verb::Connect,
+        "connect",
+        &[],
+        &[],
+        Shape::One,
+        Room::LightOutput,
+    ),
+    (Verb::Union, "union", &[], &[], Shape::Two, Room::Output),
+    (Verb::Concat, "concat", &[], &[], Shape::Two, Room::Output),
+    (
+        Verb::Closure,
+        "closure",
+        &[],
+        &["closure_plus"],
+        Shape::One,
+        Room::Output,
+    ),
     (
         Verb::Project,
         "project",
         &[],
         &["project_output"],
         Shape::One,
+        Room::Output,
     ),
-    (Verb::Replace, "replace", &[], &[], Shape::Rules),
+    (
+        Verb::Replace,
+        "replace",
+        &[],
+        &[],
+        Shape::Rules,
+        Room::Freed,
+    ),
     (
         Verb::Relabel,
         "relabel",
         &["relabel_ipairs", "relabel_opairs"],
         &[],
         Shape::One,
+        Room::Output,
     ),
-    (Verb::Arcsort, "arcsort", &["sort_type"], &[], Shape::One),
+    (
+        Verb::Arcsort,
+        "arcsort",
+        &["sort_type"],
+        &[],
+        Shape::One,
+        Room::Output,
+    ),
     (
         Verb::Compose,
         "compose",
         &["connect", "max_states"],
         &[],
         Shape::Two,
+        Room::Freed,
     ),
     (
         Verb::Rmepsilon,
@@ -101,6 +150,7 @@ pub(crate) static ROWS: &[Row] = &[
         &["connect", "queue_type"],
         &[],
         Shape::One,
+        Room::Freed,
     ),
     (
         Verb::Shortestdistance,
@@ -108,6 +158,7 @@ pub(crate) static ROWS: &[Row] = &[
         &["queue_type"],
         &["reverse"],
         Shape::One,
+        Room::Freed,
     ),
     (
         Verb::Shortestpath,
@@ -115,6 +166,7 @@ pub(crate) static ROWS: &[Row] = &[
         &["nshortest"],
         &[],
         Shape::One,
+        Room::Freed,
     ),
     (
         Verb::Push,
@@ -122,6 +174,7 @@ pub(crate) static ROWS: &[Row] = &[
         &["queue_type"],
         &["push_weights", "remove_total_weight"],
         Shape::One,
+        Room::Freed,
     ),
     (
         Verb::Encode,
@@ -129,6 +182,7 @@ pub(crate) static ROWS: &[Row] = &[
         &[],
         &["encode_labels", "encode_weights", "decode"],
         Shape::Codex,
+        Room::Freed,
     ),
     (
         Verb::Determinize,
@@ -136,14 +190,23 @@ pub(crate) static ROWS: &[Row] = &[
         &["max_states"],
         &[],
         Shape::One,
+        Room::Freed,
     ),
-    (Verb::Minimize, "minimize", &["queue_type"], &[], Shape::One),
+    (
+        Verb::Minimize,
+        "minimize",
+        &["queue_type"],
+        &[],
+        Shape::One,
+        Room::Freed,
+    ),
     (
         Verb::Batch,
         "batch",
         &["nshortest", "workers", "max_states"],
         &["summary"],
         Shape::Three,
+        Room::Freed,
     ),
     (
         Verb::Make,
@@ -151,6 +214,7 @@ pub(crate) static ROWS: &[Row] = &[
         &["seed", "lines", "nshortest", "workers", "max_states"],
         &[],
         Shape::NoInput,
+        Room::Freed,
     ),
 ];
 
@@ -161,12 +225,13 @@ pub(crate) fn form_of(verb: Verb) -> Form
     ensures flags { map (λ s. s.now) result.flags.now ≡ flags_of verb }
     ensures shape { result.shape ≡ (form_of verb).shape }
 {
-    let (_, name, options, flags, shape) = ROWS[verb as usize];
+    let (_, name, options, flags, shape, room) = ROWS[verb as usize];
     Form {
         name,
         options,
         flags,
         shape,
+        room,
     }
 }
 

@@ -3,7 +3,7 @@
 ghost use Rattle.std.specs.Prelude.{◌≡◌};
 ghost use Rattle.fst_words.specs.Verbs.{name_of, verb_named, verb_of, without_prefix};
 
-use crate::form::{ROWS, form_of};
+use crate::form::{ROWS, Room, form_of};
 
 /// A command. (OpenFst manual: `compile` is the program `fstcompile`.)
 #[derive(Clone, Copy, Debug, PartialEq, Eq)]
@@ -62,6 +62,11 @@ impl Verb {
         ensures { result.now ≡ name_of self }
     {
         form_of(self).name
+    }
+
+    /// What becomes of the content of a machine that the command has read. Takes no memory.
+    pub fn room(self) -> Room {
+        form_of(self).room
     }
 }
 

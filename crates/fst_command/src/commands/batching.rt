@@ -17,8 +17,9 @@ use crate::commands::listing::count_of;
 use crate::given::Given;
 use crate::made::Made;
 use crate::refusal::Refusal;
-use fst_answer::{BatchOptions, LineAnswer, put_answer_lines, put_number, run_batch};
-use fst_batch::{BatchReport, Lines, OpenGate};
+use fst_batch::{
+    BatchOptions, BatchReport, LineAnswer, Lines, OpenGate, put_answer_lines, put_number, run_batch,
+};
 use fst_compose::ComposeFault;
 use fst_delayed::{Delayed, Meter};
 use fst_semiring::Weight;

@@ -6,7 +6,7 @@ ghost use Rattle.fst_machine.specs.Cycles.{IsUseful};
 ghost use Rattle.fst_machine.specs.Graph.{graph_of};
 ghost use Rattle.fst_machine.specs.Machine.{valued};
 ghost use Rattle.fst_machine.specs.Steps.{written};
-ghost use Rattle.fst_distance.specs.Distances.{IsListed, NoneImproves};
+ghost use Rattle.fst_search.specs.Distances.{IsListed, NoneImproves};
 ghost use Rattle.fst_nbest.specs.FirstPaths.{AreFirstPaths, IfImproving};
 ghost use Rattle.fst_words.specs.PlanLaws.{HasNumbersInRange};
 ghost use Rattle.fst_command.specs.Causes.{faulty, refused, unmade};

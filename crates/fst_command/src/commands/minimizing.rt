@@ -13,7 +13,7 @@ use crate::given::Given;
 use crate::made::Made;
 use crate::queues::{Queues, picked};
 use crate::refusal::{Refusal, unmade};
-use fst_minimize::{MinimizeFault, minimize_boxed};
+use fst_minimize::{MinimizeFault, minimize};
 use fst_semiring::Weight;
 use fst_words::Options;
 use std::alloc::Global;
@@ -41,7 +41,7 @@ pub(crate) fn minimized<W: Weight>(
 {
     let machine = given.one();
     let mut queue = picked(options, queues);
-    match minimize_boxed(alloc, &machine, &mut queue) {
+    match minimize(alloc, &machine, &mut queue) {
         Ok(made) => Ok(Made::Machine(made)),
         Err(fault) => Err(unminimized(alloc, fault)),
     }

@@ -2,7 +2,7 @@
 
 ghost use Rattle.std.specs.Prelude.{◌≡◌, length};
 ghost use Rattle.std.specs.Result.{result_map_both};
-ghost use Rattle.fst_pushing.specs.Totals.{push_text};
+ghost use Rattle.fst_distance.specs.Totals.{push_text};
 ghost use Rattle.fst_command.specs.Causes.{faulty, refused, unmade};
 ghost use Rattle.fst_command.specs.Meaning.{Settles};
 ghost use Rattle.fst_command.specs.Pushing.{push_meaning};
@@ -13,7 +13,7 @@ use crate::given::Given;
 use crate::made::Made;
 use crate::queues::{Queues, picked};
 use crate::refusal::{Refusal, unmade};
-use fst_pushing::{PushFault, into_pushed};
+use fst_distance::{PushFault, into_pushed};
 use fst_semiring::Weight;
 use fst_words::Options;
 use std::alloc::Global;

@@ -1,7 +1,7 @@
 use Rattle.std.proofs.Common.{sym, ◌∙◌}
 use Rattle.std.proofs.lemmas.List.{length-map}
 use Rattle.fst_any.specs.Typed.{typed, typed_codex}
-use Rattle.fst_command.specs.Seeing.{bytes_seen, held_seen}
+use Rattle.fst_command.specs.Seeing.{held_seen, product_seen}
 use Rattle.fst_command.proofs.Answering.{works_refused}
 use Rattle.fst_command.proofs.Counted.{read_codex, read_lines, read_machines, some_seen}
 use Rattle.fst_command.proofs.Lawful.{stored_fits}
@@ -35,10 +35,18 @@ pub returns-in-Err-worked-clause-meter : goal.returns-in-Err-worked-clause-meter
 returns-in-Err-worked-clause-meter g c = end_refused _ _ (held_seen c.in-Ok.held) _ _ _ _ _ c.in-Err-worked.ensures.meter
 
 pub store-requires : goal.store-requires
-store-requires g c = stored_fits c.args.plan.now (held_seen c.in-Ok.held) (bytes_seen c.in-Ok-worked.bytes) c.requires.whole c.in-Ok-worked.ensures.decides
+store-requires g c = stored_fits c.args.plan.now (held_seen c.in-Ok.held) (product_seen c.in-Ok-worked.product) c.requires.whole c.in-Ok-worked.ensures.decides
 
-pub returns-clause-works : goal.returns-clause-works
-returns-clause-works g c = c.store.ensures (g.D.Desk.seen c.args.desk.now) (record { held = held_seen c.in-Ok.held; progress = c.in-Ok.ensures; worked = c.in-Ok-worked.ensures.decides })
+pub returns-in-Ok-store-clause-works : goal.returns-in-Ok-store-clause-works
+returns-in-Ok-store-clause-works g c =
+    c.in-Ok-store.ensures (g.D.Desk.seen c.args.desk.now) c.in-Ok-worked.product.status (record { held = held_seen c.in-Ok.held; progress = c.in-Ok.ensures; worked = c.in-Ok-worked.ensures.decides })
 
-pub returns-clause-meter : goal.returns-clause-meter
-returns-clause-meter g c = end_stored _ _ (held_seen c.in-Ok.held) _ _ _ _ _ _ c.in-Ok.ensures c.in-Ok-worked.ensures.meter
+pub returns-in-Ok-store-clause-meter : goal.returns-in-Ok-store-clause-meter
+returns-in-Ok-store-clause-meter g c = end_stored _ _ (held_seen c.in-Ok.held) _ _ _ _ _ _ c.in-Ok.ensures c.in-Ok-worked.ensures.meter
+
+pub returns-in-Err-store-clause-works : goal.returns-in-Err-store-clause-works
+returns-in-Err-store-clause-works g c =
+    c.in-Err-store.ensures (g.D.Desk.seen c.args.desk.now) c.in-Ok-worked.product.status (record { held = held_seen c.in-Ok.held; progress = c.in-Ok.ensures; worked = c.in-Ok-worked.ensures.decides })
+
+pub returns-in-Err-store-clause-meter : goal.returns-in-Err-store-clause-meter
+returns-in-Err-store-clause-meter g c = end_stored _ _ (held_seen c.in-Ok.held) _ _ _ _ _ _ c.in-Ok.ensures c.in-Ok-worked.ensures.meter

@@ -5,9 +5,10 @@ use Rattle.fst_codex.specs.Table.{valued_table}
 use Rattle.fst_any.specs.Typed.{typed, typed_codex}
 use Rattle.fst_command.specs.Given.{read_limit}
 use Rattle.fst_words.specs.Inputs.{expands}
-use Rattle.fst_command.specs.Seeing.{bytes_seen, given_seen, held_seen, made_seen}
+use Rattle.fst_command.specs.Seeing.{given_seen, held_seen, made_seen, product_seen}
 use Rattle.fst_command.specs.declared.refusal.Refusal.TheVariants.{Memory}
 use Rattle.fst_command.proofs.Counted.{given_codex, given_lines, given_machines, some_seen}
+use Rattle.fst_command.proofs.Decided.{decides_made}
 use Rattle.fst_command.proofs.Meters.{work_raised, work_refused, work_unspelled}
 use Rattle.fst_command.proofs.working.worked_as.Goals as goal
 
@@ -33,15 +34,22 @@ pub returns-in-Err-made-clause-meter : goal.returns-in-Err-made-clause-meter
 returns-in-Err-made-clause-meter g c =
     work_refused (expands c.args.plan.now) c.args.plan.now (held_seen c.args.held) c.in-Err-made.refusal c.in-Err-made.refusal _ _ c.in-Err-made.ensures.meter
 
-pub returns-in-Ok-bytes_of-clause-meter : goal.returns-in-Ok-bytes_of-clause-meter
-returns-in-Ok-bytes_of-clause-meter g c =
+pub returns-in-Ok-product_of-clause-decides : goal.returns-in-Ok-product_of-clause-decides
+returns-in-Ok-product_of-clause-decides g c =
     let kind = g.W.Weight.KIND in
     let value = g.W.Weight.value in
-    work_raised (expands c.args.plan.now) c.args.plan.now (held_seen c.args.held) kind (given_seen kind value c.in-Ok.given) (made_seen kind value c.in-Ok-made.made) (bytes_seen c.in-Ok-bytes_of.bytes) _ _
-    c.requires.kind c.in-Ok.ensures c.in-Ok-made.ensures.settles c.in-Ok-bytes_of.ensures c.in-Ok-made.ensures.meter
+    decides_made c.args.plan.now (held_seen c.args.held) kind (given_seen kind value c.in-Ok.given) (made_seen kind value c.in-Ok-made.made) (product_seen c.in-Ok-product_of.product)
+    c.requires.kind c.in-Ok.ensures c.in-Ok-made.ensures.settles c.in-Ok-product_of.ensures.bytes c.in-Ok-product_of.ensures.status
 
-pub returns-in-Err-bytes_of-clause-meter : goal.returns-in-Err-bytes_of-clause-meter
-returns-in-Err-bytes_of-clause-meter g c =
+pub returns-in-Ok-product_of-clause-meter : goal.returns-in-Ok-product_of-clause-meter
+returns-in-Ok-product_of-clause-meter g c =
+    let kind = g.W.Weight.KIND in
+    let value = g.W.Weight.value in
+    work_raised (expands c.args.plan.now) c.args.plan.now (held_seen c.args.held) kind (given_seen kind value c.in-Ok.given) (made_seen kind value c.in-Ok-made.made) (product_seen c.in-Ok-product_of.product) _ _
+    c.requires.kind c.in-Ok.ensures c.in-Ok-made.ensures.settles c.in-Ok-product_of.ensures.bytes c.in-Ok-product_of.ensures.status c.in-Ok-made.ensures.meter
+
+pub returns-in-Err-product_of-clause-meter : goal.returns-in-Err-product_of-clause-meter
+returns-in-Err-product_of-clause-meter g c =
     let kind = g.W.Weight.KIND in
     let value = g.W.Weight.value in
     work_unspelled (expands c.args.plan.now) c.args.plan.now (held_seen c.args.held) (made_seen kind value c.in-Ok-made.made) Memory _ _ c.in-Ok-made.ensures.meter

@@ -1,6 +1,6 @@
 use Rattle.std.proofs.Common.{rules}
 use Rattle.std.proofs.lemmas.List.Sorted.{IsNonDecreasingBy-from_sort_by_key}
-use Rattle.fst_distance.specs.Closure.{Reached}
+use Rattle.fst_search.specs.Closure.{Reached}
 use Rattle.fst_epsilon.specs.Gathering.{rank}
 use Rattle.fst_epsilon.proofs.closing.sort_closure.Goals as goal
 

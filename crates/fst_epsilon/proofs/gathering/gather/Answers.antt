@@ -5,8 +5,8 @@ use Rattle.fst_semiring.specs.Semiring.{times}
 use Rattle.fst_machine.specs.Graph.{graph_of}
 use Rattle.fst_machine.specs.Machine.{Arc, valued, valued_arc}
 use Rattle.fst_machine.proofs.Narrowing.{taken}
-use Rattle.fst_distance.specs.Closure.{Reached}
-use Rattle.fst_distance.proofs.Finishing.{final_read}
+use Rattle.fst_search.specs.Closure.{Reached}
+use Rattle.fst_search.proofs.Finishing.{final_read}
 use Rattle.fst_epsilon.specs.Construction.{best_final, collected, merged, spoken}
 use Rattle.fst_epsilon.specs.Gathering.{pairs_of}
 use Rattle.fst_epsilon.proofs.Gathered.{arcs_read, best-push, collected-push, merged-append}

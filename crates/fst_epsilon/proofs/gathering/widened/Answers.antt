@@ -6,7 +6,7 @@ use Rattle.fst_semiring.specs.Cost.{Cost}
 use Rattle.fst_semiring.specs.Semiring.{InRange, IsWide}
 use Rattle.fst_semiring.proofs.Ranges.{Within-more}
 use Rattle.fst_machine.proofs.Narrowing.{taken}
-use Rattle.fst_distance.specs.Closure.{Reached, valued_reached}
+use Rattle.fst_search.specs.Closure.{Reached, valued_reached}
 use Rattle.fst_epsilon.proofs.gathering.widened.Goals as goal
 
 pub loop-item-preserved : goal.loop-item-preserved

@@ -1,6 +1,6 @@
 use Rattle.std.proofs.Common.{◌≡◌, All, map, take}
 use Rattle.fst_semiring.specs.Semiring.{IsWide}
-use Rattle.fst_distance.specs.Closure.{Reached, valued_reached}
+use Rattle.fst_search.specs.Closure.{Reached, valued_reached}
 use Rattle.fst_epsilon.proofs.gathering.widened.Given as goal
 
 abbrev pub invariant-loop-item : goal.invariant-loop-item

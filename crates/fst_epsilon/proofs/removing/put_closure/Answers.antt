@@ -4,7 +4,7 @@ use Rattle.fst_semiring.specs.Semiring.{IsWide}
 use Rattle.fst_machine.specs.Graph.{graph_of}
 use Rattle.fst_machine.specs.Machine.{most_states, valued, valued_state}
 use Rattle.fst_machine.proofs.Valued.{IsMachine-valued}
-use Rattle.fst_distance.specs.Closure.{Reached}
+use Rattle.fst_search.specs.Closure.{Reached}
 use Rattle.fst_epsilon.specs.Construction.{IsClosureList}
 use Rattle.fst_epsilon.specs.Gathering.{pairs_of}
 use Rattle.fst_epsilon.specs.Making.{gathered}

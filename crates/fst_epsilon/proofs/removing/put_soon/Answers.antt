@@ -4,7 +4,7 @@ use Rattle.fst_semiring.specs.Cost.{Cost}
 use Rattle.fst_machine.specs.Graph.{graph_of}
 use Rattle.fst_machine.specs.Machine.{State, valued, valued_arc, valued_state}
 use Rattle.fst_semiring.specs.Semiring.{IsWide}
-use Rattle.fst_distance.specs.Closure.{Reached}
+use Rattle.fst_search.specs.Closure.{Reached}
 use Rattle.fst_epsilon.specs.Gathering.{pairs_of}
 use Rattle.fst_epsilon.specs.Making.{IsMade, gathered}
 use Rattle.fst_epsilon.proofs.Whole.{in_some, pairs_moved, states_moved}

@@ -4,7 +4,7 @@ use Rattle.std.proofs.lemmas.List.Elements.{All-map, All-weaker}
 use Rattle.fst_semiring.specs.Semiring.{IsCost, Within}
 use Rattle.fst_machine.specs.Machine.{Arc, valued_arc}
 use Rattle.fst_machine.specs.Graph.{graph_of}
-use Rattle.fst_pushing.specs.Values.{most_pushed}
+use Rattle.fst_distance.specs.Values.{most_pushed}
 use Rattle.fst_minimize.specs.Saying.{IsByLabel}
 use Rattle.fst_minimize.proofs.Describe.{by_label}
 use Rattle.fst_minimize.proofs.describing.describe_state.Goals as goal

@@ -2,7 +2,7 @@ use Rattle.std.proofs.Common.{◌≡◌, ◌<◌, ℕ, length, get_or, refl}
 use Rattle.fst_machine.specs.Graph.{renamed}
 use Rattle.fst_machine.specs.Machine.{Arc, valued_arc}
 use Rattle.fst_machine.proofs.Changes.{read_as}
-use Rattle.fst_pushing.proofs.Lists.{map_step}
+use Rattle.fst_distance.proofs.Lists.{map_step}
 use Rattle.fst_minimize.specs.Numbered.{number_in}
 use Rattle.fst_minimize.proofs.making.put_renamed.Goals as goal
 

@@ -3,7 +3,7 @@ use Rattle.fst_machine.specs.Machine.{Machine, valued}
 use Rattle.fst_machine.specs.Graph.{graph_of}
 use Rattle.fst_semiring.specs.Cost.{Cost}
 use Rattle.fst_machine.proofs.Valued.{IsMachine-valued}
-use Rattle.fst_pushing.proofs.Picked.{machine_some}
+use Rattle.fst_distance.proofs.Picked.{machine_some}
 use Rattle.fst_minimize.specs.Classes.{class_machine}
 use Rattle.fst_machine.specs.Narrowing.{IsCause}
 use Rattle.fst_minimize.specs.Laws.{totalled}

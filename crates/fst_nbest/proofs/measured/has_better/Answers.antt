@@ -4,7 +4,7 @@ use Rattle.fst_semiring.specs.Cost.{Cost}
 use Rattle.fst_semiring.specs.Semiring.{IsCost}
 use Rattle.fst_machine.specs.Machine.{Arc, valued}
 use Rattle.fst_machine.specs.Graph.{graph_of}
-use Rattle.fst_distance.proofs.MachineHops.{arc_good}
+use Rattle.fst_search.proofs.MachineHops.{arc_good}
 use Rattle.fst_nbest.proofs.Gathered.{every_arc}
 use Rattle.fst_nbest.proofs.measured.has_better.Goals as goal
 

@@ -2,7 +2,7 @@ use Rattle.std.proofs.Common.{◌*◌, suc, sym, ◌∙◌, arith}
 use Rattle.fst_semiring.specs.Semiring.{times}
 use Rattle.fst_semiring.proofs.Ranges.{Within-more}
 use Rattle.fst_machine.specs.Machine.{valued_arc}
-use Rattle.fst_distance.proofs.Finishing.{final_read}
+use Rattle.fst_search.proofs.Finishing.{final_read}
 use Rattle.fst_nbest.specs.Counts.{count_of}
 use Rattle.fst_nbest.specs.Ready.{dist_in, most_distance}
 use Rattle.fst_nbest.proofs.Counted.{item_at}

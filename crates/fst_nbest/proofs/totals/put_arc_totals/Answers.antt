@@ -3,7 +3,7 @@ use Rattle.std.proofs.lemmas.Option.{slice_get_within}
 use Rattle.fst_semiring.specs.Cost.{Cost}
 use Rattle.fst_machine.specs.BreadthFirst.{Has}
 use Rattle.fst_machine.specs.Machine.{Arc}
-use Rattle.fst_distance.proofs.MachineHops.{all_at}
+use Rattle.fst_search.proofs.MachineHops.{all_at}
 use Rattle.fst_nbest.specs.Ready.{dist_in}
 use Rattle.fst_nbest.specs.Totals.{MayTotal}
 use Rattle.fst_nbest.proofs.Counted.{item_at}

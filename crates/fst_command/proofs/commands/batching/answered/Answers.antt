@@ -6,8 +6,8 @@ use Rattle.std.specs.List.{AllZip}
 use Rattle.fst_machine.specs.Machine.{Machine}
 use Rattle.fst_compose.specs.Composition.{composition}
 use Rattle.fst_delayed.specs.Graphs.{delayed_graph}
-use Rattle.fst_batch.specs.Expansions.{IsExpansions}
-use Rattle.fst_answer.specs.Answers.{IsAnswer}
+use Rattle.fst_lattice.specs.Expansions.{IsExpansions}
+use Rattle.fst_batch.specs.Answers.{IsAnswer}
 use Rattle.fst_command.specs.Batching.{batch_meaning, batch_text, valued_answer}
 use Rattle.fst_command.specs.Meaning.{answered}
 use Rattle.fst_command.proofs.Batched.{few_lines, is_batch, sorted_passes, unsorted_declines}

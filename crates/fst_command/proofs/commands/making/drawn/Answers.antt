@@ -6,9 +6,9 @@ use Rattle.fst_semiring.specs.Cost.{Cost}
 use Rattle.fst_semiring.specs.declared.arc_type.ArcType.TheVariants.{Tropical}
 use Rattle.fst_machine.specs.Machine.{Machine}
 use Rattle.fst_delayed.specs.Graphs.{delayed_graph}
-use Rattle.fst_batch.specs.Cascade.{behind_second}
-use Rattle.fst_batch.specs.Expansions.{IsExpansions}
-use Rattle.fst_answer.specs.Answers.{IsAnswer}
+use Rattle.fst_lattice.specs.Cascade.{behind_second}
+use Rattle.fst_lattice.specs.Expansions.{IsExpansions}
+use Rattle.fst_batch.specs.Answers.{IsAnswer}
 use Rattle.fst_command.proofs.Drawn.{drawn_count, sorted_drawn}
 use Rattle.fst_command.proofs.Making.{is_cascade}
 use Rattle.fst_command.proofs.commands.making.drawn.Goals as goal

@@ -3,7 +3,7 @@ use Rattle.std.proofs.lemmas.Int.{to_z-of_z}
 use mir.Syntax.{w128}
 use mir.Val.{SFits}
 use Rattle.fst_semiring.specs.Cost.{Cost}
-use Rattle.fst_answer.specs.declared.answer.LineAnswer.{LineAnswer}
+use Rattle.fst_batch.specs.declared.answer.LineAnswer.{LineAnswer}
 use Rattle.fst_command.specs.Making.{first_weights, total_lines}
 use Rattle.fst_command.proofs.Describing.{followed-concat}
 use Rattle.fst_command.proofs.Making.{told_alike}

@@ -3,8 +3,8 @@ use Rattle.std.proofs.lemmas.List.{length-map}
 use Rattle.fst_semiring.specs.Semiring.{InRange}
 use Rattle.fst_machine.specs.Graph.{graph_of}
 use Rattle.fst_machine.specs.Machine.{valued, valued_state}
-use Rattle.fst_distance.specs.Distances.{Counts, IsDistanceTo, NoneImproves}
-use Rattle.fst_distance.specs.declared.direction.Direction.{Direction}
+use Rattle.fst_search.specs.Distances.{Counts, IsDistanceTo, NoneImproves}
+use Rattle.fst_search.specs.declared.direction.Direction.{Direction}
 use Rattle.fst_command.specs.Causes.{unmade}
 use Rattle.fst_command.specs.Meaning.{text}
 use Rattle.fst_command.specs.Measuring.{AreDistances, Improves, direction_of, measure_meaning, measure_text}

@@ -1,5 +1,5 @@
 use Rattle.std.proofs.Common.{length, ap, arith}
-use Rattle.fst_distance.proofs.Finishing.{turned_length}
+use Rattle.fst_search.proofs.Finishing.{turned_length}
 use Rattle.fst_nbest.proofs.class_back.ClassBackBackward.links_to.Goals as goal
 
 pub links-requires : goal.links-requires

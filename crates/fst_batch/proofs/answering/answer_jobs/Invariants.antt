@@ -1,7 +1,0 @@
-use Rattle.std.proofs.Common.{take}
-use Rattle.std.specs.List.{AllZip}
-use Rattle.fst_batch.specs.Runs.{IsAnswerAt, job_lines}
-use Rattle.fst_batch.proofs.answering.answer_jobs.Given as goal
-
-abbrev pub invariant-loop-job : goal.invariant-loop-job
-invariant-loop-job g l = AllZip (IsAnswerAt (g.A.Answering.answers l.answering l.delayed) l.lines) (job_lines (take l.job-index l.jobs)) l.answers.items

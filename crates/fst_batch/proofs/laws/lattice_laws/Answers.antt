@@ -1,5 +1,0 @@
-use Rattle.fst_batch.proofs.LinePaths.{line_by_line}
-use Rattle.fst_batch.proofs.laws.lattice_laws.Goals as goal
-
-pub returns : goal.returns
-returns g c = line_by_line

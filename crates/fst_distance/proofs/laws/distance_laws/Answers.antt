@@ -1,5 +1,0 @@
-use Rattle.fst_distance.proofs.Relaxed.{relaxed_arc, relaxed_final}
-use Rattle.fst_distance.proofs.laws.distance_laws.Goals as goal
-
-pub returns : goal.returns
-returns g c kind graph = record { final = relaxed_final kind graph; arc = relaxed_arc kind graph }

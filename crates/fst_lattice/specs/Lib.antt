@@ -1,0 +1,11 @@
+pub mod Lattice
+pub mod LinePaths
+pub mod Needed
+pub mod Walks
+pub mod Points
+pub mod Serving
+pub mod Phases
+pub mod Expansions
+pub mod Runs
+pub mod Draws
+pub mod Cascade

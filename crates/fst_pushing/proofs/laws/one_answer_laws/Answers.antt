@@ -1,5 +1,0 @@
-use Rattle.fst_pushing.proofs.OneAnswer.{one_answer}
-use Rattle.fst_pushing.proofs.laws.one_answer_laws.Goals as goal
-
-pub returns : goal.returns
-returns c = λ kind removed m. one_answer kind removed m

@@ -1,5 +1,0 @@
-use Rattle.fst_pushing.proofs.Entering.{NoneLeads}
-use Rattle.fst_pushing.proofs.pushing.leads_to.Given as goal
-
-abbrev pub invariant-loop-arc : goal.invariant-loop-arc
-invariant-loop-arc g l = NoneLeads l.arcs l.arc-index l.state
