@@ -174,6 +174,14 @@ class Operations(unittest.TestCase):
         machine = fst.compile("0 1 1\n0 2 2\n1 3 3 5\n2 3 3 2\n3\n", acceptor=True)
         self.prints(fst.minimize(machine), "0 1 1 1 3\n0 1 2 2\n1 2 3 3\n2 2\n")
 
+    @needs("prune")
+    def test_prune(self):
+        machine = fst.compile("0 1 1 1 1\n0 1 2 2 4\n1\n")
+        self.prints(fst.prune(machine, weight="2", queue_type="lifo"), "0 1 1 1 1\n1\n")
+        self.prints(fst.prune(machine), "0 1 1 1 1\n0 1 2 2 4\n1\n")
+        with self.assertRaises(fst.Refused):
+            fst.prune(machine, weight="x")
+
     @needs("batch")
     def test_batch(self):
         first, second = fst.compile("0 1 97 300\n0 1 98 99 -2\n1\n"), fst.compile("0 1 99 99\n0 1 300 300\n1\n")

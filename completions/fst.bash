@@ -1,7 +1,7 @@
 # Completion of fst for bash.
 _fst() {
   local commands='arcsort batch closure compile compose concat connect determinize encode info invert make minimize print
-    project push relabel replace reverse rmepsilon shortestdistance shortestpath union'
+    project prune push relabel replace reverse rmepsilon shortestdistance shortestpath union'
   local word=${COMP_WORDS[COMP_CWORD]} option= options= values=
   COMPREPLY=()
   if [ "$COMP_CWORD" -eq 1 ]; then
@@ -39,6 +39,7 @@ _fst() {
     encode) options='--encode_labels --encode_weights --decode' ;;
     determinize) options='--max_states=' ;;
     minimize) options='--queue_type=' ;;
+    prune) options='--weight= --queue_type=' ;;
     batch) options='--nshortest= --workers= --max_states= --summary' ;;
     make) options='--seed= --lines= --nshortest= --workers= --max_states=' ;;
   esac

@@ -33,6 +33,7 @@ __fst_row make 'a cascade and lines by a seed, run as a batch' --seed= --lines= 
 __fst_row minimize 'the fewest states' $queue
 __fst_row print 'a binary file to a text' $tables --acceptor --show_weight_one
 __fst_row project 'one side on both' --project_output
+__fst_row prune 'the paths within a threshold of the best' --weight= $queue
 __fst_row push 'weights toward the start' --push_weights --remove_total_weight $queue
 __fst_row relabel 'changes labels by pairs' --relabel_ipairs= --relabel_opairs=
 __fst_row replace 'puts rules in place of their calls'

@@ -444,6 +444,11 @@ def minimize(machine: bytes, *, queue_type: Optional[str] = None) -> Machine:
     return _unary("minimize", machine, *_options(queue_type=queue_type))
 
 
+def prune(machine: bytes, *, weight: Optional[str] = None, queue_type: Optional[str] = None) -> Machine:
+    """The paths whose weight is no worse than the best Times a threshold, a weight text of the arc type."""
+    return _unary("prune", machine, *_options(weight=weight, queue_type=queue_type))
+
+
 def batch(first: bytes, second: bytes, lines: Iterable[Union[str, bytes]], *, nshortest: int = 1, workers: int = 1,
           max_states: Optional[int] = None) -> List[Answer]:
     """The best answers of the cascade of both machines to each line, in order."""

@@ -2,8 +2,8 @@
 //!
 //! The crate has nothing but tests, and no other crate stands on it. They are tables of small machines, written as
 //! texts, with what the definitions make of them, worked out by hand, or beside what the slow programs of `fst_plain`
-//! compute: `queues`, `distances`, `epsilon_removal`, `shortest_paths`, `determinization`, `pushing` and
-//! `minimization`.
+//! compute: `queues`, `distances`, `epsilon_removal`, `shortest_paths`, `determinization`, `pushing`,
+//! `minimization` and `pruning`.
 #![tactic(auto)]
 
 #[cfg(test)]
@@ -14,6 +14,8 @@ mod distances;
 mod epsilon_removal;
 #[cfg(test)]
 mod minimization;
+#[cfg(test)]
+mod pruning;
 #[cfg(test)]
 mod pushing;
 #[cfg(test)]

@@ -2,8 +2,8 @@
 
 ghost use Rattle.std.specs.Prelude.{◌≡◌, ◌<◌, ◌≤◌, length};
 
-use fst_lattice::{Answering, Gate, Job, Lines, OpenGate, make_cascade, run_lines};
 use fst_delayed::{Cache, CountMeter, Delayed};
+use fst_lattice::{Answering, Gate, Job, Lines, OpenGate, make_cascade, run_lines};
 use fst_semiring::Tropical;
 use std::alloc::{AllocError, Global};
 use std::process::Abort;

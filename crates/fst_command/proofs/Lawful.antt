@@ -24,6 +24,7 @@ use Rattle.fst_command.specs.Listing.{path_count}
 use Rattle.fst_command.specs.Meaning.{Made, Meaning, Product, bytes_of}
 use Rattle.fst_command.specs.Measuring.{direction_of}
 use Rattle.fst_command.specs.OneOutcome.{HasOneOutcome, One}
+use Rattle.fst_command.specs.Pruning.{threshold_of}
 use Rattle.fst_command.specs.Steps.{IsWorked}
 use Rattle.fst_command.specs.Trimming.{side_of}
 use Rattle.fst_command.proofs.Deciding.{one_equal, one_error, one_for_one, one_for_two, one_line, one_never, one_told, one_value}
@@ -33,6 +34,7 @@ use Rattle.fst_command.proofs.DecidingComposing.{one_composed}
 use Rattle.fst_command.proofs.DecidingDeterminizing.{one_determinized, one_undetermined}
 use Rattle.fst_command.proofs.DecidingListing.{one_listed, one_unlisted}
 use Rattle.fst_command.proofs.DecidingMinimizing.{one_minimizing, one_unminimized}
+use Rattle.fst_command.proofs.DecidingPruning.{one_prunes, one_unpruned}
 use Rattle.fst_command.proofs.DecidingPushing.{one_pushing, one_unpushed}
 use Rattle.fst_command.proofs.DecidingRemoving.{one_removed_machine, one_unremoved}
 use Rattle.fst_command.proofs.DecidingSizes.{one_cause, one_too_large}
@@ -109,6 +111,10 @@ lawful verbs.Determinize labels o given = record {
 lawful verbs.Minimize labels o given = record {
   stopped = one_for_one _ (λ m. one_line _ _ (λ f h one two. ap unmade (one_unminimized given.kind m f h one two))) given.machines;
   makes = of_one _ (λ m. a_machine given.kind _ (one_minimizing given.kind m)) given.machines;
+}
+lawful verbs.Prune labels o given = record {
+  stopped = one_for_one _ (λ m. one_told _ _ (one_unpruned (threshold_of given.kind o.weight) given.kind m)) given.machines;
+  makes = of_one _ (λ m. a_machine given.kind _ (one_prunes (threshold_of given.kind o.weight) given.kind m)) given.machines;
 }
 lawful verbs.Batch labels o given = record {
   stopped = one_for_two _ (λ a b x y one two. one.1 ∙ sym two.1) given.machines;

@@ -26,6 +26,7 @@ mod DecidingDeterminizing
 mod DecidingListing
 mod DecidingRemoving
 mod DecidingMinimizing
+mod DecidingPruning
 mod DecidingPushing
 mod OneMade
 mod Lawful

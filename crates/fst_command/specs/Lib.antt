@@ -19,6 +19,7 @@ pub mod Listing
 pub mod Batching
 pub mod Making
 pub mod Removing
+pub mod Pruning
 pub mod Pushing
 pub mod Coding
 pub mod Commands

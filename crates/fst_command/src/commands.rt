@@ -20,6 +20,7 @@ mod making;
 mod measuring;
 mod minimizing;
 mod named;
+mod pruning;
 mod pushing;
 mod rational;
 mod removing;
@@ -73,6 +74,7 @@ where
         Verb::Compose => composing::composed(alloc, &plan.options, given),
         Verb::Determinize => determinizing::determinized(alloc, &plan.options, given),
         Verb::Minimize => minimizing::minimized(alloc, &plan.options, given, queues),
+        Verb::Prune => pruning::pruned(alloc, &plan.options, given, queues),
         Verb::Encode => coding::coded(alloc, &plan.options, given),
         Verb::Rmepsilon => removing::removed(alloc, &plan.options, given, queues),
         Verb::Shortestdistance => measuring::measured(alloc, &plan.options, given, queues),

@@ -30,6 +30,8 @@ mod operations;
 #[cfg(test)]
 mod paths;
 #[cfg(test)]
+mod pruned;
+#[cfg(test)]
 mod pushing;
 #[cfg(test)]
 mod queues;

@@ -13,8 +13,8 @@ ghost use Rattle.fst_epsilon.specs.Merging.{AreMarked, ArePaired};
 
 use crate::few::Few;
 use crate::merged::Merged;
-use fst_search::Reached;
 use fst_machine::{Fst, FstArc, WideArc};
+use fst_search::Reached;
 use fst_semiring::{Weight, is_zero};
 use std::alloc::{AllocError, Global};
 

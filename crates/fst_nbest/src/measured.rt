@@ -9,9 +9,9 @@ ghost use Rattle.fst_machine.specs.Machine.{Arc, valued};
 ghost use Rattle.fst_search.specs.Distances.{IfImproving, IsListed, NoneImproves};
 ghost use Rattle.fst_nbest.specs.Ready.{HasDistances};
 
-use fst_search::{DistanceFault, Widens, useful_distances};
 use fst_machine::FstArc;
 use fst_queue::{BestFirst, Fifo};
+use fst_search::{DistanceFault, Widens, useful_distances};
 use fst_semiring::Weight;
 use fst_trim::accessible;
 use std::alloc::Global;

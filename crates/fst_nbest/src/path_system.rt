@@ -12,8 +12,8 @@ ghost use Rattle.fst_nbest.specs.Ready.{IsBounded, count_in, dist_in, most_dista
 use crate::system::System;
 use crate::turns::{Turn, in_order};
 use crate::values::is_zero_wide;
-use fst_search::Widens;
 use fst_machine::FstArc;
+use fst_search::Widens;
 use fst_semiring::Weight;
 use std::alloc::{AllocError, Global};
 use std::cmp::Ordering;

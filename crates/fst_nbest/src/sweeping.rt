@@ -15,8 +15,8 @@ ghost use Rattle.fst_nbest.specs.Words.{NoLess};
 
 use crate::counting::UNCOUNTED;
 use crate::measured::has_better;
-use fst_search::Widens;
 use fst_machine::FstArc;
+use fst_search::Widens;
 use fst_semiring::Weight;
 use fst_trim::AsMachine;
 use std::alloc::{AllocError, Global};

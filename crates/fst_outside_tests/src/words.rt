@@ -64,6 +64,7 @@ fn put_options(alloc: Global, out: &mut String, o: &Options) -> Result<(), Fail>
 
 fn put_more_options(alloc: Global, out: &mut String, o: &Options) -> Result<(), Fail> {
     put_name(out, "queue_type", &o.queue_type)?;
+    put_name(out, "weight", &o.weight)?;
     put_flag(out, "reverse", o.reverse)?;
     put_number(alloc, out, "nshortest", o.nshortest)?;
     put_flag(out, "push_weights", o.push_weights)?;
@@ -207,7 +208,7 @@ static COMMANDS_1: [(&[&str], &str); 24] = [
     ),
 ];
 
-static COMMANDS_2: [(&[&str], &str); 24] = [
+static COMMANDS_2: [(&[&str], &str); 27] = [
     (
         &["arcsort", "--sort_type", "ilabel"],
         "arcsort - - --sort_type=ilabel",
@@ -269,6 +270,12 @@ static COMMANDS_2: [(&[&str], &str); 24] = [
         &["minimize", "--queue_type=fifo", "m"],
         "minimize m - --queue_type=fifo",
     ),
+    (
+        &["prune", "m", "--weight", "x y", "--queue_type=lifo"],
+        "prune m - --queue_type=lifo --weight=x y",
+    ),
+    (&["fstprune", "--weight=", "m"], "prune m - --weight="),
+    (&["prune", "--weight", "-1"], "usage"),
     (&["batch", "a", "b"], "batch a b - -"),
     (
         &[

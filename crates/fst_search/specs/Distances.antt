@@ -3,10 +3,11 @@ use Rattle.std.specs.Prelude.{◌≡◌, ℕ, ◌*◌, Bool, List, Option, None,
 use Rattle.fst_semiring.specs.Cost.{Cost, infinite}
 use Rattle.fst_semiring.specs.declared.arc_type.ArcType.{ArcType}
 use Rattle.fst_semiring.specs.Semiring.{IsCost, Within}
+use Rattle.fst_machine.specs.Machine.{Arc}
 use Rattle.fst_machine.specs.Graph.{Graph}
-use Rattle.fst_machine.specs.Paths.{Transition, places}
+use Rattle.fst_machine.specs.Paths.{Transition, IsPath, places}
 use Rattle.fst_machine.specs.Cycles.{IsAccessible, IsCoaccessible, IsImprovingCycle}
-use Rattle.fst_machine.specs.Distance.{IsDistance, IsFinalDistance, AnyArc}
+use Rattle.fst_machine.specs.Distance.{AllArcs, IsDistance, IsFinalDistance, AnyArc}
 use Rattle.fst_machine.specs.Steps.{written}
 use Rattle.fst_machine.specs.declared.path.Step.{Step}
 use Rattle.fst_search.specs.Hops.{IsOpen}
@@ -69,3 +70,33 @@ IsMarkedDistance marks kind g q d = (IsOpen marks q → IsFinalDistance kind g q
 -- a state that counts, and reaches a final state
 abbrev pub MarkedCounts : List Bool → Graph ℕ → ℕ → Type 0
 MarkedCounts marks g q = IsOpen marks q × IsCoaccessible g q
+
+-- an arc that leads to a state that counts
+abbrev pub LeadsOpen : List Bool → Arc Cost ℕ → Type 0
+LeadsOpen marks a = IsOpen marks a.next
+
+-- the distance from the start over arcs to states that count, which is Zero where there is no start
+abbrev pub IsOpenDistance : List Bool → ArcType → Graph ℕ → Option ℕ → ℕ → Cost → Type 0
+IsOpenDistance marks kind g None q d = d ≡ infinite
+IsOpenDistance marks kind g (Some start) q d = IsDistance kind g (LeadsOpen marks) start q d
+
+-- The start reaches the state over arcs to states that count.
+pub record IsOpenReached (marks : List Bool) (g : Graph ℕ) (q : ℕ) : Type 0 where
+  pub first : ℕ
+  pub path : List (Transition ℕ)
+  pub starts : g.start ≡ Some first
+  pub leads : IsPath g first path q
+  pub class : AllArcs (LeadsOpen marks) path
+
+-- no cycle of arcs to states that count, on a state that the start reaches over such arcs, is better than One
+abbrev pub NoneImprovesOpen : List Bool → ArcType → Graph ℕ → Type 0
+NoneImprovesOpen marks kind g = (p : ℕ) (cycle : List (Transition ℕ)) → IsOpenReached marks g p → AllArcs (LeadsOpen marks) cycle → IsImprovingCycle g kind p cycle → ⊥
+
+-- The distances of n states from the start over arcs to states that count, whose numbers are within n times a bound,
+-- where no cycle of such arcs is better than One.
+pub record IsOpenMeasured (marks : List Bool) (kind : ArcType) (g : Graph ℕ) (n bound : ℕ) (values : List Cost) : Type 0 where
+  pub size : length values ≡ n
+  pub distances : (q : ℕ) (d : Cost) → slice_get values q ≡ Some d → IsOpenDistance marks kind g g.start q d
+  pub numbers : (q : ℕ) (d : Cost) → slice_get values q ≡ Some d → Within (n * bound) d
+  pub kinds : (q : ℕ) (d : Cost) → slice_get values q ≡ Some d → IsCost kind d
+  pub none : NoneImprovesOpen marks kind g

@@ -7,7 +7,7 @@ ghost use Rattle.fst_machine.specs.Graph.{graph_of};
 ghost use Rattle.fst_machine.specs.Machine.{Arc, most_states, valued};
 ghost use Rattle.fst_trim.specs.Links.{Link as LinkValue};
 ghost use Rattle.fst_search.specs.Beginning.{BeginsAt, BeginsFinal, BeginsFinals, IsBegun, IsBlank, Measures};
-ghost use Rattle.fst_search.specs.Distances.{Counts, IsDistanceTo, IsListed, IsMarkedDistance, IsMeasured, MarkedCounts};
+ghost use Rattle.fst_search.specs.Distances.{Counts, IsDistanceTo, IsListed, IsMarkedDistance, IsMeasured, IsOpenMeasured, IsOpenReached, MarkedCounts};
 ghost use Rattle.fst_search.specs.declared.direction.Direction.TheVariants as directions;
 ghost use Rattle.fst_search.specs.Hops.{IsHop, IsNet, IsOpen};
 ghost use Rattle.fst_search.specs.Searching.{distance_at, valued_node};
@@ -73,6 +73,27 @@ fn begin_start<W: Weight, V: Copy, M: Widens<W, V>, Q: StateQueue>(
     Ok(())
 }
 
+/// The distances from the start over arcs to marked states; where there are no marks, over all arcs.
+pub(crate) fn from_start_over<W: Weight, V: Copy, M: Widens<W, V>, Q: StateQueue>(
+    alloc: Global,
+    fst: &M,
+    marks: &[bool],
+    queue: &mut Q,
+) -> Result<Result<Vec<W::Wide>, Path>, AllocError>
+    requires empty { Q.members queue.old ≡ [] }
+    requires known { All (λ s. All (λ a. M.known a.weight) s.arcs) (M.machine fst.now).states }
+    ensures made { IfOk result (λ r. IfOk r (λ v. IsOpenMeasured marks.now W.KIND (graph_of (valued M.value (M.machine fst.now))) (length (M.machine fst.now).states) M.bound (map W.wide_value v.items))) }
+    ensures cycle { IfOk result (λ r. IfErr r (IsListed W.KIND (graph_of (valued M.value (M.machine fst.now))) (IsOpenReached marks.now (graph_of (valued M.value (M.machine fst.now)))))) }
+    ensures empty { IfOk result (λ r. OnOk r (Q.members queue.new ≡ [])) }
+    ensures below { AreBelow (length (M.machine fst.now).states) (Q.members queue.new) }
+{
+    let states = fst.state_count();
+    let links = Links::of(alloc, fst)?;
+    let mut table = blank_table::<W>(alloc, states as usize)?;
+    begin_start(fst, &mut table, queue)?;
+    measure::<W, V, M, Q>(alloc, &mut table, queue, links, marks, Direction::FromStart)
+}
+
 /// The distances from the start.
 pub(crate) fn from_start<W: Weight, V: Copy, M: Widens<W, V>, Q: StateQueue>(
     alloc: Global,
@@ -86,19 +107,8 @@ pub(crate) fn from_start<W: Weight, V: Copy, M: Widens<W, V>, Q: StateQueue>(
     ensures empty { IfOk result (λ r. OnOk r (Q.members queue.new ≡ [])) }
     ensures below { AreBelow (length (M.machine fst.now).states) (Q.members queue.new) }
 {
-    let states = fst.state_count();
     let marks = Vec::new(alloc);
-    let links = Links::of(alloc, fst)?;
-    let mut table = blank_table::<W>(alloc, states as usize)?;
-    begin_start(fst, &mut table, queue)?;
-    measure::<W, V, M, Q>(
-        alloc,
-        &mut table,
-        queue,
-        links,
-        marks.as_slice(),
-        Direction::FromStart,
-    )
+    from_start_over::<W, V, M, Q>(alloc, fst, marks.as_slice(), queue)
 }
 
 /// Gives a state its final weight, if it is final and counts, and puts it.

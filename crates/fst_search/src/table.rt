@@ -39,8 +39,8 @@ fn is_better<W: Weight>(a: W::Wide, b: W::Wide) -> bool
     }
 }
 
-/// Whether a value is Zero.
-pub(crate) fn is_zero_wide<W: Weight>(value: W::Wide) -> bool
+/// Whether a value is Zero. Takes constant time and no memory.
+pub fn is_zero_wide<W: Weight>(value: W::Wide) -> bool
     ensures zero { Decides result (W.wide_value value ≡ infinite) }
     ensures kind { IsCost W.KIND (W.wide_value value) }
 {

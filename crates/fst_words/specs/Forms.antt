@@ -47,6 +47,7 @@ form_of verbs.Push = record { name = codes "push"; options = codes "queue_type" 
 form_of verbs.Encode = record { name = codes "encode"; options = []; flags = codes "encode_labels" ∷ codes "encode_weights" ∷ codes "decode" ∷ []; shape = Codex }
 form_of verbs.Determinize = record { name = codes "determinize"; options = codes "max_states" ∷ []; flags = []; shape = One }
 form_of verbs.Minimize = record { name = codes "minimize"; options = codes "queue_type" ∷ []; flags = []; shape = One }
+form_of verbs.Prune = record { name = codes "prune"; options = codes "weight" ∷ codes "queue_type" ∷ []; flags = []; shape = One }
 form_of verbs.Batch = record {
   name = codes "batch";
   options = codes "nshortest" ∷ codes "workers" ∷ codes "max_states" ∷ [];

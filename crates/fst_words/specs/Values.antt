@@ -115,6 +115,7 @@ options_in rows = record {
   connect = text_in (codes "connect") rows;
   max_states = value_in max_states_of (codes "max_states") rows;
   queue_type = text_in (codes "queue_type") rows;
+  weight = text_in (codes "weight") rows;
   reverse = flag_in (codes "reverse") rows;
   nshortest = value_in nshortest_of (codes "nshortest") rows;
   push_weights = flag_in (codes "push_weights") rows;

@@ -201,6 +201,14 @@ pub(crate) static ROWS: &[Row] = &[
         Room::Freed,
     ),
     (
+        Verb::Prune,
+        "prune",
+        &["weight", "queue_type"],
+        &[],
+        Shape::One,
+        Room::Freed,
+    ),
+    (
         Verb::Batch,
         "batch",
         &["nshortest", "workers", "max_states"],

@@ -157,6 +157,7 @@ pub(crate) fn options_in(alloc: Global, found: &ArgMatches<'_>) -> Result<Option
     let sort_type = name_in(alloc, found, "sort_type")?;
     let connect = name_in(alloc, found, "connect")?;
     let queue_type = name_in(alloc, found, "queue_type")?;
+    let weight = name_in(alloc, found, "weight")?;
     Ok(Options {
         arc_type: arc_type_at(found),
         acceptor: flag_in(found, "acceptor"),
@@ -172,6 +173,7 @@ pub(crate) fn options_in(alloc: Global, found: &ArgMatches<'_>) -> Result<Option
         connect,
         max_states: number_at(found, "max_states", MAX_STATES),
         queue_type,
+        weight,
         reverse: flag_in(found, "reverse"),
         nshortest: number_at(found, "nshortest", NSHORTEST),
         push_weights: flag_in(found, "push_weights"),

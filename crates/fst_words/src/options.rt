@@ -35,6 +35,8 @@ pub struct Options {
     pub max_states: Option<u64>,
     /// `--queue_type`: `auto`, `fifo`, `lifo` or `shortest`
     pub queue_type: Option<Name>,
+    /// `--weight`, a weight text of the machine's arc type: it is read where that is known
+    pub weight: Option<Name>,
     /// `--reverse`
     pub reverse: bool,
     /// `--nshortest`, from 1 to 100,000

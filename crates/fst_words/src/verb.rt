@@ -50,6 +50,8 @@ pub enum Verb {
     Determinize,
     /// The fewest states.
     Minimize,
+    /// What good paths meet.
+    Prune,
     /// The best paths of two composed machines, line by line.
     Batch,
     /// Two machines and lines drawn from a seed, run as a batch.

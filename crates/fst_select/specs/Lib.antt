@@ -1,0 +1,5 @@
+pub mod Good
+pub mod Pruned
+pub mod Refusals
+pub mod Surveyed
+pub mod Thinned
