@@ -78,6 +78,8 @@ ALGEBRA = [
     Row("determinize, a confusion network", f"determinize {MOST} {{confusion}} {{out}}", theirs="determinize {confusion} {out}"),
     Row("push, a trie", "push --push_weights {trie} {out}"),
     Row("push, with cycles", "push --push_weights {classes} {out}"),
+    Row("prune, within 100", "prune --weight=100 {dense} {out}", 0.6, 1.3),
+    Row("prune, a confusion network", "prune --weight=50 {confusion} {out}", 0.6, 1.3),
     Row("minimize, a trie", "minimize {trie} {out}"),
     Row("minimize, a confusion network", "minimize {network} {out}"),
     Row("minimize, with cycles", "minimize {classes} {out}"),
