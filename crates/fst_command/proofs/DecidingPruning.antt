@@ -14,7 +14,7 @@ use Rattle.fst_select.specs.declared.fault.PruneFault.{PruneFault}
 use Rattle.fst_select.specs.declared.fault.PruneFault.TheVariants as faults
 use Rattle.fst_select.proofs.OnePruned.{one_pruned}
 use Rattle.fst_command.specs.OneOutcome.{One}
-use Rattle.fst_command.specs.Pruning.{HasNoBest, IsUnpruned, Prunes}
+use Rattle.fst_command.specs.Pruning.{IsUnpruned, Prunes}
 use Rattle.fst_command.specs.declared.commands.pruning.Unpruned.{Unpruned}
 use Rattle.fst_command.specs.declared.commands.pruning.Unpruned.TheVariants.{BadThreshold, ImprovingCycle}
 

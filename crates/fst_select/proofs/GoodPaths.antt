@@ -1,10 +1,10 @@
 -- Distances decide what lies on good paths.
-use Rattle.std.proofs.Common.{◌≡◌, ◌⊎◌, inl, inr, sym, refl, ap, ap₂, ◌∙◌, subst, ℕ, List, [], ◌∷◌, ◌++◌, Option, None, Some, slice_get, map}
+use Rattle.std.proofs.Common.{◌≡◌, ◌⊎◌, inl, inr, sym, refl, ap, ap₂, ◌∙◌, subst, ℕ, List, [], ◌∷◌, ◌++◌, Option, None, Some, slice_get}
 use Rattle.std.proofs.lemmas.Option.{same_Some}
 use Rattle.fst_semiring.specs.Cost.{Cost, infinite, plus}
 use Rattle.fst_semiring.specs.declared.arc_type.ArcType.{ArcType}
-use Rattle.fst_semiring.specs.Semiring.{one_of, times}
-use Rattle.fst_semiring.proofs.Laws.{keeps_times, one_not_zero, one_times, times_assoc, times_keeps, times_one, times_only_zero, times_zero, zero_times}
+use Rattle.fst_semiring.specs.Semiring.{times}
+use Rattle.fst_semiring.proofs.Laws.{keeps_times, one_not_zero, one_times, times_assoc, times_keeps, times_only_zero, times_zero, zero_times}
 use Rattle.fst_semiring.proofs.Order.{plus_infinite, plus_trans, plus_comm}
 use Rattle.fst_machine.specs.Machine.{Arc}
 use Rattle.fst_machine.specs.Graph.{Graph}
@@ -12,11 +12,11 @@ use Rattle.fst_machine.specs.Letters.{product}
 use Rattle.fst_machine.specs.Paths.{Transition, IsPath, Leaves, letters}
 use Rattle.fst_machine.specs.Relation.{IsSuccessful}
 use Rattle.fst_machine.specs.Cycles.{IsAccessible, IsCoaccessible}
-use Rattle.fst_machine.specs.Distance.{AllArcs, AnyArc, Finishes, IsFinalDistance, IsLeast, Reaches}
+use Rattle.fst_machine.specs.Distance.{AllArcs, AnyArc, Finishes, IsFinalDistance, IsLeast}
 use Rattle.fst_machine.proofs.PathParts.{IsPath-append, IsPath-split, same_path}
 use Rattle.fst_machine.proofs.Letters.{letters-append, product-append}
 use Rattle.fst_search.specs.Hops.{NoWorse}
-use Rattle.fst_select.specs.Good.{Ends, IsBound, IsGood, IsPathWeight, Meets, Takes}
+use Rattle.fst_select.specs.Good.{Ends, IsPathWeight, Meets, Takes}
 use Rattle.fst_select.specs.Surveyed.{Comes, GoodLaws, IsSurveyed, IsWithinBound, best_of_start}
 
 module _ {N : Type 0} (kind : ArcType) (g : Graph N) (solid : (q : N) (k : ℕ) (a : Arc Cost N) → slice_get (g.arcs q) k ≡ Some a → a.weight ≡ infinite → ⊥) where

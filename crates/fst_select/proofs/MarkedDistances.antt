@@ -1,12 +1,12 @@
 -- Distances over arcs to marked states.
-use Rattle.std.proofs.Common.{◌≡◌, ℕ, Bool, true, List, [], ◌∷◌, ◌++◌, Some, get_or, sym, refl, ap, ◌∙◌, subst}
+use Rattle.std.proofs.Common.{◌≡◌, ℕ, List, [], ◌∷◌, ◌++◌, Some, sym, refl, ◌∙◌, subst}
 use Rattle.std.proofs.lemmas.Option.{same_Some}
 use Rattle.std.specs.Prelude.{◌↔◌}
-use Rattle.fst_semiring.specs.Cost.{Cost, infinite}
+use Rattle.fst_semiring.specs.Cost.{Cost}
 use Rattle.fst_semiring.specs.declared.arc_type.ArcType.{ArcType}
 use Rattle.fst_machine.specs.Graph.{Graph}
 use Rattle.fst_machine.specs.Machine.{Arc}
-use Rattle.fst_machine.specs.Paths.{IsPath, Transition, letters}
+use Rattle.fst_machine.specs.Paths.{IsPath, Transition}
 use Rattle.fst_machine.specs.Cycles.{IsAccessible, IsCoaccessible}
 use Rattle.fst_machine.specs.Distance.{AllArcs, AnyArc, IsDistance, IsLeast, Reaches}
 use Rattle.fst_select.specs.Surveyed.{Comes}

@@ -1,5 +1,5 @@
 -- One machine is the pruned one.
-use Rattle.std.proofs.Common.{◌≡◌, ◌⊎◌, inl, inr, ℕ, ◌+◌, ◌<◌, List, [], ◌∷◌, Option, None, Some, length, get_or, slice_get, refl, sym, ap, ◌∙◌, subst, arith}
+use Rattle.std.proofs.Common.{◌≡◌, inl, inr, ℕ, ◌+◌, ◌<◌, List, [], ◌∷◌, Option, None, Some, length, get_or, slice_get, refl, sym, ap, ◌∙◌, subst, arith}
 use Rattle.std.specs.declared.cmp.Ordering.{Ordering}
 use Rattle.std.specs.declared.cmp.Ordering.TheVariants.{Less, Equal, Greater}
 use Rattle.std.proofs.lemmas.Option.{slice_get-get_or}
@@ -10,7 +10,6 @@ use Rattle.fst_semiring.proofs.Order.{cost_cmp_equal, cost_cmp_same}
 use Rattle.fst_machine.specs.BreadthFirst.{Apart}
 use Rattle.fst_machine.specs.Machine.{Arc, Machine}
 use Rattle.fst_machine.specs.Graph.{graph_of}
-use Rattle.fst_machine.specs.Letters.{letter_of}
 use Rattle.fst_machine.proofs.Elements.{Apart_at}
 use Rattle.fst_machine.proofs.OneMachine.{Ascends-Apart, one_arc, one_ascending, one_machine}
 use Rattle.fst_machine.proofs.Weights.{one_least}

@@ -1,17 +1,16 @@
 -- Good paths stay.
-use Rattle.std.proofs.Common.{◌≡◌, ◌⊎◌, inl, inr, sym, refl, ap, ap₂, ◌∙◌, subst, ℕ, ◌+◌, zero, suc, List, [], ◌∷◌, ◌++◌, Some, None, slice_get, length, append_assoc, append-nil, arith}
+use Rattle.std.proofs.Common.{◌≡◌, inl, inr, sym, refl, ap, ap₂, ◌∙◌, subst, ℕ, ◌+◌, zero, suc, List, [], ◌∷◌, ◌++◌, Some, slice_get, append_assoc, arith}
 use Rattle.std.proofs.lemmas.Option.{same_Some}
-use Rattle.fst_semiring.specs.Cost.{Cost, infinite}
+use Rattle.fst_semiring.specs.Cost.{Cost}
 use Rattle.fst_semiring.specs.declared.arc_type.ArcType.{ArcType}
 use Rattle.fst_semiring.specs.Semiring.{times}
-use Rattle.fst_machine.specs.BreadthFirst.{Has}
 use Rattle.fst_machine.specs.Machine.{Arc, Machine}
-use Rattle.fst_machine.specs.Graph.{Graph, graph_of}
-use Rattle.fst_machine.specs.Letters.{Letter, letter_of, product}
+use Rattle.fst_machine.specs.Graph.{graph_of}
+use Rattle.fst_machine.specs.Letters.{letter_of, product}
 use Rattle.fst_machine.specs.Paths.{IsPath, Transition, letters}
 use Rattle.fst_machine.specs.Relation.{IsSuccessful}
 use Rattle.fst_select.specs.Good.{Ends, IsGood, Meets, Takes}
-use Rattle.fst_select.specs.Pruned.{GoodArc, IsOnGood, IsPruned, KeptArcs, PrunedLaws}
+use Rattle.fst_select.specs.Pruned.{GoodArc, IsPruned, KeptArcs, PrunedLaws}
 use Rattle.fst_machine.proofs.Elements.{Has_at}
 use Rattle.fst_machine.proofs.PathParts.{IsPath-append}
 

@@ -1,5 +1,5 @@
 -- The distances of a machine, as a search gives them, survey its graph.
-use Rattle.std.proofs.Common.{◌≡◌, ◌≢◌, ◌⊎◌, ◌↔◌, inl, inr, ℕ, ◌<◌, ◌≤◌, Bool, true, List, [], ◌∷◌, ◌++◌, Option, None, Some, length, map, get_or, slice_get, refl, sym, ap, ◌∙◌, subst, arith}
+use Rattle.std.proofs.Common.{◌≡◌, ◌≢◌, ◌⊎◌, ◌↔◌, inl, inr, ℕ, ◌<◌, ◌≤◌, Bool, true, List, [], ◌∷◌, Option, None, Some, length, map, get_or, slice_get, refl, sym, ap, ◌∙◌, subst, arith}
 use Rattle.std.specs.Bool.{Decides}
 use Rattle.std.specs.Option.{IfSome}
 use Rattle.std.proofs.lemmas.List.{length-map}
@@ -13,7 +13,7 @@ use Rattle.fst_machine.specs.Relation.{IsSuccessful}
 use Rattle.fst_machine.specs.Cycles.{IsAccessible, IsCoaccessible, IsUseful}
 use Rattle.fst_machine.specs.Distance.{IsFinalDistance, IsLeast}
 use Rattle.fst_machine.specs.declared.path.Step.{Step}
-use Rattle.fst_search.specs.Distances.{IfImproving, IsListed, IsOpenDistance, IsOpenReached, IsUsefulDistance, LeadsOpen}
+use Rattle.fst_search.specs.Distances.{IfImproving, IsListed, IsOpenDistance, IsOpenReached, IsUsefulDistance}
 use Rattle.fst_search.specs.Hops.{IsOpen}
 use Rattle.fst_search.specs.declared.fault.DistanceFault.{DistanceFault}
 use Rattle.fst_search.specs.declared.fault.DistanceFault.TheVariants.{ImprovingCycle, Memory}

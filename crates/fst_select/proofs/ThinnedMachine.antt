@@ -1,14 +1,14 @@
 -- Machines with fewer arcs.
-use Rattle.std.proofs.Common.{◌≡◌, ◌⊎◌, inl, inr, ℕ, ◌+◌, ◌<◌, ◌≤◌, zero, suc, Bool, true, false, cond, not, is_lt, List, [], ◌∷◌, ◌++◌, Option, None, Some, filter, length, map, get_or, slice_get, take, refl, sym, ap, ap₂, ◌∙◌, subst, arith}
+use Rattle.std.proofs.Common.{◌≡◌, ℕ, ◌+◌, ◌<◌, ◌≤◌, zero, suc, Bool, true, false, cond, not, is_lt, List, [], ◌∷◌, ◌++◌, Some, filter, length, map, get_or, slice_get, take, refl, sym, ap, ap₂, ◌∙◌, subst, arith}
 use Rattle.std.specs.declared.cmp.Ordering.{Ordering}
 use Rattle.std.specs.declared.cmp.Ordering.TheVariants.{Less, Equal, Greater}
 use Rattle.std.specs.Bool.{Decides}
 use Rattle.std.specs.List.{All, AllByRecursion}
 use Rattle.std.specs.Option.{IfSome}
 use Rattle.std.proofs.lemmas.List.Elements.{recursion_from_All, All-from_recursion, filter_more}
-use Rattle.std.proofs.lemmas.List.Sums.{sum_by-cons, sum_by_push, sum_by_more, sum_by-take-le}
+use Rattle.std.proofs.lemmas.List.Sums.{sum_by-cons, sum_by-take-le}
 use Rattle.std.proofs.lemmas.Option.{same_Some}
-use Rattle.fst_semiring.specs.Cost.{Cost, cost_cmp, infinite, is_infinite, best, finite}
+use Rattle.fst_semiring.specs.Cost.{Cost, cost_cmp, infinite, best, finite}
 use Rattle.fst_semiring.specs.declared.arc_type.ArcType.{ArcType}
 use Rattle.fst_semiring.specs.Semiring.{times}
 use Rattle.fst_semiring.proofs.Order.{plus_least, plus_unless}

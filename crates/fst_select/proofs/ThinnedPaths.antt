@@ -1,22 +1,20 @@
 -- The connected machine of one with the arcs and final weights alone that good paths have is the pruned machine.
-use Rattle.std.proofs.Common.{◌≡◌, ◌⊎◌, ◌↔◌, inl, inr, ℕ, ◌+◌, ◌<◌, zero, suc, Bool, true, false, cond, List, [], ◌∷◌, ◌++◌, Option, None, Some, filter, length, slice_get, refl, sym, ap, ◌∙◌, subst, append_assoc, append-nil, arith}
+use Rattle.std.proofs.Common.{◌≡◌, inl, inr, ℕ, ◌+◌, suc, Bool, true, false, cond, List, [], ◌∷◌, ◌++◌, None, Some, filter, slice_get, refl, sym, ap, ◌∙◌, subst, append_assoc, append-nil, arith}
 use Rattle.std.specs.Bool.{Decides}
 use Rattle.fst_semiring.specs.Cost.{Cost, infinite}
 use Rattle.fst_semiring.specs.declared.arc_type.ArcType.{ArcType}
 use Rattle.fst_semiring.specs.Semiring.{times}
-use Rattle.fst_machine.specs.BreadthFirst.{Has}
 use Rattle.fst_machine.specs.Machine.{Arc, Machine, no_states}
 use Rattle.fst_machine.specs.Graph.{Graph, graph_of}
 use Rattle.fst_machine.specs.Paths.{Transition, IsPath}
 use Rattle.fst_machine.specs.Relation.{IsSuccessful}
 use Rattle.fst_machine.specs.Cycles.{IsCoaccessible, IsUseful}
 use Rattle.fst_machine.specs.Connected.{IsConnected, Kept}
-use Rattle.fst_machine.specs.Distance.{IsLeast}
 use Rattle.fst_machine.proofs.PathParts.{IsPath-append, IsPath-split}
-use Rattle.fst_select.specs.Good.{Ends, IsBound, IsGood, IsPathWeight, Meets, Takes}
+use Rattle.fst_select.specs.Good.{Ends, IsBound, IsGood, Meets}
 use Rattle.fst_select.specs.Pruned.{GoodArc, IsPruned, KeptArcs}
-use Rattle.fst_select.specs.Surveyed.{GoodLaws, IsSurveyed, IsWithinBound, best_of_start}
-use Rattle.fst_select.specs.Thinned.{arc_passes, is_within, last_of}
+use Rattle.fst_select.specs.Surveyed.{GoodLaws, IsSurveyed, best_of_start}
+use Rattle.fst_select.specs.Thinned.{arc_passes, is_within}
 use Rattle.fst_select.proofs.GoodPaths.{cut, good_laws}
 use Rattle.fst_select.proofs.ThinnedMachine.{at_filter, filter_at, thin, thinned_arcs, thinned_final, within_decides}
 

@@ -1,7 +1,7 @@
 -- Good paths: the successful ones whose weight is no worse than a bound, which is the best weight Times a threshold.
 -- (OpenFst manual, "Prune".)
-use Rattle.std.specs.Prelude.{◌≡◌, ℕ, List, [], ◌∷◌, ◌++◌, Some}
-use Rattle.fst_semiring.specs.Cost.{Cost, infinite}
+use Rattle.std.specs.Prelude.{◌≡◌, List, ◌∷◌, ◌++◌, Some}
+use Rattle.fst_semiring.specs.Cost.{Cost}
 use Rattle.fst_semiring.specs.declared.arc_type.ArcType.{ArcType}
 use Rattle.fst_semiring.specs.Semiring.{times}
 use Rattle.fst_machine.specs.Graph.{Graph}

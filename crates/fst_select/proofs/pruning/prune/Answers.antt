@@ -1,4 +1,4 @@
-use Rattle.std.proofs.Common.{◌≡◌, sym, subst}
+use Rattle.std.proofs.Common.{sym, subst}
 use Rattle.fst_machine.specs.Machine.{Machine, valued}
 use Rattle.fst_select.specs.Pruned.{IsPruned}
 use Rattle.fst_select.proofs.PrunedPaths.{pruned_laws}

@@ -1,9 +1,7 @@
-use Rattle.std.proofs.Common.{◌≡◌, ◌≢◌, ◌≤◌, ◌*◌, ℕ, Bool, true, List, Option, Some, get_or, length, slice_get, ap, ◌∙◌, sym, subst, subst₂, arith}
+use Rattle.std.proofs.Common.{◌≡◌, ◌≢◌, ◌*◌, ℕ, Bool, true, List, Some, get_or, length, slice_get, ap, ◌∙◌, sym, subst, subst₂, arith}
 use Rattle.std.specs.Bool.{Decides}
-use Rattle.fst_semiring.specs.Cost.{Cost, infinite}
-use Rattle.fst_semiring.specs.Semiring.{Within}
+use Rattle.fst_semiring.specs.Cost.{infinite}
 use Rattle.fst_semiring.proofs.Ranges.{Within-more}
-use Rattle.fst_machine.specs.Cycles.{IsUseful}
 use Rattle.fst_machine.specs.Graph.{graph_of}
 use Rattle.fst_machine.specs.Machine.{valued}
 use Rattle.fst_search.specs.Distances.{IfImproving, IsListed, IsOpenDistance, IsOpenReached}

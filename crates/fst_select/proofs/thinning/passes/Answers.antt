@@ -1,4 +1,4 @@
-use Rattle.std.proofs.Common.{◌≡◌, ◌≤◌, ◌+◌, ap, ap₂, ◌∙◌, sym, subst, arith}
+use Rattle.std.proofs.Common.{◌+◌, ap, ◌∙◌, sym, subst, arith}
 use Rattle.fst_semiring.specs.Semiring.{times, Within}
 use Rattle.fst_semiring.proofs.Ranges.{Within-more, Within-times}
 use Rattle.fst_select.specs.Thinned.{is_within, most_sum}

@@ -1,5 +1,5 @@
-use Rattle.std.proofs.Common.{◌≡◌, sym, ap, ap₂, ◌∙◌, subst₂}
-use Rattle.fst_machine.specs.Machine.{IsMachine, Machine, valued}
+use Rattle.std.proofs.Common.{sym, ap, ap₂, ◌∙◌, subst₂}
+use Rattle.fst_machine.specs.Machine.{IsMachine, valued}
 use Rattle.fst_distance.specs.Values.{value_in}
 use Rattle.fst_select.proofs.ThinnedMachine.{thinned_is_machine, thinned-valued}
 use Rattle.fst_select.proofs.thinning.thin.Goals as goal

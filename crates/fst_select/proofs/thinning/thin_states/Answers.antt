@@ -1,5 +1,5 @@
-use Rattle.std.proofs.Common.{◌≡◌, ◌<◌, ◌≤◌, ℕ, filter, length, sym, ap, ◌∙◌, arith}
-use Rattle.fst_machine.specs.Machine.{Arc, State, most_arcs}
+use Rattle.std.proofs.Common.{◌≡◌, ◌<◌, filter, length, sym, ap, ◌∙◌, arith}
+use Rattle.fst_machine.specs.Machine.{State, most_arcs}
 use Rattle.fst_machine.proofs.Valued.{stands}
 use Rattle.fst_distance.specs.Values.{value_in}
 use Rattle.fst_distance.proofs.Lists.{value_read}
