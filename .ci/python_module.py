@@ -179,7 +179,7 @@ class Operations(unittest.TestCase):
         machine = fst.compile("0 1 1 1 1\n0 1 2 2 4\n1\n")
         self.prints(fst.prune(machine, weight="2", queue_type="lifo"), "0 1 1 1 1\n1\n")
         self.prints(fst.prune(machine), "0 1 1 1 1\n0 1 2 2 4\n1\n")
-        with self.assertRaises(fst.Refused):
+        with self.assertRaises(fst.Refusal):
             fst.prune(machine, weight="x")
 
     @needs("batch")
