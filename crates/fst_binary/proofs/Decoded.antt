@@ -1,5 +1,5 @@
 -- What decoding builds is a machine.
-use Rattle.std.proofs.Common.{◌≡◌, ℕ, ◌≤◌, ◌<◌, ◌≢◌, Bool, true, false, eqb, List, [], ◌∷◌, ◌++◌, ◌-◌, drop, length, map, Option, Result, Ok, Err, All, refl, sym, ap, subst, ◌∙◌, arith}
+use Rattle.std.proofs.Common.{◌≡◌, ℕ, ◌≤◌, ◌<◌, ◌≢◌, Bool, true, false, eqb, List, [], ◌∷◌, ◌++◌, ◌-◌, drop, length, map, Option, Result, Ok, Err, All, inl, inr, refl, sym, ap, subst, ◌∙◌, arith}
 use Rattle.std.specs.Prelude.{IfSome}
 use Rattle.std.specs.List.{AllByRecursion}
 use Rattle.std.proofs.lemmas.Bool.{eq-eqb, eqb-true}
@@ -8,7 +8,13 @@ use Rattle.std.proofs.lemmas.List.Elements.{All-from_recursion}
 use Rattle.fst_semiring.specs.declared.arc_type.ArcType.{ArcType}
 use Rattle.fst_semiring.specs.Cost.{Cost}
 use Rattle.fst_machine.specs.Machine.{Arc, State, IsArc, IsMachine, arc_total, most_arcs, most_states, valued_arc, valued_state}
-use Rattle.fst_binary.specs.Reading.{BinaryFault, arc_type_of_bytes, header_at, machine_at, machine_of_bytes, states_at, types_at}
+use Rattle.fst_binary.specs.Reading.{BinaryFault, Fails, TabledMachine, arc_type_of_bytes, header_at, machine_at, machine_of_bytes, states_at, tabled_at, tabled_of_bytes, types_at}
+use Rattle.fst_bytes.specs.declared.fault.Stopped.{Stopped}
+use Rattle.fst_bytes.specs.declared.fault.Stopped.TheVariants.{At, Memory}
+use Rattle.fst_bytes.specs.Stopping.{Stops}
+use Rattle.fst_symbols.specs.Symbols.{Symbol}
+use Rattle.fst_binary.specs.Sides.{has_input, has_output, side_at, sides_at}
+use Rattle.fst_binary.specs.declared.fault.BinaryKind.{BinaryKind}
 use Rattle.fst_binary.specs.declared.fault.BinaryKind.TheVariants.{BadCount, Extra}
 use Rattle.fst_binary.specs.declared.header.Header.{Header}
 use Rattle.fst_binary.specs.Spelling.{type_fields}
@@ -29,17 +35,17 @@ not_true false h = refl
 unequal : (a b : ℕ) → a ≢ b → eqb a b ≡ false
 unequal a b h = not_true (eqb a b) (λ e. h (eqb-true a b e))
 
-pub machine_miscounted : (kind : ArcType) (h : Header) (bytes : List ℕ) (ss : List (State Cost)) (next : ℕ) → states_at kind h.states h.arcs 0 h.states bytes h.behind ≡ Ok (ss, next) → arc_total ss ≢ h.arcs → machine_at kind h bytes ≡ fault BadCount h.counted
+pub machine_miscounted : (kind : ArcType) (h : Header) (bytes : List ℕ) (at : ℕ) (ss : List (State Cost)) (next : ℕ) → states_at kind h.states h.arcs 0 h.states bytes at ≡ Ok (ss, next) → arc_total ss ≢ h.arcs → machine_at kind h bytes at ≡ fault BadCount h.counted
 unfolding machine_at
-machine_miscounted kind h bytes ss next e other = rw (e, unequal _ _ other) refl
+machine_miscounted kind h bytes at ss next e other = rw (e, unequal _ _ other) refl
 
-pub machine_goes_on : (kind : ArcType) (h : Header) (bytes : List ℕ) (ss : List (State Cost)) (next : ℕ) → states_at kind h.states h.arcs 0 h.states bytes h.behind ≡ Ok (ss, next) → arc_total ss ≡ h.arcs → next ≢ length bytes → machine_at kind h bytes ≡ fault Extra next
+pub machine_goes_on : (kind : ArcType) (h : Header) (bytes : List ℕ) (at : ℕ) (ss : List (State Cost)) (next : ℕ) → states_at kind h.states h.arcs 0 h.states bytes at ≡ Ok (ss, next) → arc_total ss ≡ h.arcs → next ≢ length bytes → machine_at kind h bytes at ≡ fault Extra next
 unfolding machine_at
-machine_goes_on kind h bytes ss next e same other = rw (e, eq-eqb _ _ same, unequal _ _ other) refl
+machine_goes_on kind h bytes at ss next e same other = rw (e, eq-eqb _ _ same, unequal _ _ other) refl
 
-pub machine_ends : (kind : ArcType) (h : Header) (bytes : List ℕ) (ss : List (State Cost)) (next : ℕ) → states_at kind h.states h.arcs 0 h.states bytes h.behind ≡ Ok (ss, next) → arc_total ss ≡ h.arcs → next ≡ length bytes → machine_at kind h bytes ≡ Ok (record { start = h.start; states = ss })
+pub machine_ends : (kind : ArcType) (h : Header) (bytes : List ℕ) (at : ℕ) (ss : List (State Cost)) (next : ℕ) → states_at kind h.states h.arcs 0 h.states bytes at ≡ Ok (ss, next) → arc_total ss ≡ h.arcs → next ≡ length bytes → machine_at kind h bytes at ≡ Ok (record { start = h.start; states = ss })
 unfolding machine_at
-machine_ends kind h bytes ss next e same end = rw (e, eq-eqb _ _ same, eq-eqb _ _ end) refl
+machine_ends kind h bytes at ss next e same end = rw (e, eq-eqb _ _ same, eq-eqb _ _ end) refl
 
 -- ---- good values make good weights
 
@@ -54,10 +60,10 @@ own_states value kind n (s ∷ ss) h = (All-from_recursion (IsArc value n) s.arc
 same_start : (s : Option ℕ) (n k : ℕ) → n ≡ k → IfSome s (λ x. x < k) → IfSome s (λ x. x < n)
 same_start s n k e h = rw e h
 
-pub IsMachine-decoded : {V : Type 0} (value : V → Cost) (kind : ArcType) (h : Header) (bytes : List ℕ) (ss : List (State V)) (next : ℕ) → h.behind ≤ length bytes → IsBytes bytes → IfSome h.start (λ s. s < h.states) → h.states ≤ most_states → h.arcs ≤ most_arcs
-    → states_at kind h.states h.arcs 0 h.states bytes h.behind ≡ Ok (map (valued_state value) ss, next) → arc_total ss ≡ h.arcs → IsMachine value (record { start = h.start; states = ss })
-IsMachine-decoded {V} value kind h bytes ss next within fits start few_states few_arcs e same =
-    let t = states_takes kind h.states h.arcs 0 h.states bytes h.behind (map (valued_state value) ss) next within fits e in
+pub IsMachine-decoded : {V : Type 0} (value : V → Cost) (kind : ArcType) (h : Header) (bytes : List ℕ) (at : ℕ) (ss : List (State V)) (next : ℕ) → at ≤ length bytes → IsBytes bytes → IfSome h.start (λ s. s < h.states) → h.states ≤ most_states → h.arcs ≤ most_arcs
+    → states_at kind h.states h.arcs 0 h.states bytes at ≡ Ok (map (valued_state value) ss, next) → arc_total ss ≡ h.arcs → IsMachine value (record { start = h.start; states = ss })
+IsMachine-decoded {V} value kind h bytes at ss next within fits start few_states few_arcs e same =
+    let t = states_takes kind h.states h.arcs 0 h.states bytes at (map (valued_state value) ss) next within fits e in
     let count : length ss ≡ h.states = sym (length-map ss (valued_state value)) ∙ t.2 in
     let arcs = own_states value kind h.states ss t.1 in
     record {
@@ -89,10 +95,37 @@ type_alone bytes kind other next fits e h =
 
 -- ---- the whole
 
-pub whole_read : (kind : ArcType) (bytes : List ℕ) (next : ℕ) (h : Header) → types_at (kind ∷ []) bytes ≡ Ok (kind, next) → header_at bytes next ≡ Ok h → machine_of_bytes kind bytes ≡ machine_at kind h bytes
-unfolding machine_of_bytes
+pub whole_read : (kind : ArcType) (bytes : List ℕ) (next : ℕ) (h : Header) → types_at (kind ∷ []) bytes ≡ Ok (kind, next) → header_at bytes next ≡ Ok h → tabled_of_bytes kind bytes ≡ tabled_at kind h bytes
+unfolding tabled_of_bytes
 whole_read kind bytes next h e f = rw (e, f) refl
 
-pub header_wrong : (kind : ArcType) (bytes : List ℕ) (next : ℕ) (f : BinaryFault) → types_at (kind ∷ []) bytes ≡ Ok (kind, next) → header_at bytes next ≡ Err f → machine_of_bytes kind bytes ≡ Err f
-unfolding machine_of_bytes
+pub header_wrong : (kind : ArcType) (bytes : List ℕ) (next : ℕ) (f : BinaryFault) → types_at (kind ∷ []) bytes ≡ Ok (kind, next) → header_at bytes next ≡ Err f → tabled_of_bytes kind bytes ≡ Err f
+unfolding tabled_of_bytes
 header_wrong kind bytes next f e h = rw (e, h) refl
+
+-- the tables of both sides are read
+sides_are_read : (flags : ℕ) (input output : Bool) (bytes : List ℕ) (at between next : ℕ) (i o : Option (List Symbol)) → input ≡ has_input flags → output ≡ has_output flags → side_at input bytes at ≡ Ok (i, between) → side_at output bytes between ≡ Ok (o, next)
+    → sides_at flags bytes at ≡ Ok (record { isymbols = i; osymbols = o }, next)
+unfolding sides_at
+sides_are_read flags input output bytes at between next i o e f first second = rw (← e, ← f, first, second) refl
+
+-- and why the machine behind them is not read is why the whole is not
+pub tabled_stops : (kind : ArcType) (h : Header) (bytes : List ℕ) (input output : Bool) (between at : ℕ) (i o : Option (List Symbol)) (stopped : Stopped BinaryKind) → input ≡ has_input h.flags → output ≡ has_output h.flags → side_at input bytes h.behind ≡ Ok (i, between) → side_at output bytes between ≡ Ok (o, at)
+    → Stops stopped (machine_at kind h bytes at) → Stops stopped (tabled_at kind h bytes)
+unfolding tabled_at
+tabled_stops kind h bytes input output between at i o (At f) e g first second wrong = rw (sides_are_read h.flags input output bytes h.behind between at i o e g first second, wrong) refl
+tabled_stops kind h bytes input output between at i o Memory e g first second starved = tt
+
+-- ---- the machine alone
+
+pub machine_alone : (kind : ArcType) (bytes : List ℕ) (t : TabledMachine) → tabled_of_bytes kind bytes ≡ Ok t → machine_of_bytes kind bytes ≡ Ok t.machine
+unfolding machine_of_bytes
+machine_alone kind bytes t e = rw e refl
+
+machine_fault : (kind : ArcType) (bytes : List ℕ) (f : BinaryFault) → tabled_of_bytes kind bytes ≡ Err f → machine_of_bytes kind bytes ≡ Err f
+unfolding machine_of_bytes
+machine_fault kind bytes f e = rw e refl
+
+pub machine_fails : (kind : ArcType) (bytes : List ℕ) (f : BinaryFault) → Fails f (tabled_of_bytes kind bytes) → Fails f (machine_of_bytes kind bytes)
+machine_fails kind bytes f (inl starved) = inl starved
+machine_fails kind bytes f (inr wrong) = inr (machine_fault kind bytes f wrong)

@@ -10,15 +10,16 @@ use Rattle.fst_semiring.specs.declared.arc_type.ArcType.{ArcType}
 use Rattle.fst_semiring.specs.declared.arc_type.ArcType.TheVariants.{Boolean, Tropical, MinMax, Lexicographic}
 use Rattle.fst_semiring.specs.Cost.{Cost}
 use Rattle.fst_machine.specs.Machine.{Arc, State, Machine, IsArc, IsMachine, valued, valued_arc, valued_state}
-use Rattle.fst_binary.specs.Spelling.{HasFields, HasSpelling, count_fields, spelling, state_fields, type_fields}
+use Rattle.fst_binary.specs.Sides.{HasSides, Sides, flags_of, neither, side_fields, version_of}
+use Rattle.fst_binary.specs.Spelling.{HasFields, HasSpelling, count_fields, state_fields, tabled_spelling, type_fields}
 use Rattle.fst_bytes.specs.Spelling.{HasField, long, word}
 use Rattle.fst_semiring.specs.Names.{known, name_of}
-use Rattle.fst_binary.specs.Reading.{arc_type_of_bytes, machine_of_bytes}
+use Rattle.fst_binary.specs.Reading.{arc_type_of_bytes, machine_of_bytes, tabled_of_bytes}
 use Rattle.fst_binary.proofs.Headers.{types_again}
 use Rattle.fst_bytes.proofs.Names.{IsNamed}
 use Rattle.fst_bytes.proofs.Lengths.{length-long}
 use Rattle.fst_machine.proofs.Valued.{arc_total-valued}
-use Rattle.fst_binary.proofs.Machines.{machine_again}
+use Rattle.fst_binary.proofs.Machines.{machine_again, tabled_again}
 
 -- what holds of each value of a weight
 value_arcs : {V : Type 0} (value : V → Cost) (n : ℕ) (arcs : List (Arc V ℕ)) → AllByRecursion (IsArc value n) arcs → AllByRecursion (IsArc (λ v. v) n) (map (valued_arc value) arcs)
@@ -108,18 +109,23 @@ named_in kinds kind h = record { has = length_found kinds kind h.0 h.1 h.2; is =
 begins : (a b c d e f : List ℕ) → a ++ b ++ c ++ d ++ e ++ f ≡ a ++ (b ++ (c ++ (d ++ (e ++ f))))
 begins a b c d e f = simp append_assoc
 
-pub type_of_spelling : (kind : ArcType) (m : Machine Cost) → Contains known kind → arc_type_of_bytes (spelling kind m) ≡ Ok kind
+pub type_of_spelling : (kind : ArcType) (m : Machine Cost) (s : Sides) → Contains known kind → arc_type_of_bytes (tabled_spelling kind m s) ≡ Ok kind
 unfolding arc_type_of_bytes
-type_of_spelling kind m has =
-    let r = types_again known kind (spelling kind m) _ (named_in known kind has) (begins (type_fields kind) (word 2) (word 0) (long 3) (count_fields m) (flat_map (state_fields kind) m.states)) in
+type_of_spelling kind m s has =
+    let behind = side_fields s.isymbols ++ (side_fields s.osymbols ++ flat_map (state_fields kind) m.states) in
+    let r = types_again known kind (tabled_spelling kind m s) _ (named_in known kind has) (begins (type_fields kind) (word (version_of s.isymbols s.osymbols)) (word (flags_of s.isymbols s.osymbols)) (long 3) (count_fields m) behind) in
     rw r.gives refl
 
 -- ---- the same of what a function returned
 
-pub is_again : {X E : Type 0} (kind : ArcType) (m : Machine Cost) (items : X → List ℕ) (result : Result X E) → HasSpelling kind m → IfOk result (λ x. items x ≡ spelling kind m) → IfOk result (λ x. machine_of_bytes kind (items x) ≡ Ok m)
-is_again kind m items (Ok x) has e = ap (machine_of_bytes kind) e ∙ machine_again kind (long 3) m has (length-long 3)
-is_again kind m items (Err f) has e = tt
+pub is_again : {X E : Type 0} (kind : ArcType) (m : Machine Cost) (s : Sides) (items : X → List ℕ) (result : Result X E) → HasSpelling kind m → s ≡ neither → IfOk result (λ x. items x ≡ tabled_spelling kind m s) → IfOk result (λ x. machine_of_bytes kind (items x) ≡ Ok m)
+is_again kind m s items (Ok x) has none e = ap (machine_of_bytes kind) (e ∙ ap (tabled_spelling kind m) none) ∙ machine_again kind m has
+is_again kind m s items (Err f) has none e = tt
 
-pub is_named : {X E : Type 0} (kind : ArcType) (m : Machine Cost) (items : X → List ℕ) (result : Result X E) → IfOk result (λ x. items x ≡ spelling kind m) → IfOk result (λ x. Contains known kind → arc_type_of_bytes (items x) ≡ Ok kind)
-is_named kind m items (Ok x) e = λ has. ap arc_type_of_bytes e ∙ type_of_spelling kind m has
-is_named kind m items (Err f) e = tt
+pub is_again_tabled : {X E : Type 0} (kind : ArcType) (m : Machine Cost) (s : Sides) (items : X → List ℕ) (result : Result X E) → HasSpelling kind m → HasSides s → IfOk result (λ x. items x ≡ tabled_spelling kind m s) → IfOk result (λ x. tabled_of_bytes kind (items x) ≡ Ok (record { machine = m; sides = s }))
+is_again_tabled kind m s items (Ok x) has sided e = ap (tabled_of_bytes kind) e ∙ tabled_again kind (long 3) m s has sided (length-long 3)
+is_again_tabled kind m s items (Err f) has sided e = tt
+
+pub is_named : {X E : Type 0} (kind : ArcType) (m : Machine Cost) (s : Sides) (items : X → List ℕ) (result : Result X E) → IfOk result (λ x. items x ≡ tabled_spelling kind m s) → IfOk result (λ x. Contains known kind → arc_type_of_bytes (items x) ≡ Ok kind)
+is_named kind m s items (Ok x) e = λ has. ap arc_type_of_bytes e ∙ type_of_spelling kind m s has
+is_named kind m s items (Err f) e = tt

@@ -5,8 +5,11 @@ use Rattle.std.specs.List.{find}
 use Rattle.std.proofs.lemmas.Bool.{eqb-true, le-leb, leb-true, lt-ltb, ltb-true}
 use Rattle.fst_semiring.specs.declared.arc_type.ArcType.{ArcType}
 use Rattle.fst_machine.specs.Machine.{most_arcs, most_states}
+use Rattle.fst_symbols.specs.Symbols.{Symbol}
+use Rattle.fst_binary.specs.Sides.{are_flags, flags_at, flags_of, version_of}
+use Rattle.fst_binary.proofs.SidesRead.{flags_again, flags_take}
 use Rattle.fst_binary.specs.Reading.{BinaryFault, header_at, is_start, start_at, types_at}
-use Rattle.fst_binary.specs.declared.fault.BinaryKind.TheVariants.{BadCount, BadFlags, BadMagic, BadStart, BadVersion, Short, UnknownArcType, UnknownFstType}
+use Rattle.fst_binary.specs.declared.fault.BinaryKind.TheVariants.{BadCount, BadMagic, BadStart, Short, UnknownArcType, UnknownFstType}
 use Rattle.fst_binary.specs.declared.header.Header.{Header}
 use Rattle.fst_binary.specs.Spelling.{start_number, type_fields}
 use Rattle.fst_bytes.specs.Spelling.{long, signed, text, word}
@@ -104,9 +107,13 @@ abbrev pub counts : Header → List ℕ
 counts h = signed (start_number h.start) ++ long h.states ++ long h.arcs
 
 pub record HeaderTaken (bytes front : List ℕ) (h : Header) : Type 0 where
+  pub version : ℕ
+  pub low : 2 ≤ version
+  pub high : version ≤ 3
+  pub fit : are_flags version h.flags ≡ true
   pub properties : List ℕ
   pub eight : length properties ≡ 8
-  pub taken : Takes bytes 0 (front ++ word 2 ++ word 0 ++ properties ++ counts h) h.behind
+  pub taken : Takes bytes 0 (front ++ word version ++ word h.flags ++ properties ++ counts h) h.behind
   pub start : IfSome h.start (λ s. s < h.states)
   pub few_states : h.states ≤ most_states
   pub few_arcs : h.arcs ≤ most_arcs
@@ -114,55 +121,55 @@ pub record HeaderTaken (bytes front : List ℕ) (h : Header) : Type 0 where
 pub header_takes : (bytes front : List ℕ) (at : ℕ) (h : Header) → IsBytes bytes → Takes bytes 0 front at → header_at bytes at ≡ Ok h → HeaderTaken bytes front h
 unfolding header_at
 header_takes bytes front at h fits begins e =
-    let arcs_of = λ (start : Option ℕ × ℕ) (offset : ℕ) (states : ℕ × ℕ). cond (is_start start.0 states.0) (number_where (λ n. leb n most_arcs) Short BadCount 8 bytes states.1) (fault BadStart offset) >>= λ arcs. done {A = Header} {E = BinaryFault} (record { start = start.0; states = states.0; arcs = arcs.0; counted = states.1; behind = arcs.1 }) in
-    let states_of = λ (start : Option ℕ × ℕ) (offset : ℕ). number_where (λ n. leb n most_states) Short BadCount 8 bytes start.1 >>= arcs_of start offset in
-    let start_of = λ (p : ℕ × ℕ). start_at bytes p.1 >>= λ start. states_of start p.1 in
-    let b0 = bind_ok (number_where (λ n. eqb n 2) Short BadVersion 4 bytes at) (λ v. number_where (λ n. eqb n 0) Short BadFlags 4 bytes v.1 >>= λ f. number_at Short 8 bytes f.1 >>= start_of) h e in
-    let b1 = bind_ok (number_where (λ n. eqb n 0) Short BadFlags 4 bytes b0.0.1) (λ f. number_at Short 8 bytes f.1 >>= start_of) h b0.2 in
-    let b2 = bind_ok (number_at Short 8 bytes b1.0.1) start_of h b1.2 in
-    let b3 = bind_ok (start_at bytes b2.0.1) (λ start. states_of start b2.0.1) h b2.2 in
-    let b4 = bind_ok (number_where (λ n. leb n most_states) Short BadCount 8 bytes b3.0.1) (arcs_of b3.0 b2.0.1) h b3.2 in
-    let b5 = bind_ok (cond (is_start b3.0.0 b4.0.0) (number_where (λ n. leb n most_arcs) Short BadCount 8 bytes b4.0.1) (fault BadStart b2.0.1)) (λ arcs. done {A = Header} {E = BinaryFault} (record { start = b3.0.0; states = b4.0.0; arcs = arcs.0; counted = b4.0.1; behind = arcs.1 })) h b4.2 in
+    let arcs_of = λ (flags : ℕ) (start : Option ℕ × ℕ) (offset : ℕ) (states : ℕ × ℕ). cond (is_start start.0 states.0) (number_where (λ n. leb n most_arcs) Short BadCount 8 bytes states.1) (fault BadStart offset) >>= λ arcs. done {A = Header} {E = BinaryFault} (record { flags = flags; start = start.0; states = states.0; arcs = arcs.0; counted = states.1; behind = arcs.1 }) in
+    let states_of = λ (flags : ℕ) (start : Option ℕ × ℕ) (offset : ℕ). number_where (λ n. leb n most_states) Short BadCount 8 bytes start.1 >>= arcs_of flags start offset in
+    let start_of = λ (flags : ℕ) (p : ℕ × ℕ). start_at bytes p.1 >>= λ start. states_of flags start p.1 in
+    let b1 = bind_ok (flags_at bytes at) (λ f. number_at Short 8 bytes f.1 >>= start_of f.0) h e in
+    let flags = b1.0.0 in
+    let b2 = bind_ok (number_at Short 8 bytes b1.0.1) (start_of flags) h b1.2 in
+    let b3 = bind_ok (start_at bytes b2.0.1) (λ start. states_of flags start b2.0.1) h b2.2 in
+    let b4 = bind_ok (number_where (λ n. leb n most_states) Short BadCount 8 bytes b3.0.1) (arcs_of flags b3.0 b2.0.1) h b3.2 in
+    let b5 = bind_ok (cond (is_start b3.0.0 b4.0.0) (number_where (λ n. leb n most_arcs) Short BadCount 8 bytes b4.0.1) (fault BadStart b2.0.1)) (λ arcs. done {A = Header} {E = BinaryFault} (record { flags = flags; start = b3.0.0; states = b4.0.0; arcs = arcs.0; counted = b4.0.1; behind = arcs.1 })) h b4.2 in
     let g = guard_passed (is_start b3.0.0 b4.0.0) (number_where (λ n. leb n most_arcs) Short BadCount 8 bytes b4.0.1) (record { offset = b2.0.1; kind = BadStart }) b5.0 b5.1 in
-    let t0 = where_takes (λ n. eqb n 2) Short BadVersion 4 (2 ^ 32) word words bytes at b0.0.0 b0.0.1 fits b0.1 in
-    let t1 = where_takes (λ n. eqb n 0) Short BadFlags 4 (2 ^ 32) word words bytes b0.0.1 b1.0.0 b1.0.1 fits b1.1 in
+    let kind = flags_take bytes at flags b1.0.1 fits b1.1 in
     let t2 = (number_takes Short 8 (2 ^ 64) long longs bytes b1.0.1 b2.0.0 b2.0.1 fits b2.1).0 in
     let t3 = start_takes bytes b2.0.1 b3.0.0 b3.0.1 fits b3.1 in
     let t4 = where_takes (λ n. leb n most_states) Short BadCount 8 (2 ^ 64) long longs bytes b3.0.1 b4.0.0 b4.0.1 fits b4.1 in
     let t5 = where_takes (λ n. leb n most_arcs) Short BadCount 8 (2 ^ 64) long longs bytes b4.0.1 b5.0.0 b5.0.1 fits g.1 in
-    let version : Takes bytes at (word 2) b0.0.1 = subst (λ (n : ℕ). Takes bytes at (word n) b0.0.1) (eqb-true _ _ t0.1) t0.0 in
-    let flags : Takes bytes b0.0.1 (word 0) b1.0.1 = subst (λ (n : ℕ). Takes bytes b0.0.1 (word n) b1.0.1) (eqb-true _ _ t1.1) t1.0 in
-    let two = Takes-then bytes 0 front at (word 2) b0.0.1 begins version in
-    let three = Takes-then bytes 0 (front ++ word 2) b0.0.1 (word 0) b1.0.1 two flags in
-    let four = Takes-then bytes 0 (front ++ word 2 ++ word 0) b1.0.1 (long b2.0.0) b2.0.1 three t2 in
+    let two = Takes-then bytes 0 front at (word kind.version) kind.between begins kind.first in
+    let three = Takes-then bytes 0 (front ++ word kind.version) kind.between (word flags) b1.0.1 two kind.second in
+    let four = Takes-then bytes 0 (front ++ word kind.version ++ word flags) b1.0.1 (long b2.0.0) b2.0.1 three t2 in
     let counted = Takes-then bytes b2.0.1 (signed (start_number b3.0.0)) b3.0.1 (long b4.0.0) b4.0.1 t3 t4.0 in
     let all = Takes-then bytes b2.0.1 (signed (start_number b3.0.0) ++ long b4.0.0) b4.0.1 (long b5.0.0) b5.0.1 counted t5.0 in
-    let made : Header = record { start = b3.0.0; states = b4.0.0; arcs = b5.0.0; counted = b4.0.1; behind = b5.0.1 } in
+    let made : Header = record { flags = flags; start = b3.0.0; states = b4.0.0; arcs = b5.0.0; counted = b4.0.1; behind = b5.0.1 } in
     let taken : HeaderTaken bytes front made = record {
+      version = kind.version;
+      low = kind.low;
+      high = kind.high;
+      fit = kind.fit;
       properties = long b2.0.0;
       eight = length-long b2.0.0;
-      taken = Takes-then bytes 0 (front ++ word 2 ++ word 0 ++ long b2.0.0) b2.0.1 (counts made) b5.0.1 four all;
+      taken = Takes-then bytes 0 (front ++ word kind.version ++ word flags ++ long b2.0.0) b2.0.1 (counts made) b5.0.1 four all;
       start = start_is_below b3.0.0 b4.0.0 g.0;
       few_states = leb-true _ _ t4.1;
       few_arcs = leb-true _ _ t5.1;
     } in
     subst (λ (k : Header). HeaderTaken bytes front k) (ok_is {A = Header} {E = BinaryFault} made h b5.2) taken
 
-pub record HeaderRead (bytes : List ℕ) (at : ℕ) (start : Option ℕ) (states arcs : ℕ) (rest : List ℕ) : Type 0 where
+pub record HeaderRead (bytes : List ℕ) (at flags : ℕ) (start : Option ℕ) (states arcs : ℕ) (rest : List ℕ) : Type 0 where
   pub counted : ℕ
   pub behind : ℕ
-  pub gives : header_at bytes at ≡ Ok (record { start = start; states = states; arcs = arcs; counted = counted; behind = behind })
+  pub gives : header_at bytes at ≡ Ok (record { flags = flags; start = start; states = states; arcs = arcs; counted = counted; behind = behind })
   pub left : drop behind bytes ≡ rest
   pub within : behind ≤ length bytes
 
-pub header_again : (bytes : List ℕ) (at : ℕ) (properties : List ℕ) (start : Option ℕ) (states arcs : ℕ) (rest : List ℕ) → at ≤ length bytes → length properties ≡ 8 → IfSome start (λ s. s < states) → states ≤ most_states → arcs ≤ most_arcs
-    → drop at bytes ≡ word 2 ++ (word 0 ++ (properties ++ (signed (start_number start) ++ (long states ++ (long arcs ++ rest))))) → HeaderRead bytes at start states arcs rest
+pub header_again : (bytes : List ℕ) (at : ℕ) (i o : Option (List Symbol)) (properties : List ℕ) (start : Option ℕ) (states arcs : ℕ) (rest : List ℕ) → at ≤ length bytes → length properties ≡ 8 → IfSome start (λ s. s < states) → states ≤ most_states → arcs ≤ most_arcs
+    → drop at bytes ≡ word (version_of i o) ++ (word (flags_of i o) ++ (properties ++ (signed (start_number start) ++ (long states ++ (long arcs ++ rest))))) → HeaderRead bytes at (flags_of i o) start states arcs rest
 unfolding header_at
-header_again bytes at properties start states arcs rest within eight below few_states few_arcs e =
-    let two = where_again (λ n. eqb n 2) Short BadVersion 4 (2 ^ 32) word words bytes at 2 (word 0 ++ (properties ++ (signed (start_number start) ++ (long states ++ (long arcs ++ rest))))) within (omega arith) refl e in
-    let none = where_again (λ n. eqb n 0) Short BadFlags 4 (2 ^ 32) word words bytes two.next 0 (properties ++ (signed (start_number start) ++ (long states ++ (long arcs ++ rest)))) two.within (omega arith) refl two.left in
-    let any = any_number_again Short 8 bytes none.next properties (signed (start_number start) ++ (long states ++ (long arcs ++ rest))) none.within eight none.left in
+header_again bytes at i o properties start states arcs rest within eight below few_states few_arcs e =
+    let kind = flags_again i o bytes at (properties ++ (signed (start_number start) ++ (long states ++ (long arcs ++ rest)))) within e in
+    let any = any_number_again Short 8 bytes kind.next properties (signed (start_number start) ++ (long states ++ (long arcs ++ rest))) kind.within eight kind.left in
     let s = start_again bytes any.1.next start (long states ++ (long arcs ++ rest)) any.1.within (start_is_small start states few_states below) any.1.left in
     let n = where_again (λ n. leb n most_states) Short BadCount 8 (2 ^ 64) long longs bytes s.next states (long arcs ++ rest) s.within (omega (arith, few_states)) (le-leb _ _ few_states) s.left in
     let a = where_again (λ n. leb n most_arcs) Short BadCount 8 (2 ^ 64) long longs bytes n.next arcs rest n.within (omega (arith, few_arcs)) (le-leb _ _ few_arcs) n.left in
-    record { counted = n.next; behind = a.next; gives = rw (two.gives, none.gives, any.1.gives, s.gives, n.gives, start_passes start states below, a.gives) refl; left = a.left; within = a.within }
+    record { counted = n.next; behind = a.next; gives = rw (kind.gives, any.1.gives, s.gives, n.gives, start_passes start states below, a.gives) refl; left = a.left; within = a.within }

@@ -1,4 +1,8 @@
 pub mod Lists
+pub mod Tables
+pub mod Written
+pub mod SymbolLoops
+pub mod SidesRead
 pub mod Lengths
 pub mod Parts
 pub mod Loops

@@ -6,17 +6,13 @@ use Rattle.fst_fields.specs.Reading.{◌>>=◌}
 use Rattle.fst_semiring.specs.declared.arc_type.ArcType.{ArcType}
 use Rattle.fst_semiring.specs.Cost.{Cost}
 use Rattle.fst_semiring.specs.Names.{known}
-use Rattle.fst_bytes.specs.declared.fault.FileFault.{FileFault}
 use Rattle.fst_bytes.specs.Reading.{arc_type_at, fault, file_weight_at, label_at, many_at, named_at, non_zero_weight_at, number_at, number_where}
 use Rattle.fst_machine.specs.Machine.{Arc, State, Machine, arc_total, most_arcs, most_states}
-use Rattle.fst_binary.specs.declared.fault.BinaryKind.{BinaryKind}
-use Rattle.fst_binary.specs.declared.fault.BinaryKind.TheVariants.{Short, BadMagic, UnknownFstType, UnknownArcType, BadVersion, BadFlags, BadStart}
+use Rattle.fst_binary.specs.declared.fault.BinaryKind.TheVariants.{Short, BadMagic, UnknownFstType, UnknownArcType, BadStart}
 use Rattle.fst_binary.specs.declared.fault.BinaryKind.TheVariants.{BadCount, BadLabel, BadNext, BadWeight, Extra, Memory}
 use Rattle.fst_binary.specs.declared.header.Header.{Header}
-
--- a fault of a file in the binary form
-abbrev pub BinaryFault : Type 0
-BinaryFault = FileFault BinaryKind
+use Rattle.fst_binary.specs.Sides.{Sides, flags_at, sides_at}
+pub use Rattle.fst_binary.specs.Faults.{BinaryFault}
 
 -- What a function returned, seen by view, is what reading gives, unless memory ran out.
 abbrev pub no_memory : BinaryFault
@@ -59,13 +55,12 @@ start_at bytes at = do
 -- The fields from the version to the number of arcs. The start is judged once the number of states is known.
 unfoldable pub header_at : List ℕ → ℕ → Result Header BinaryFault
 header_at bytes at = do
-  version ← number_where (λ n. n == 2) Short BadVersion 4 bytes at
-  flags ← number_where (λ n. n == 0) Short BadFlags 4 bytes version.1
+  flags ← flags_at bytes at
   properties ← number_at Short 8 bytes flags.1
   start ← start_at bytes properties.1
   states ← number_where (λ n. nat_le n most_states) Short BadCount 8 bytes start.1
   arcs ← if is_start start.0 states.0 then number_where (λ n. nat_le n most_arcs) Short BadCount 8 bytes states.1 else fault BadStart properties.1
-  Ok (record { start = start.0; states = states.0; arcs = arcs.0; counted = states.1; behind = arcs.1 })
+  Ok (record { flags = flags.0; start = start.0; states = states.0; arcs = arcs.0; counted = states.1; behind = arcs.1 })
 
 -- ---- states and arcs
 
@@ -98,17 +93,37 @@ states_at kind states arcs before (suc n) bytes at = do
   others ← states_at kind states arcs (before + length first.0.arcs) n bytes first.1
   Ok (first.0 ∷ others.0, others.1)
 
--- the machine of a header and of what stands after it, to the end of the bytes
-unfoldable pub machine_at : ArcType → Header → List ℕ → Result (Machine Cost) BinaryFault
-machine_at kind header bytes = do
-  all ← states_at kind header.states header.arcs 0 header.states bytes header.behind
+-- the machine of a header and of its states, which stand at an offset and go to the end of the bytes
+unfoldable pub machine_at : ArcType → Header → List ℕ → ℕ → Result (Machine Cost) BinaryFault
+machine_at kind header bytes at = do
+  all ← states_at kind header.states header.arcs 0 header.states bytes at
   if arc_total all.0 == header.arcs
       then (if all.1 == length bytes then Ok (record { start = header.start; states = all.0 }) else fault Extra all.1)
       else fault BadCount header.counted
 
--- the machine of a file whose arc type is this one
-unfoldable pub machine_of_bytes : ArcType → List ℕ → Result (Machine Cost) BinaryFault
-machine_of_bytes kind bytes = do
+-- ---- the whole
+
+-- a machine and its tables
+pub record TabledMachine : Type 0 where
+  pub machine : Machine Cost
+  pub sides : Sides
+
+-- those of a header and of what stands after it, to the end of the bytes
+unfoldable pub tabled_at : ArcType → Header → List ℕ → Result TabledMachine BinaryFault
+tabled_at kind header bytes = do
+  sides ← sides_at header.flags bytes header.behind
+  machine ← machine_at kind header bytes sides.1
+  Ok (record { machine = machine; sides = sides.0 })
+
+-- those of a file whose arc type is this one
+unfoldable pub tabled_of_bytes : ArcType → List ℕ → Result TabledMachine BinaryFault
+tabled_of_bytes kind bytes = do
   types ← types_at (kind ∷ []) bytes
   header ← header_at bytes types.1
-  machine_at kind header bytes
+  tabled_at kind header bytes
+
+-- the machine of such a file, without its tables
+unfoldable pub machine_of_bytes : ArcType → List ℕ → Result (Machine Cost) BinaryFault
+machine_of_bytes kind bytes = do
+  tabled ← tabled_of_bytes kind bytes
+  Ok tabled.machine

@@ -1,12 +1,13 @@
--- The binary form of a machine: one field after the other, each number with its least byte first. (OpenFst,
--- fst.h, "FstHeader", and vector-fst.h, "VectorFst": a header, then each state with its final weight, its
--- number of arcs and its arcs. The tagged weight fields are this project's own.)
+-- The binary form of a machine and its symbol tables: one field after the other, each number with its least byte first.
+-- (OpenFst, fst.h, "FstHeader", and vector-fst.h, "VectorFst": a header, then the symbol tables, then each state with its
+-- final weight, its number of arcs and its arcs. The tagged weight fields and the form of a table are this project's own.)
 use Rattle.std.specs.Prelude.{◌≡◌, ℕ, ℤ, pos, neg_ℤ, List, ◌++◌, length, Option, Some, None, All, codes}
 use Rattle.std.specs.List.{flat_map}
 use Rattle.fst_semiring.specs.declared.arc_type.ArcType.{ArcType}
 use Rattle.fst_semiring.specs.Cost.{Cost}
 use Rattle.fst_bytes.specs.Spelling.{HasField, long, signed, text, weight_field, word}
 use Rattle.fst_machine.specs.Machine.{Arc, State, Machine, IsMachine, arc_total}
+use Rattle.fst_binary.specs.Sides.{HasSides, Sides, flags_of, neither, side_fields, version_of}
 pub use Rattle.fst_semiring.specs.Names.{name_of}
 
 -- an arc: its labels, its weight and its next state
@@ -30,21 +31,33 @@ type_fields kind = word 2125659606 ++ text (codes "vector") ++ text (name_of kin
 abbrev pub count_fields : Machine Cost → List ℕ
 count_fields m = signed (start_number m.start) ++ long (length m.states) ++ long (arc_total m.states)
 
--- all that stands before the states of a machine with this start and so many states and arcs, as it is written
-abbrev pub header_fields : ArcType → Option ℕ → ℕ → ℕ → List ℕ
-header_fields kind start states arcs = type_fields kind ++ word 2 ++ word 0 ++ long 3 ++ (signed (start_number start) ++ long states ++ long arcs)
+-- all that stands before the states of a machine with this start, so many states and arcs, and these tables, as it is
+-- written
+abbrev pub header_fields : ArcType → Sides → Option ℕ → ℕ → ℕ → List ℕ
+header_fields kind s start states arcs =
+    type_fields kind ++ word (version_of s.isymbols s.osymbols) ++ word (flags_of s.isymbols s.osymbols) ++ long 3 ++ (signed (start_number start) ++ long states ++ long arcs) ++ side_fields s.isymbols ++ side_fields s.osymbols
 
--- a machine with these eight bytes as its properties: its types, version 2, no flags, its counts, its states
-abbrev pub spelling_with : List ℕ → ArcType → Machine Cost → List ℕ
-spelling_with properties kind m = type_fields kind ++ word 2 ++ word 0 ++ properties ++ count_fields m ++ flat_map (state_fields kind) m.states
+-- A machine and its tables with these eight bytes as its properties: its types, the version and the flags, its counts, the
+-- tables that are there, its states.
+abbrev pub tabled_with : List ℕ → ArcType → Machine Cost → Sides → List ℕ
+tabled_with properties kind m s =
+    type_fields kind ++ word (version_of s.isymbols s.osymbols) ++ word (flags_of s.isymbols s.osymbols) ++ properties ++ count_fields m ++ (side_fields s.isymbols ++ (side_fields s.osymbols ++ flat_map (state_fields kind) m.states))
 
--- a machine with the properties 3, as it is written
+-- a machine and its tables with the properties 3, as it is written
+abbrev pub tabled_spelling : ArcType → Machine Cost → Sides → List ℕ
+tabled_spelling kind m s = tabled_with (long 3) kind m s
+
+-- a machine without tables, as it is written
 abbrev pub spelling : ArcType → Machine Cost → List ℕ
-spelling kind m = spelling_with (long 3) kind m
+spelling kind m = tabled_spelling kind m neither
 
--- the bytes are a machine of an arc type with any eight bytes as its properties
+-- the bytes are a machine of an arc type and its tables with any eight bytes as its properties
+abbrev pub TabledSpells : ArcType → List ℕ → Machine Cost → Sides → Type 0
+TabledSpells kind bytes m s = (properties : List ℕ) × (length properties ≡ 8) × (bytes ≡ tabled_with properties kind m s)
+
+-- and with any tables
 abbrev pub Spells : ArcType → List ℕ → Machine Cost → Type 0
-Spells kind bytes m = (properties : List ℕ) × (length properties ≡ 8) × (bytes ≡ spelling_with properties kind m)
+Spells kind bytes m = (s : Sides) × HasSides s × TabledSpells kind bytes m s
 
 -- a machine that has a spelling: each weight has a weight field
 pub record HasSpelling (kind : ArcType) (m : Machine Cost) : Type 0 where

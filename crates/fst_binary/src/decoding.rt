@@ -5,26 +5,27 @@ ghost use Rattle.std.specs.Result.{result_map_both};
 ghost use Rattle.fst_semiring.specs.Cost.{Cost};
 ghost use Rattle.fst_machine.specs.Machine.{Machine, arc_total, most_arcs, most_states, valued, valued_arc, valued_state};
 ghost use Rattle.fst_machine.specs.OpenStates.{none_open};
-ghost use Rattle.fst_binary.specs.Spelling.{HasSpelling, Spells};
-ghost use Rattle.fst_binary.specs.Reading.{Gives, arc_at, arc_type_of_bytes, arcs_at, machine_at, machine_of_bytes, state_at, states_at};
+ghost use Rattle.fst_binary.specs.Sides.{HasSides, Sides};
+ghost use Rattle.fst_binary.specs.Spelling.{HasSpelling, Spells, TabledSpells};
+ghost use Rattle.fst_binary.specs.Reading.{Gives, arc_at, arc_type_of_bytes, arcs_at, machine_at, machine_of_bytes, state_at, states_at, tabled_at, tabled_of_bytes};
+ghost use Rattle.fst_binary.specs.Seeing.{tabled_seen};
 ghost use Rattle.fst_bytes.specs.Reading.{number_count, number_where, with_front};
 ghost use Rattle.fst_bytes.specs.Stopping.{Answers};
 
-use crate::fault::BinaryFault;
 use crate::fault::BinaryKind::{
     self, BadCount, BadLabel, BadNext, BadWeight, Extra, Memory, Short,
 };
+use crate::fault::{BinaryFault, BinaryStop};
 use crate::header::{Header, read_header, read_types};
+use crate::sides::{has_input, has_output, read_side};
+use crate::tabled::Tabled;
 use fst_bytes::{
-    Stopped, expect_end, fault_at, most_that_fit, numbered_length, read_count, read_label,
+    expect_end, fault_at, most_that_fit, numbered_length, read_count, read_label,
     read_non_zero_weight, read_numbered, read_weight, read_word, word_at,
 };
 use fst_machine::{Fst, FstArc, MOST_LABEL, OpenList, StateList};
 use fst_semiring::Weight;
 use std::alloc::{AllocError, Global};
-
-/// Why reading a machine stopped.
-type BinaryStop = Stopped<BinaryKind>;
 
 /// The number of one of the states, and the offset after it.
 #[tactic(auto, unfolding(fst_bytes::specs::Reading::number_where))]
@@ -228,24 +229,26 @@ fn reserve<W: Weight>(
     OpenList::with_capacity(alloc, states, arcs)
 }
 
-/// The states of a header, and the offset after them. Space is reserved for no more than the bytes can hold.
+/// The states of a header, which stand at an offset, and the offset after them. Space is reserved for no more than the
+/// bytes from there on can hold.
 fn read_states<W: Weight>(
     alloc: Global,
     bytes: &[u8],
     header: Header,
+    at: usize,
 ) -> Result<(StateList<W>, usize), BinaryStop>
-    requires behind { header.behind ≤ length bytes.now }
+    requires behind { at ≤ length bytes.now }
     requires few_arcs { header.arcs ≤ most_arcs }
-    ensures value { Answers (λ x. (map (valued_state W.value) x.0, x.1)) result (states_at W.KIND header.states header.arcs 0 header.states bytes.now header.behind) }
+    ensures value { Answers (λ x. (map (valued_state W.value) x.0, x.1)) result (states_at W.KIND header.states header.arcs 0 header.states bytes.now at) }
     ensures few_arcs { IfOk result (λ x. arc_total x.0 ≤ header.arcs) }
     ensures behind { IfOk result (λ x. x.1 ≤ length bytes.now) }
 {
-    let left = bytes.len() - header.behind;
+    let left = bytes.len() - at;
     let room = most_that_fit(header.states as usize, left, 9);
     let arc_room = most_that_fit(header.arcs as usize, left, 13);
     let mut list = reserve(alloc, left, room, arc_room)?;
     let mut before = 0;
-    let mut behind = header.behind;
+    let mut behind = at;
     for _ in 0..header.states {
         let (last, after) = read_state(bytes, behind, header, before, &mut list)?;
         before = list.arc_count() as u32;
@@ -267,48 +270,99 @@ fn expect_arcs(arcs: usize, header: Header) -> Result<(), BinaryFault>
     }
 }
 
-/// The machine of a header and of what stands after it, to the end of the bytes.
+/// The machine of a header and of its states, which stand at an offset and go to the end of the bytes.
 #[tactic(auto, unfolding(crate::specs::Reading::machine_at))]
 fn read_machine<W: Weight>(
     alloc: Global,
     bytes: &[u8],
     header: Header,
+    at: usize,
 ) -> Result<Fst<W>, BinaryStop>
-    requires behind { header.behind ≤ length bytes.now }
+    requires behind { at ≤ length bytes.now }
     requires start { IfSome header.start (λ s. s < header.states) }
     requires few_states { header.states ≤ most_states }
     requires few_arcs { header.arcs ≤ most_arcs }
-    ensures { Answers (λ m. valued W.value m) result (machine_at W.KIND header bytes.now) }
+    ensures { Answers (λ m. valued W.value m) result (machine_at W.KIND header bytes.now at) }
 {
-    let (states, behind) = read_states(alloc, bytes, header)?;
+    let (states, behind) = read_states(alloc, bytes, header, at)?;
     expect_arcs(states.arc_count(), header)?;
     expect_end(bytes, behind, Extra)?;
     Ok(states.into_machine(header.start))
 }
 
-/// The machine of bytes whose arc type is that of the weight, or why reading it stopped.
-fn read_file<W: Weight>(alloc: Global, bytes: &[u8]) -> Result<Fst<W>, BinaryStop>
+/// The machine and the tables of a header and of what stands after it, to the end of the bytes.
+#[tactic(auto, unfolding(crate::specs::Reading::tabled_at, crate::specs::Sides::sides_at))]
+fn read_tabled<W: Weight>(
+    alloc: Global,
+    bytes: &[u8],
+    header: Header,
+) -> Result<Tabled<W>, BinaryStop>
+    requires behind { header.behind ≤ length bytes.now }
+    requires start { IfSome header.start (λ s. s < header.states) }
+    requires few_states { header.states ≤ most_states }
+    requires few_arcs { header.arcs ≤ most_arcs }
+    ensures { Answers (λ t. tabled_seen W.value t) result (tabled_at W.KIND header bytes.now) }
+{
+    let (isymbols, behind) = read_side(alloc, bytes, header.behind, has_input(header.flags))?;
+    let (osymbols, behind) = read_side(alloc, bytes, behind, has_output(header.flags))?;
+    let fst = read_machine(alloc, bytes, header, behind)?;
+    Ok(Tabled {
+        fst,
+        isymbols,
+        osymbols,
+    })
+}
+
+/// The machine and the tables of bytes whose arc type is that of the weight, or why reading them stopped.
+fn read_file<W: Weight>(alloc: Global, bytes: &[u8]) -> Result<Tabled<W>, BinaryStop>
     requires { arc_type_of_bytes bytes.now ≡ Ok W.KIND }
-    ensures { Answers (λ m. valued W.value m) result (machine_of_bytes W.KIND bytes.now) }
+    ensures { Answers (λ t. tabled_seen W.value t) result (tabled_of_bytes W.KIND bytes.now) }
 {
     let (_, behind) = read_types(bytes)?;
     let header = read_header(bytes, behind)?;
-    read_machine(alloc, bytes, header)
+    read_tabled(alloc, bytes, header)
 }
 
-/// The machine of bytes whose arc type is that of the weight.
-fn read_whole<W: Weight>(alloc: Global, bytes: &[u8]) -> Result<Fst<W>, BinaryFault>
+/// The machine and the tables of bytes whose arc type is that of the weight.
+fn read_whole<W: Weight>(alloc: Global, bytes: &[u8]) -> Result<Tabled<W>, BinaryFault>
     requires { arc_type_of_bytes bytes.now ≡ Ok W.KIND }
-    ensures { Gives (λ m. valued W.value m) result (machine_of_bytes W.KIND bytes.now) }
+    ensures { Gives (λ t. tabled_seen W.value t) result (tabled_of_bytes W.KIND bytes.now) }
 {
     match read_file(alloc, bytes) {
-        Ok(fst) => Ok(fst),
+        Ok(tabled) => Ok(tabled),
         Err(stopped) => Err(stopped.into_fault(Memory)),
     }
 }
 
-/// The machine whose bytes these are, or their first fault. `arc_type` of the bytes has to be the arc type of
-/// the weight. Space is reserved for no more than the bytes can hold, whatever a count says.
+/// The machine of bytes whose arc type is that of the weight, without its tables.
+fn read_untabled<W: Weight>(alloc: Global, bytes: &[u8]) -> Result<Fst<W>, BinaryFault>
+    requires { arc_type_of_bytes bytes.now ≡ Ok W.KIND }
+    ensures { Gives (λ m. valued W.value m) result (machine_of_bytes W.KIND bytes.now) }
+{
+    match read_whole(alloc, bytes) {
+        Ok(tabled) => Ok(tabled.fst),
+        Err(fault) => Err(fault),
+    }
+}
+
+/// The machine whose bytes these are, and the symbol tables that it carries, or the first fault of the bytes. `arc_type` of
+/// the bytes has to be the arc type of the weight. Takes time by the bytes. Space is reserved for no more than the bytes can
+/// hold, whatever a count says.
+pub fn decode_tabled<W: Weight>(alloc: Global, bytes: &[u8]) -> Result<Tabled<W>, BinaryFault>
+    requires { arc_type_of_bytes bytes.now ≡ Ok W.KIND }
+    // What is read is spelled so.
+    ensures found { IfOk result (λ t. TabledSpells W.KIND bytes.now (tabled_seen W.value t).machine (tabled_seen W.value t).sides × HasSpelling W.KIND (tabled_seen W.value t).machine × HasSides (tabled_seen W.value t).sides) }
+    // What is spelled so is read, unless memory runs out.
+    ensures only { (m : Machine Cost) (s : Sides) → HasSpelling W.KIND m → HasSides s → TabledSpells W.KIND bytes.now m s → Gives (λ t. tabled_seen W.value t) result (Ok (record { machine = m; sides = s })) }
+    // Which fault it is.
+    ensures exact { Gives (λ t. tabled_seen W.value t) result (tabled_of_bytes W.KIND bytes.now) }
+{
+    read_whole(alloc, bytes)
+}
+
+/// The machine whose bytes these are, without the symbol tables that it may carry, or the first fault of the bytes: they
+/// are those of `decode_tabled`. `arc_type` of the bytes has to be the arc type of the weight. Space is reserved for no more
+/// than the bytes can hold, whatever a count says.
 pub fn decode<W: Weight>(alloc: Global, bytes: &[u8]) -> Result<Fst<W>, BinaryFault>
     requires { arc_type_of_bytes bytes.now ≡ Ok W.KIND }
     // What is read is spelled so.
@@ -318,5 +372,5 @@ pub fn decode<W: Weight>(alloc: Global, bytes: &[u8]) -> Result<Fst<W>, BinaryFa
     // Which fault it is.
     ensures exact { Gives (λ m. valued W.value m) result (machine_of_bytes W.KIND bytes.now) }
 {
-    read_whole(alloc, bytes)
+    read_untabled(alloc, bytes)
 }

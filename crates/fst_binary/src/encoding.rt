@@ -7,10 +7,15 @@ ghost use Rattle.fst_semiring.specs.Cost.{infinite};
 ghost use Rattle.fst_semiring.specs.Names.{known, name_of};
 ghost use Rattle.fst_bytes.specs.Reading.{has_best, number_count};
 ghost use Rattle.fst_bytes.specs.Spelling.{HasField, long, signed, word};
-ghost use Rattle.fst_binary.specs.Reading.{arc_type_of_bytes, machine_of_bytes};
-ghost use Rattle.fst_binary.specs.Spelling.{HasFields, HasSpelling, arc_fields, header_fields, spelling, start_number, state_fields, type_fields};
+ghost use Rattle.fst_binary.specs.Reading.{arc_type_of_bytes, machine_of_bytes, tabled_of_bytes};
+ghost use Rattle.fst_binary.specs.Seeing.{tabled_seen};
+ghost use Rattle.fst_binary.specs.Sides.{HasSides, flags_of, side_fields, version_of};
+ghost use Rattle.fst_binary.specs.Spelling.{HasFields, HasSpelling, arc_fields, header_fields, spelling, start_number, state_fields, tabled_spelling, type_fields};
 
 use crate::by_place::States;
+use crate::sides::{LentTables, append_side, flags_of, side_length, version_of};
+use crate::tabled::Tabled;
+use byteorder::{ByteOrder, LittleEndian};
 use fst_bytes::{
     append, append_arc_type, append_long, append_signed, append_text, append_weight, append_word,
     numbered_length, weight_length,
@@ -101,10 +106,14 @@ fn append_arc_of_number(out: &mut Vec<u8>, ilabel: u32, olabel: u32, number: i64
     ensures items { out.new.items ≡ out.old.items ++ (word ilabel ++ word olabel ++ (1 ∷ signed number) ++ word next) }
     ensures room { vec_capacity out.old ≤ vec_capacity out.new }
 {
-    let i = ilabel.to_le_bytes();
-    let o = olabel.to_le_bytes();
-    let n = number.to_le_bytes();
-    let q = next.to_le_bytes();
+    let mut i = [0; 4];
+    let mut o = [0; 4];
+    let mut n = [0; 8];
+    let mut q = [0; 4];
+    LittleEndian::write_u32(&mut i, ilabel);
+    LittleEndian::write_u32(&mut o, olabel);
+    LittleEndian::write_i64(&mut n, number);
+    LittleEndian::write_u32(&mut q, next);
     let bytes = [
         i[0], i[1], i[2], i[3], o[0], o[1], o[2], o[3], 1, n[0], n[1], n[2], n[3], n[4], n[5],
         n[6], n[7], q[0], q[1], q[2], q[3],
@@ -210,25 +219,34 @@ fn append_leaving<W: Weight>(out: &mut Vec<u8>, leaving: Leaving<W>)
     }
 }
 
-/// How many bytes stand before the states.
+/// How many bytes stand before the tables.
 fn header_length(kind: ArcType) -> usize
     ensures { result ≡ 58 + length (name_of kind) }
 {
     58 + kind.name().len()
 }
 
+/// How many bytes the tables take.
+fn tables_length(tables: &LentTables) -> usize
+    ensures value { result ≡ length (side_fields tables.now.isymbols) + length (side_fields tables.now.osymbols) }
+    ensures bound { result ≤ 42949672974 }
+    ensures fits { HasSides tables.now }
+{
+    side_length(tables.isymbols) + side_length(tables.osymbols)
+}
+
 /// Appends the fields up to the flags where there is room.
-fn append_types(out: &mut Vec<u8>, kind: ArcType)
+fn append_types(out: &mut Vec<u8>, kind: ArcType, tables: &LentTables)
     requires { length out.old.items + 26 + length (name_of kind) ≤ vec_capacity out.old }
-    ensures items { out.new.items ≡ out.old.items ++ (type_fields kind ++ word 2 ++ word 0) }
+    ensures items { out.new.items ≡ out.old.items ++ (type_fields kind ++ word (version_of tables.now.isymbols tables.now.osymbols) ++ word (flags_of tables.now.isymbols tables.now.osymbols)) }
     ensures len { length out.new.items ≡ length out.old.items + 26 + length (name_of kind) }
     ensures room { vec_capacity out.old ≤ vec_capacity out.new }
 {
     append_word(out, 2_125_659_606);
     append_text(out, b"vector");
     append_arc_type(out, kind);
-    append_word(out, 2);
-    append_word(out, 0);
+    append_word(out, version_of(tables));
+    append_word(out, flags_of(tables));
 }
 
 /// The start as a number, -1 for none.
@@ -245,6 +263,7 @@ fn start_field(start: Option<u32>) -> i64
 fn append_counts(out: &mut Vec<u8>, start: Option<u32>, states: u32, arcs: u32)
     requires { length out.old.items + 24 ≤ vec_capacity out.old }
     ensures items { out.new.items ≡ out.old.items ++ (signed (start_number start) ++ long states ++ long arcs) }
+    ensures len { length out.new.items ≡ length out.old.items + 24 }
     ensures room { vec_capacity out.old ≤ vec_capacity out.new }
 {
     append_signed(out, start_field(start));
@@ -252,12 +271,13 @@ fn append_counts(out: &mut Vec<u8>, start: Option<u32>, states: u32, arcs: u32)
     append_long(out, u64::from(arcs));
 }
 
-/// How many bytes a machine takes.
-fn whole_length<W: Weight>(fst: &Fst<W>) -> usize
-    ensures value { result ≡ length (spelling W.KIND (valued W.value fst.now)) }
+/// How many bytes a machine and its tables take.
+fn whole_length<W: Weight>(fst: &Fst<W>, tables: &LentTables) -> usize
+    ensures value { result ≡ length (tabled_spelling W.KIND (valued W.value fst.now) tables.now) }
     ensures fits { HasSpelling W.KIND (valued W.value fst.now) }
+    ensures sides { HasSides tables.now }
 {
-    header_length(W::KIND) + states_length(fst, fst.states() as usize)
+    header_length(W::KIND) + tables_length(tables) + states_length(fst, fst.states() as usize)
 }
 
 /// A room without its content, for so many bytes or more. It grows by no more than what it lacks.
@@ -274,38 +294,72 @@ fn emptied(room: Vec<u8>, len: usize) -> Result<Vec<u8>, AllocError>
 }
 
 /// Puts all that stands before the states where nothing stands, where there is room.
-fn append_header(out: &mut Vec<u8>, kind: ArcType, start: Option<u32>, states: u32, arcs: u32)
+fn append_header(
+    out: &mut Vec<u8>,
+    kind: ArcType,
+    start: Option<u32>,
+    states: u32,
+    arcs: u32,
+    tables: &LentTables,
+)
     requires empty { out.old.items ≡ [] }
-    requires room { 58 + length (name_of kind) ≤ vec_capacity out.old }
-    ensures items { out.new.items ≡ header_fields kind start states arcs }
+    requires room { 58 + length (name_of kind) + length (side_fields tables.now.isymbols) + length (side_fields tables.now.osymbols) ≤ vec_capacity out.old }
+    ensures items { out.new.items ≡ header_fields kind tables.now start states arcs }
     ensures room { vec_capacity out.old ≤ vec_capacity out.new }
 {
-    append_types(out, kind);
+    append_types(out, kind, tables);
     append_long(out, 3);
     append_counts(out, start, states, arcs);
+    append_side(out, tables.isymbols);
+    append_side(out, tables.osymbols);
 }
 
 /// Puts all that stands before the states of a machine where nothing stands, where there is room for the whole machine.
-fn append_header_of<W: Weight>(out: &mut Vec<u8>, fst: &Fst<W>)
+fn append_header_of<W: Weight>(out: &mut Vec<u8>, fst: &Fst<W>, tables: &LentTables)
     requires empty { out.old.items ≡ [] }
-    requires room { length (spelling W.KIND (valued W.value fst.now)) ≤ vec_capacity out.old }
-    ensures items { out.new.items ++ flat_map (state_fields W.KIND) (map (valued_state W.value) fst.now.states) ≡ spelling W.KIND (valued W.value fst.now) }
+    requires room { length (tabled_spelling W.KIND (valued W.value fst.now) tables.now) ≤ vec_capacity out.old }
+    ensures items { out.new.items ++ flat_map (state_fields W.KIND) (map (valued_state W.value) fst.now.states) ≡ tabled_spelling W.KIND (valued W.value fst.now) tables.now }
     ensures left { length out.new.items + length (flat_map (state_fields W.KIND) (map (valued_state W.value) fst.now.states)) ≤ vec_capacity out.new }
     ensures room { vec_capacity out.old ≤ vec_capacity out.new }
 {
-    append_header(out, W::KIND, fst.start(), fst.states(), fst.arc_count());
+    append_header(
+        out,
+        W::KIND,
+        fst.start(),
+        fst.states(),
+        fst.arc_count(),
+        tables,
+    );
 }
 
-/// The bytes of a machine, which has a spelling.
-fn write_whole<W: Weight>(alloc: Global, fst: &Fst<W>) -> Result<Vec<u8>, AllocError>
-    ensures spelled { IfOk result (λ bytes. bytes.items ≡ spelling W.KIND (valued W.value fst.now)) }
+/// The bytes of a machine and its tables, which have a spelling.
+fn write_whole<W: Weight>(
+    alloc: Global,
+    fst: &Fst<W>,
+    tables: &LentTables,
+) -> Result<Vec<u8>, AllocError>
+    ensures spelled { IfOk result (λ bytes. bytes.items ≡ tabled_spelling W.KIND (valued W.value fst.now) tables.now) }
     ensures fits { HasSpelling W.KIND (valued W.value fst.now) }
+    ensures sides { HasSides tables.now }
 {
-    let len = whole_length(fst);
+    let len = whole_length(fst, tables);
     let mut out = Vec::with_capacity(alloc, len)?;
-    append_header_of(&mut out, fst);
+    append_header_of(&mut out, fst, tables);
     append_states(&mut out, fst);
     Ok(out)
+}
+
+/// The bytes of a machine and of the tables that it carries, which have a spelling.
+fn write_tabled<W: Weight>(alloc: Global, tabled: &Tabled<W>) -> Result<Vec<u8>, AllocError>
+    ensures spelled { IfOk result (λ bytes. bytes.items ≡ tabled_spelling W.KIND (tabled_seen W.value tabled.now).machine (tabled_seen W.value tabled.now).sides) }
+    ensures fits { HasSpelling W.KIND (tabled_seen W.value tabled.now).machine }
+    ensures sides { HasSides (tabled_seen W.value tabled.now).sides }
+{
+    let tables = LentTables {
+        isymbols: tabled.isymbols.as_ref(),
+        osymbols: tabled.osymbols.as_ref(),
+    };
+    write_whole(alloc, &tabled.fst, &tables)
 }
 
 /// Appends the states of a machine that is given away, which are forgotten as they are written, where there is room.
@@ -320,17 +374,22 @@ fn append_parts<W: Weight>(out: &mut Vec<u8>, fst: Fst<W>)
     }
 }
 
-/// The bytes of a machine that is given away, where the content of a room stood.
-fn write_given<W: Weight>(room: Vec<u8>, fst: Fst<W>) -> Result<Vec<u8>, AllocError>
-    ensures spelled { IfOk result (λ bytes. bytes.items ≡ spelling W.KIND (valued W.value fst)) }
+/// The bytes of a machine that is given away and of its tables, where the content of a room stood.
+fn write_given<W: Weight>(
+    room: Vec<u8>,
+    fst: Fst<W>,
+    tables: &LentTables,
+) -> Result<Vec<u8>, AllocError>
+    ensures spelled { IfOk result (λ bytes. bytes.items ≡ tabled_spelling W.KIND (valued W.value fst) tables.now) }
     ensures kept { IfOk result (λ bytes. vec_capacity room ≤ vec_capacity bytes) }
-    ensures succeeds { length (spelling W.KIND (valued W.value fst)) ≤ vec_capacity room → IsOk result }
+    ensures succeeds { length (tabled_spelling W.KIND (valued W.value fst) tables.now) ≤ vec_capacity room → IsOk result }
     ensures fits { HasSpelling W.KIND (valued W.value fst) }
+    ensures sides { HasSides tables.now }
 {
-    let len = whole_length(&fst);
+    let len = whole_length(&fst, tables);
     let suffices = len <= room.capacity();
     let mut out = emptied(room, len)?;
-    append_header_of(&mut out, &fst);
+    append_header_of(&mut out, &fst, tables);
     if suffices || fst.arc_count() < LARGE {
         append_states(&mut out, &fst);
     } else {
@@ -351,26 +410,31 @@ fn parts_length<W: Weight>(first: &Leaving<W>, second: &Leaving<W>) -> usize
     states_length(first, first.len()) + states_length(second, second.len())
 }
 
-/// The bytes of a machine in two lists that is given away, where the content of a room stood.
-fn write_joined<W: Weight>(room: Vec<u8>, joined: Joined<W>) -> Result<Vec<u8>, AllocError>
-    ensures spelled { IfOk result (λ bytes. bytes.items ≡ spelling W.KIND (valued W.value joined)) }
+/// The bytes of a machine in two lists that is given away and of its tables, where the content of a room stood.
+fn write_joined<W: Weight>(
+    room: Vec<u8>,
+    joined: Joined<W>,
+    tables: &LentTables,
+) -> Result<Vec<u8>, AllocError>
+    ensures spelled { IfOk result (λ bytes. bytes.items ≡ tabled_spelling W.KIND (valued W.value joined) tables.now) }
     ensures kept { IfOk result (λ bytes. vec_capacity room ≤ vec_capacity bytes) }
-    ensures succeeds { length (spelling W.KIND (valued W.value joined)) ≤ vec_capacity room → IsOk result }
+    ensures succeeds { length (tabled_spelling W.KIND (valued W.value joined) tables.now) ≤ vec_capacity room → IsOk result }
     ensures fits { HasSpelling W.KIND (valued W.value joined) }
+    ensures sides { HasSides tables.now }
 {
     let start = joined.start();
     let states = joined.states();
     let arcs = joined.arc_count();
     let (first, second) = joined.into_parts();
-    let len = header_length(W::KIND) + parts_length(&first, &second);
+    let len = header_length(W::KIND) + tables_length(tables) + parts_length(&first, &second);
     let mut out = emptied(room, len)?;
-    append_header(&mut out, W::KIND, start, states, arcs);
+    append_header(&mut out, W::KIND, start, states, arcs, tables);
     append_list(&mut out, first);
     append_list(&mut out, second);
     Ok(out)
 }
 
-/// The bytes of a machine. Their exact number is reserved at first, and nothing fails after that.
+/// The bytes of a machine without symbol tables. Their exact number is reserved at first, and nothing fails after that.
 pub fn encode<W: Weight>(alloc: Global, fst: &Fst<W>) -> Result<Vec<u8>, AllocError>
     // They are the spelling of the machine,
     ensures spelled { IfOk result (λ bytes. bytes.items ≡ spelling W.KIND (valued W.value fst.now)) }
@@ -381,7 +445,26 @@ pub fn encode<W: Weight>(alloc: Global, fst: &Fst<W>) -> Result<Vec<u8>, AllocEr
     // Each machine has a spelling.
     ensures fits { HasSpelling W.KIND (valued W.value fst.now) }
 {
-    write_whole(alloc, fst)
+    write_whole(alloc, fst, &LentTables::none())
+}
+
+/// The bytes of a machine and of the symbol tables that it carries. Their exact number is reserved at first, and nothing
+/// fails after that. Takes time by these bytes.
+pub fn encode_tabled<W: Weight>(
+    alloc: Global,
+    tabled: &Tabled<W>,
+) -> Result<Vec<u8>, AllocError>
+    // They are the spelling of the machine and its tables,
+    ensures spelled { IfOk result (λ bytes. bytes.items ≡ tabled_spelling W.KIND (tabled_seen W.value tabled.now).machine (tabled_seen W.value tabled.now).sides) }
+    // they are read as these again,
+    ensures again { IfOk result (λ bytes. tabled_of_bytes W.KIND bytes.items ≡ Ok (tabled_seen W.value tabled.now)) }
+    // and their arc type is that of the weight.
+    ensures named { IfOk result (λ bytes. Contains known W.KIND → arc_type_of_bytes bytes.items ≡ Ok W.KIND) }
+    // Each machine has a spelling, and each table: all its names together have fewer than 2 to the 32 bytes.
+    ensures fits { HasSpelling W.KIND (tabled_seen W.value tabled.now).machine }
+    ensures sides { HasSides (tabled_seen W.value tabled.now).sides }
+{
+    write_tabled(alloc, tabled)
 }
 
 /// The bytes of a machine that is given away, made where the content of a room stood, which is thrown away. A room that
@@ -398,7 +481,27 @@ pub fn encode_into<W: Weight>(room: Vec<u8>, fst: Fst<W>) -> Result<Vec<u8>, All
     ensures succeeds { length (spelling W.KIND (valued W.value fst)) ≤ vec_capacity room → IsOk result }
     ensures fits { HasSpelling W.KIND (valued W.value fst) }
 {
-    write_given(room, fst)
+    write_given(room, fst, &LentTables::none())
+}
+
+/// The bytes of a machine that is given away and of symbol tables that are lent, made where the content of a room stood, as
+/// `encode_into` makes them.
+pub fn encode_tabled_into<W: Weight>(
+    room: Vec<u8>,
+    fst: Fst<W>,
+    tables: &LentTables,
+) -> Result<Vec<u8>, AllocError>
+    // Whatever stood in the room, the bytes are those of `encode_tabled`.
+    ensures spelled { IfOk result (λ bytes. bytes.items ≡ tabled_spelling W.KIND (valued W.value fst) tables.now) }
+    ensures again { IfOk result (λ bytes. tabled_of_bytes W.KIND bytes.items ≡ Ok (record { machine = valued W.value fst; sides = tables.now })) }
+    ensures named { IfOk result (λ bytes. Contains known W.KIND → arc_type_of_bytes bytes.items ≡ Ok W.KIND) }
+    // The room is kept, and a room that suffices never fails.
+    ensures kept { IfOk result (λ bytes. vec_capacity room ≤ vec_capacity bytes) }
+    ensures succeeds { length (tabled_spelling W.KIND (valued W.value fst) tables.now) ≤ vec_capacity room → IsOk result }
+    ensures fits { HasSpelling W.KIND (valued W.value fst) }
+    ensures sides { HasSides tables.now }
+{
+    write_given(room, fst, tables)
 }
 
 /// The bytes of a machine in two lists that is given away, made where the content of a room stood, which is thrown away. A
@@ -414,7 +517,27 @@ pub fn encode_joined<W: Weight>(room: Vec<u8>, joined: Joined<W>) -> Result<Vec<
     ensures succeeds { length (spelling W.KIND (valued W.value joined)) ≤ vec_capacity room → IsOk result }
     ensures fits { HasSpelling W.KIND (valued W.value joined) }
 {
-    write_joined(room, joined)
+    write_joined(room, joined, &LentTables::none())
+}
+
+/// The bytes of a machine in two lists that is given away and of symbol tables that are lent, made where the content of a
+/// room stood, as `encode_joined` makes them.
+pub fn encode_tabled_joined<W: Weight>(
+    room: Vec<u8>,
+    joined: Joined<W>,
+    tables: &LentTables,
+) -> Result<Vec<u8>, AllocError>
+    // Whatever stood in the room, the bytes are those of the machine whose states stand in one list.
+    ensures spelled { IfOk result (λ bytes. bytes.items ≡ tabled_spelling W.KIND (valued W.value joined) tables.now) }
+    ensures again { IfOk result (λ bytes. tabled_of_bytes W.KIND bytes.items ≡ Ok (record { machine = valued W.value joined; sides = tables.now })) }
+    ensures named { IfOk result (λ bytes. Contains known W.KIND → arc_type_of_bytes bytes.items ≡ Ok W.KIND) }
+    // The room is kept, and a room that suffices never fails.
+    ensures kept { IfOk result (λ bytes. vec_capacity room ≤ vec_capacity bytes) }
+    ensures succeeds { length (tabled_spelling W.KIND (valued W.value joined) tables.now) ≤ vec_capacity room → IsOk result }
+    ensures fits { HasSpelling W.KIND (valued W.value joined) }
+    ensures sides { HasSides tables.now }
+{
+    write_joined(room, joined, tables)
 }
 
 /// The bytes of a machine that is given away. Where it has 1,048,576 arcs or more, and none of its states has arcs

@@ -9,8 +9,9 @@ ghost use Rattle.fst_binary.specs.Reading.{arc_type_of_bytes, header_at, is_star
 
 use crate::fault::BinaryFault;
 use crate::fault::BinaryKind::{
-    self, BadCount, BadFlags, BadMagic, BadStart, BadVersion, Short, UnknownArcType, UnknownFstType,
+    self, BadCount, BadMagic, BadStart, Short, UnknownArcType, UnknownFstType,
 };
+use crate::sides::read_flags;
 use fst_bytes::{
     expect_word, fault_at, read_arc_type, read_bytes, read_count, read_long, read_word,
 };
@@ -20,6 +21,8 @@ use fst_semiring::ArcType;
 /// What the header of a machine says.
 #[derive(Clone, Copy, Debug)]
 pub(crate) struct Header {
+    /// The flags, which tell which symbol tables stand after the header.
+    pub(crate) flags: u32,
     /// The start; `None` for none.
     pub(crate) start: Option<u32>,
     /// The number of states.
@@ -109,8 +112,7 @@ pub(crate) fn read_header(bytes: &[u8], at: usize) -> Result<Header, BinaryFault
     ensures few_arcs { IfOk result (λ header. header.arcs ≤ most_arcs) }
     ensures behind { IfOk result (λ header. header.behind ≤ length bytes.now) }
 {
-    let behind = expect_word(bytes, at, 2, Short, BadVersion)?;
-    let behind = expect_word(bytes, behind, 0, Short, BadFlags)?;
+    let (flags, behind) = read_flags(bytes, at)?;
     let (_, start_offset) = read_long(bytes, behind, Short)?;
     let (start, behind) = read_start(bytes, start_offset)?;
     let (states, counted) = read_count(bytes, behind, MOST_STATES as u64, Short, BadCount)?;
@@ -120,6 +122,7 @@ pub(crate) fn read_header(bytes: &[u8], at: usize) -> Result<Header, BinaryFault
     }
     let (arcs, behind) = read_count(bytes, counted, MOST_ARCS as u64, Short, BadCount)?;
     Ok(Header {
+        flags,
         start,
         states,
         arcs: arcs as u32,

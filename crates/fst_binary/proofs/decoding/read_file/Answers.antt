@@ -1,7 +1,7 @@
 use Rattle.std.proofs.Common.{sym, subst, arith}
 use Rattle.std.proofs.lemmas.Result.{err_from_is_err_and}
-use Rattle.fst_machine.specs.Machine.{valued}
 use Rattle.fst_bytes.specs.Stopping.{Answers}
+use Rattle.fst_binary.specs.Seeing.{tabled_seen}
 use Rattle.fst_binary.proofs.Decoded.{header_wrong, type_alone, type_not_wrong, whole_read}
 use Rattle.fst_binary.proofs.decoding.read_file.Goals as goal
 
@@ -18,4 +18,4 @@ pub returns : goal.returns
 returns g c =
     let alone = type_alone c.args.bytes.now g.W.Weight.KIND _ c.in_ok-behind.behind (λ i. omega (arith, c.type_inv.bytes i)) c.requires (sym c.in_ok-behind.ensures.value) in
     let read = whole_read g.W.Weight.KIND c.args.bytes.now c.in_ok-behind.behind c.in_ok-header.header alone (sym c.in_ok-header.ensures.value) in
-    subst (λ r. Answers (λ m. valued g.W.Weight.value m) c.read_machine.result r) (sym read) c.read_machine.ensures
+    subst (λ r. Answers (λ t. tabled_seen g.W.Weight.value t) c.read_tabled.result r) (sym read) c.read_tabled.ensures

@@ -11,7 +11,7 @@ returns-in_err-expect_arcs g c =
     let value = g.W.Weight.value in
     let states = c.in_ok-states.states in
     let other : arc_total (map (valued_state value) states) ≢ c.args.header.arcs = λ e. c.in_err-expect_arcs.ensures.err.1 (c.arc_count.ensures ∙ sym (arc_total-valued value states) ∙ e) in
-    rw (p.1, p.2, c.in_err-expect_arcs.ensures.err.0) (machine_miscounted g.W.Weight.KIND c.args.header c.args.bytes.now (map (valued_state value) states) c.in_ok-states.behind c.in_ok-states.ensures.value other)
+    rw (p.1, p.2, c.in_err-expect_arcs.ensures.err.0) (machine_miscounted g.W.Weight.KIND c.args.header c.args.bytes.now c.args.at (map (valued_state value) states) c.in_ok-states.behind c.in_ok-states.ensures.value other)
 
 pub returns-in_err-expect_end : goal.returns-in_err-expect_end
 returns-in_err-expect_end g c =
@@ -19,15 +19,15 @@ returns-in_err-expect_end g c =
     let value = g.W.Weight.value in
     let states = c.in_ok-states.states in
     let same : arc_total (map (valued_state value) states) ≡ c.args.header.arcs = arc_total-valued value states ∙ sym c.arc_count.ensures ∙ c.in_ok-expect_arcs.ensures.ok in
-    rw (p.1, p.2, c.in_err-expect_end.ensures.err.0) (machine_goes_on g.W.Weight.KIND c.args.header c.args.bytes.now (map (valued_state value) states) c.in_ok-states.behind c.in_ok-states.ensures.value same c.in_err-expect_end.ensures.err.1)
+    rw (p.1, p.2, c.in_err-expect_end.ensures.err.0) (machine_goes_on g.W.Weight.KIND c.args.header c.args.bytes.now c.args.at (map (valued_state value) states) c.in_ok-states.behind c.in_ok-states.ensures.value same c.in_err-expect_end.ensures.err.1)
 
 pub into_machine-requires : goal.into_machine-requires
 into_machine-requires g c =
-    IsMachine-decoded g.W.Weight.value g.W.Weight.KIND c.args.header c.args.bytes.now c.in_ok-states.states c.in_ok-states.behind c.requires.behind (λ i. omega (arith, c.type_inv.bytes i)) c.requires.start c.requires.few_states c.requires.few_arcs c.in_ok-states.ensures.value (sym c.arc_count.ensures ∙ c.in_ok-expect_arcs.ensures.ok)
+    IsMachine-decoded g.W.Weight.value g.W.Weight.KIND c.args.header c.args.bytes.now c.args.at c.in_ok-states.states c.in_ok-states.behind c.requires.behind (λ i. omega (arith, c.type_inv.bytes i)) c.requires.start c.requires.few_states c.requires.few_arcs c.in_ok-states.ensures.value (sym c.arc_count.ensures ∙ c.in_ok-expect_arcs.ensures.ok)
 
 pub returns : goal.returns
 returns g c =
     let value = g.W.Weight.value in
     let states = c.in_ok-states.states in
     let same : arc_total (map (valued_state value) states) ≡ c.args.header.arcs = arc_total-valued value states ∙ sym c.arc_count.ensures ∙ c.in_ok-expect_arcs.ensures.ok in
-    rw c.into_machine.ensures (machine_ends g.W.Weight.KIND c.args.header c.args.bytes.now (map (valued_state value) states) c.in_ok-states.behind c.in_ok-states.ensures.value same c.in_ok-expect_end.ensures.ok)
+    rw c.into_machine.ensures (machine_ends g.W.Weight.KIND c.args.header c.args.bytes.now c.args.at (map (valued_state value) states) c.in_ok-states.behind c.in_ok-states.ensures.value same c.in_ok-expect_end.ensures.ok)

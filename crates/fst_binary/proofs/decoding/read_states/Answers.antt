@@ -12,7 +12,7 @@ pub returns-in_err-last-clause-value : goal.returns-in_err-last-clause-value
 returns-in_err-last-clause-value g c =
     let p = err_from_is_err_and c.from_residual-in_err-last.result c.from_residual-in_err-last.ensures.1 in
     let header = c.args.header in
-    rw (p.1, p.2) (states_stop g.W.Weight.KIND header.states header.arcs c.loop.before (map (valued_state g.W.Weight.value) c.loop.list.states) header.states c.loop.counter c.args.bytes.now c.loop.behind c.in_err-last.field-0.0 (states_at g.W.Weight.KIND header.states header.arcs 0 header.states c.args.bytes.now header.behind) c.loop-test.true c.in_err-last.ensures.value c.loop.invariant.so_far)
+    rw (p.1, p.2) (states_stop g.W.Weight.KIND header.states header.arcs c.loop.before (map (valued_state g.W.Weight.value) c.loop.list.states) header.states c.loop.counter c.args.bytes.now c.loop.behind c.in_err-last.field-0.0 (states_at g.W.Weight.KIND header.states header.arcs 0 header.states c.args.bytes.now c.args.at) c.loop-test.true c.in_err-last.ensures.value c.loop.invariant.so_far)
 
 pub loop-preserved : goal.loop-preserved
 loop-preserved g c =
@@ -27,7 +27,7 @@ loop-preserved g c =
     let total : arc_total c.close.new.self.states ≡ arc_total c.loop.list.states + length list.arcs = ap arc_total grown ∙ sum_by_push (λ (s : State g.row.W.Denot). length s.arcs) c.loop.list.states state in
     let len : c.arc_count-before.result ≡ c.loop.before + length (valued_state value state).arcs = omega (arith, c.arc_count-before.ensures, ap arc_total same, c.loop.invariant.count, length-map list.arcs (valued_arc value)) in
     let more : map (valued_state value) c.close.new.self.states ≡ map (valued_state value) c.loop.list.states ++ valued_state value state ∷ [] = rw grown (map_push (valued_state value) c.loop.list.states state) in
-    let going = states_go_on kind header.states header.arcs c.loop.before (map (valued_state value) c.loop.list.states) header.states c.loop.counter bytes c.loop.behind (valued_state value state) c.in_ok-last.after (states_at kind header.states header.arcs 0 header.states bytes header.behind) c.loop-test.true c.in_ok-last.ensures.value c.loop.invariant.so_far in
+    let going = states_go_on kind header.states header.arcs c.loop.before (map (valued_state value) c.loop.list.states) header.states c.loop.counter bytes c.loop.behind (valued_state value state) c.in_ok-last.after (states_at kind header.states header.arcs 0 header.states bytes c.args.at) c.loop-test.true c.in_ok-last.ensures.value c.loop.invariant.so_far in
     record {
       so_far = rw (more, len) going;
       count = omega (arith, total, len, length-map list.arcs (valued_arc value));
@@ -37,4 +37,4 @@ loop-preserved g c =
     }
 
 pub returns-clause-value : goal.returns-clause-value
-returns-clause-value g c = rw c.into_list.ensures (states_are_read g.W.Weight.KIND c.args.header.states c.args.header.arcs c.loop.before (map (valued_state g.W.Weight.value) c.loop.list.states) c.args.header.states c.loop.counter c.args.bytes.now c.loop.behind (states_at g.W.Weight.KIND c.args.header.states c.args.header.arcs 0 c.args.header.states c.args.bytes.now c.args.header.behind) c.loop-test.false c.loop.invariant.so_far)
+returns-clause-value g c = rw c.into_list.ensures (states_are_read g.W.Weight.KIND c.args.header.states c.args.header.arcs c.loop.before (map (valued_state g.W.Weight.value) c.loop.list.states) c.args.header.states c.loop.counter c.args.bytes.now c.loop.behind (states_at g.W.Weight.KIND c.args.header.states c.args.header.arcs 0 c.args.header.states c.args.bytes.now c.args.at) c.loop-test.false c.loop.invariant.so_far)

@@ -7,7 +7,7 @@ use Rattle.fst_binary.proofs.decoding.read_states.Given as goal
 abbrev pub invariant-loop : goal.invariant-loop
 invariant-loop g l =
     record {
-      so_far : with_front (map (valued_state g.W.Weight.value) l.list.states) (states_at g.W.Weight.KIND l.header.states l.header.arcs l.before (l.header.states - l.counter) l.bytes l.behind) ≡ states_at g.W.Weight.KIND l.header.states l.header.arcs 0 l.header.states l.bytes l.header.behind;
+      so_far : with_front (map (valued_state g.W.Weight.value) l.list.states) (states_at g.W.Weight.KIND l.header.states l.header.arcs l.before (l.header.states - l.counter) l.bytes l.behind) ≡ states_at g.W.Weight.KIND l.header.states l.header.arcs 0 l.header.states l.bytes l.at;
       count : arc_total l.list.states ≡ l.before;
       none : l.list.arcs ≡ [];
       few : l.before ≤ l.header.arcs;

@@ -3,7 +3,7 @@ use Rattle.fst_binary.proofs.Encoded.{is_again, is_named}
 use Rattle.fst_binary.proofs.encoding.encode.Goals as goal
 
 pub returns-clause-again : goal.returns-clause-again
-returns-clause-again g c = is_again g.W.Weight.KIND (valued g.W.Weight.value c.args.fst.now) (λ bytes. bytes.items) c.write_whole.result c.write_whole.ensures.fits c.write_whole.ensures.spelled
+returns-clause-again g c = is_again g.W.Weight.KIND (valued g.W.Weight.value c.args.fst.now) c.none.result (λ bytes. bytes.items) c.write_whole.result c.write_whole.ensures.fits c.none.ensures c.write_whole.ensures.spelled
 
 pub returns-clause-named : goal.returns-clause-named
-returns-clause-named g c = is_named g.W.Weight.KIND (valued g.W.Weight.value c.args.fst.now) (λ bytes. bytes.items) c.write_whole.result c.write_whole.ensures.spelled
+returns-clause-named g c = is_named g.W.Weight.KIND (valued g.W.Weight.value c.args.fst.now) c.none.result (λ bytes. bytes.items) c.write_whole.result c.write_whole.ensures.spelled

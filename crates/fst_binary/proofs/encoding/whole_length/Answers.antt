@@ -18,9 +18,9 @@ states_length-requires g c =
 
 pub returns-clause-value : goal.returns-clause-value
 returns-clause-value g c =
-    let whole = spelling_length g.W.Weight.KIND (valued g.W.Weight.value c.args.fst.now) in
+    let whole = spelling_length g.W.Weight.KIND (valued g.W.Weight.value c.args.fst.now) c.args.tables.now in
     let name = ap (λ kind. length (name_of kind)) c.KIND.ensures in
-    omega (arith, whole, name, c.header_length.ensures, c.states_length.ensures.value)
+    omega (arith, whole, name, c.header_length.ensures, c.tables_length.ensures.value, c.states_length.ensures.value)
 
 pub returns-clause-fits : goal.returns-clause-fits
 returns-clause-fits g c = HasSpelling-valued g.W.Weight.value g.W.Weight.KIND c.args.fst.now c.states.ensures.machine c.states_length.ensures.fits

@@ -22,9 +22,9 @@ parts_length-requires g c =
 
 pub returns-in_err-out-clause-succeeds : goal.returns-in_err-out-clause-succeeds
 returns-in_err-out-clause-succeeds g c fits =
-    let whole = joined_length g.W.Weight.value g.W.Weight.KIND c.args.joined c.into_parts-first.result.0 c.into_parts-first.result.1 c.into_parts-first.ensures in
+    let whole = joined_length g.W.Weight.value g.W.Weight.KIND c.args.joined c.args.tables.now c.into_parts-first.result.0 c.into_parts-first.result.1 c.into_parts-first.ensures in
     let name = ap (λ kind. length (name_of kind)) c.KIND.ensures in
-    let never : false ≡ true = c.in_err-out.ensures.succeeds (omega (arith, fits, whole, name, c.header_length.ensures, c.parts_length.ensures.value)) in
+    let never : false ≡ true = c.in_err-out.ensures.succeeds (omega (arith, fits, whole, name, c.header_length.ensures, c.tables_length.ensures.value, c.parts_length.ensures.value)) in
     absurd cc
 
 pub returns-in_err-out-clause-fits : goal.returns-in_err-out-clause-fits
@@ -34,22 +34,22 @@ returns-in_err-out-clause-fits g c =
 
 pub append_list-requires : goal.append_list-requires
 append_list-requires g c =
-    let front = front_length g.W.Weight.value g.W.Weight.KIND _ c.args.joined _ _ _ _ c.KIND-2.ensures c.start-start.ensures.value c.states-states.ensures.value c.arc_count-arcs.ensures c.append_header.ensures.items in
+    let front = front_length g.W.Weight.value g.W.Weight.KIND _ c.args.joined c.args.tables.now _ _ _ _ c.KIND-2.ensures c.start-start.ensures.value c.states-states.ensures.value c.arc_count-arcs.ensures c.append_header.ensures.items in
     let both = length_of_parts (state_fields g.W.Weight.KIND) (valued_state g.W.Weight.value) c.into_parts-first.result.0 c.into_parts-first.result.1 in
     let name = ap (λ kind. length (name_of kind)) c.KIND.ensures in
-    omega (arith, front, both, name, c.header_length.ensures, c.parts_length.ensures.value, c.in_ok-out.ensures.room, c.append_header.ensures.room)
+    omega (arith, front, both, name, c.header_length.ensures, c.tables_length.ensures.value, c.parts_length.ensures.value, c.in_ok-out.ensures.room, c.append_header.ensures.room)
 
 pub append_list-requires-2 : goal.append_list-requires-2
 append_list-requires-2 g c =
-    let front = front_length g.W.Weight.value g.W.Weight.KIND _ c.args.joined _ _ _ _ c.KIND-2.ensures c.start-start.ensures.value c.states-states.ensures.value c.arc_count-arcs.ensures c.append_header.ensures.items in
+    let front = front_length g.W.Weight.value g.W.Weight.KIND _ c.args.joined c.args.tables.now _ _ _ _ c.KIND-2.ensures c.start-start.ensures.value c.states-states.ensures.value c.arc_count-arcs.ensures c.append_header.ensures.items in
     let both = length_of_parts (state_fields g.W.Weight.KIND) (valued_state g.W.Weight.value) c.into_parts-first.result.0 c.into_parts-first.result.1 in
     let name = ap (λ kind. length (name_of kind)) c.KIND.ensures in
     let grown = ap length c.append_list.ensures.items in
     let more = length-append c.append_header.new.out.items (flat_map (state_fields g.W.Weight.KIND) (map (valued_state g.W.Weight.value) c.into_parts-first.result.0)) in
-    omega (arith, front, both, name, grown, more, c.header_length.ensures, c.parts_length.ensures.value, c.in_ok-out.ensures.room, c.append_header.ensures.room, c.append_list.ensures.room)
+    omega (arith, front, both, name, grown, more, c.header_length.ensures, c.tables_length.ensures.value, c.parts_length.ensures.value, c.in_ok-out.ensures.room, c.append_header.ensures.room, c.append_list.ensures.room)
 
 pub returns-clause-spelled : goal.returns-clause-spelled
-returns-clause-spelled g c = joined_spelled g.W.Weight.value g.W.Weight.KIND _ c.args.joined c.into_parts-first.result.0 c.into_parts-first.result.1 _ _ _ _ _ _ c.into_parts-first.ensures c.KIND-2.ensures c.start-start.ensures.value c.states-states.ensures.value c.arc_count-arcs.ensures c.append_header.ensures.items c.append_list.ensures.items c.append_list-2.ensures.items
+returns-clause-spelled g c = joined_spelled g.W.Weight.value g.W.Weight.KIND _ c.args.joined c.args.tables.now c.into_parts-first.result.0 c.into_parts-first.result.1 _ _ _ _ _ _ c.into_parts-first.ensures c.KIND-2.ensures c.start-start.ensures.value c.states-states.ensures.value c.arc_count-arcs.ensures c.append_header.ensures.items c.append_list.ensures.items c.append_list-2.ensures.items
 
 pub returns-clause-fits : goal.returns-clause-fits
 returns-clause-fits g c =
