@@ -75,7 +75,7 @@ fn lying_header_is_short(rt: HostRuntime) -> Result<(), Fail> {
 }
 
 /// The offset of a change, the bytes that stand there then, and the fault with its offset.
-static FAULTS: [(usize, &[u8], u64, BinaryKind); 38] = [
+static FAULTS: [(usize, &[u8], u64, BinaryKind); 40] = [
     (0, b"\xd7", 0, BadMagic),
     (3, b"\xfe", 0, BadMagic),
     // The fst type: its length, then its text.
@@ -86,8 +86,11 @@ static FAULTS: [(usize, &[u8], u64, BinaryKind); 38] = [
     (14, b"\x07", 14, UnknownArcType),
     (14, b"\x71", 14, UnknownArcType),
     (25, b"m", 14, UnknownArcType),
-    (26, b"\x03", 26, BadVersion),
+    (26, b"\x01", 26, BadVersion),
+    (26, b"\x04", 26, BadVersion),
+    // Flags in version 2, and none in version 3.
     (30, b"\x01", 30, BadFlags),
+    (26, b"\x03", 30, BadFlags),
     (33, b"\x80", 30, BadFlags),
     // The start: not below the number of states, above every state, negative.
     (42, b"\x02", 42, BadStart),
@@ -121,7 +124,7 @@ static FAULTS: [(usize, &[u8], u64, BinaryKind); 38] = [
     (91, b"\x7f", 83, BadWeight),
     (92, b"\x02", 92, BadNext),
     // The first of two faults.
-    (26, b"\x03\x00\x00\x00\x01", 26, BadVersion),
+    (26, b"\x04\x00\x00\x00\x01", 26, BadVersion),
     (91, b"\x7f\x02", 83, BadWeight),
 ];
 

@@ -1,4 +1,4 @@
-//! Tests of the forms: fields, symbol tables, the text form, the binary form, and codices.
+//! Tests of the forms: fields, symbol tables, the text form, the binary form with and without symbol tables, and codices.
 //!
 //! The crate has nothing but tests, and no other crate stands on it. A test is a table of texts or bytes, with what
 //! they are or the first fault that they have. All were written out by hand from the forms.
@@ -18,5 +18,7 @@ mod fields;
 mod numbers;
 #[cfg(test)]
 mod symbols;
+#[cfg(test)]
+mod tables_in_files;
 #[cfg(test)]
 mod texts;
