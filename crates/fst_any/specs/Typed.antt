@@ -5,7 +5,8 @@ use Rattle.fst_semiring.specs.declared.arc_type.ArcType.{ArcType}
 use Rattle.fst_semiring.specs.declared.arc_type.ArcType.TheVariants as kinds
 use Rattle.fst_semiring.specs.Cost.{Cost}
 use Rattle.fst_machine.specs.Machine.{Machine, valued}
-use Rattle.fst_binary.specs.Reading.{BinaryFault, arc_type_of_bytes, machine_of_bytes}
+use Rattle.fst_binary.specs.Reading.{BinaryFault, arc_type_of_bytes, tabled_of_bytes}
+use Rattle.fst_binary.specs.Sides.{Sides}
 use Rattle.fst_codex.specs.Reading.{CodexFault, codex_arc_type_of_bytes, codex_of_bytes}
 use Rattle.fst_codex.specs.Table.{Table, valued_table}
 use Rattle.fst_text.specs.Grammar.{machine_of_text}
@@ -13,6 +14,7 @@ use Rattle.fst_text.specs.Options.{Options}
 use Rattle.fst_text.specs.declared.fault.TextFault.{TextFault}
 use Rattle.fst_any.specs.declared.any.AnyFst.{AnyFst}
 use Rattle.fst_any.specs.declared.any.AnyFst.TheVariants as machines
+use Rattle.fst_any.specs.declared.any.AnyTabled.{AnyTabled}
 use Rattle.fst_any.specs.declared.any.AnyCodex.{AnyCodex}
 use Rattle.fst_any.specs.declared.any.AnyCodex.TheVariants as codices
 
@@ -26,6 +28,11 @@ pub record TypedCodex : Type 0 where
   pub kind : ArcType
   pub table : Table Cost
 
+-- a machine with its arc type and the symbol tables that it carries
+pub record TypedTabled : Type 0 where
+  pub typed : Typed
+  pub sides : Sides
+
 -- what is held
 abbrev pub typed : AnyFst → Typed
 typed (machines.Boolean m) = record { kind = kinds.Boolean; machine = valued (λ w. w) m }
@@ -33,18 +40,21 @@ typed (machines.Tropical m) = record { kind = kinds.Tropical; machine = valued (
 typed (machines.MinMax m) = record { kind = kinds.MinMax; machine = valued (λ w. w) m }
 typed (machines.Lexicographic m) = record { kind = kinds.Lexicographic; machine = valued (λ w. w) m }
 
+abbrev pub typed_tabled : AnyTabled → TypedTabled
+typed_tabled t = record { typed = typed t.fst; sides = record { isymbols = t.isymbols; osymbols = t.osymbols } }
+
 abbrev pub typed_codex : AnyCodex → TypedCodex
 typed_codex (codices.Boolean c) = record { kind = kinds.Boolean; table = valued_table (λ w. w) c }
 typed_codex (codices.Tropical c) = record { kind = kinds.Tropical; table = valued_table (λ w. w) c }
 typed_codex (codices.MinMax c) = record { kind = kinds.MinMax; table = valued_table (λ w. w) c }
 typed_codex (codices.Lexicographic c) = record { kind = kinds.Lexicographic; table = valued_table (λ w. w) c }
 
--- the machine of a file in the binary form, whose arc type the file names, or the first fault of its form
-unfoldable pub machine_of_file : List ℕ → Result Typed BinaryFault
+-- the machine of a file in the binary form, whose arc type the file names, and its tables, or the first fault of its form
+unfoldable pub machine_of_file : List ℕ → Result TypedTabled BinaryFault
 machine_of_file bytes = do
   kind ← arc_type_of_bytes bytes
-  machine ← machine_of_bytes kind bytes
-  Ok (record { kind = kind; machine = machine })
+  tabled ← tabled_of_bytes kind bytes
+  Ok (record { typed = record { kind = kind; machine = tabled.machine }; sides = tabled.sides })
 
 -- the codex of a file, whose arc type the file names, or the first fault of its form
 unfoldable pub codex_of_file : List ℕ → Result TypedCodex CodexFault

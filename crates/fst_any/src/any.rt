@@ -6,6 +6,7 @@ ghost use Rattle.fst_any.specs.Typed.{typed, typed_codex};
 use fst_codex::Codex;
 use fst_machine::Fst;
 use fst_semiring::{ArcType, Boolean, Lexicographic, MinMax, Tropical};
+use fst_symbols::SymbolTable;
 
 /// A machine of any arc type.
 #[derive(Drop)]
@@ -32,6 +33,17 @@ impl AnyFst {
             AnyFst::Lexicographic(_) => ArcType::Lexicographic,
         }
     }
+}
+
+/// A machine of any arc type and the symbol tables that it carries.
+#[derive(Drop)]
+pub struct AnyTabled {
+    /// The machine.
+    pub fst: AnyFst,
+    /// The names of its input labels; `None` where it carries none.
+    pub isymbols: Option<SymbolTable>,
+    /// The names of its output labels; `None` where it carries none.
+    pub osymbols: Option<SymbolTable>,
 }
 
 /// A codex of any arc type.

@@ -3,26 +3,54 @@
 ghost use Rattle.fst_binary.specs.Reading.{Gives};
 ghost use Rattle.fst_codex.specs.Reading.{Gives as GivesCodex};
 ghost use Rattle.fst_text.specs.Grammar.{Gives as GivesText};
-ghost use Rattle.fst_any.specs.Typed.{codex_of_file, machine_of_file, typed, typed_codex, typed_machine_of_text};
+ghost use Rattle.fst_any.specs.Typed.{codex_of_file, machine_of_file, typed, typed_codex, typed_machine_of_text, typed_tabled};
 
-use crate::any::{AnyCodex, AnyFst};
-use fst_binary::{BinaryFault, arc_type, decode};
+use crate::any::{AnyCodex, AnyFst, AnyTabled};
+use fst_binary::{BinaryFault, arc_type, decode_tabled};
 use fst_codex::{CodexFault, codex_arc_type, read_codex};
 use fst_semiring::ArcType;
 use fst_text::{TextFault, TextOptions, compile};
 use std::alloc::Global;
 
-/// The machine whose bytes these are, of the arc type that they name, or their first fault. Space is reserved for no
-/// more than the bytes can hold.
+/// The machine whose bytes these are, of the arc type that they name, and the symbol tables that it carries, or the first
+/// fault of the bytes. Space is reserved for no more than the bytes can hold.
 #[tactic(auto, unfolding(crate::specs::Typed::machine_of_file))]
-pub fn decode_any(alloc: Global, bytes: &[u8]) -> Result<AnyFst, BinaryFault>
-    ensures { Gives (λ m. typed m) result (machine_of_file bytes.now) }
+pub fn decode_any(alloc: Global, bytes: &[u8]) -> Result<AnyTabled, BinaryFault>
+    ensures { Gives (λ t. typed_tabled t) result (machine_of_file bytes.now) }
 {
     match arc_type(bytes)? {
-        ArcType::Boolean => Ok(AnyFst::Boolean(decode(alloc, bytes)?)),
-        ArcType::Tropical => Ok(AnyFst::Tropical(decode(alloc, bytes)?)),
-        ArcType::MinMax => Ok(AnyFst::MinMax(decode(alloc, bytes)?)),
-        ArcType::Lexicographic => Ok(AnyFst::Lexicographic(decode(alloc, bytes)?)),
+        ArcType::Boolean => {
+            let tabled = decode_tabled(alloc, bytes)?;
+            Ok(AnyTabled {
+                fst: AnyFst::Boolean(tabled.fst),
+                isymbols: tabled.isymbols,
+                osymbols: tabled.osymbols,
+            })
+        }
+        ArcType::Tropical => {
+            let tabled = decode_tabled(alloc, bytes)?;
+            Ok(AnyTabled {
+                fst: AnyFst::Tropical(tabled.fst),
+                isymbols: tabled.isymbols,
+                osymbols: tabled.osymbols,
+            })
+        }
+        ArcType::MinMax => {
+            let tabled = decode_tabled(alloc, bytes)?;
+            Ok(AnyTabled {
+                fst: AnyFst::MinMax(tabled.fst),
+                isymbols: tabled.isymbols,
+                osymbols: tabled.osymbols,
+            })
+        }
+        ArcType::Lexicographic => {
+            let tabled = decode_tabled(alloc, bytes)?;
+            Ok(AnyTabled {
+                fst: AnyFst::Lexicographic(tabled.fst),
+                isymbols: tabled.isymbols,
+                osymbols: tabled.osymbols,
+            })
+        }
     }
 }
 

@@ -1,7 +1,10 @@
--- The commands, a line each: the name, the options with a value, the flags, and the shape of the names. (OpenFst
+-- The commands, a line each: the name, the options with a value, the flags, the shape of the names, and the symbol tables
+-- that the machine of the output carries. (OpenFst
 -- manual: the operations of the command line are programs whose names begin with `fst`. Here one program carries them
 -- all, and its first word names the operation. `batch` and `make` are this project's own.)
 use Rattle.std.specs.Prelude.{nat_lt, ℕ, ◌+◌, ◌-◌, ◌*◌, ◌/◌, Bool, true, false, List, [], ◌∷◌, codes, if◌then◌else◌}
+use Rattle.fst_words.specs.declared.form.Carries.{Carries}
+use Rattle.fst_words.specs.declared.form.Carries.TheVariants.{Nothing, Kept, First, Exchanged, OneSide, Outer}
 use Rattle.fst_words.specs.declared.form.Shape.{Shape}
 use Rattle.fst_words.specs.declared.form.Shape.TheVariants.{NoInput, Text, One, Two, Three, Rules, Codex}
 use Rattle.fst_words.specs.declared.form.Role.{Role}
@@ -14,52 +17,61 @@ pub record Form : Type 0 where
   pub options : List (List ℕ)
   pub flags : List (List ℕ)
   pub shape : Shape
+  pub carries : Carries
 
 abbrev pub form_of : Verb → Form
 form_of verbs.Compile = record {
   name = codes "compile";
   options = codes "arc_type" ∷ codes "isymbols" ∷ codes "osymbols" ∷ [];
-  flags = codes "acceptor" ∷ codes "keep_state_numbering" ∷ [];
+  flags = codes "acceptor" ∷ codes "keep_state_numbering" ∷ codes "keep_isymbols" ∷ codes "keep_osymbols" ∷ [];
   shape = Text;
+  carries = Kept;
 }
 form_of verbs.Print = record {
   name = codes "print";
   options = codes "isymbols" ∷ codes "osymbols" ∷ [];
-  flags = codes "acceptor" ∷ codes "show_weight_one" ∷ [];
+  flags = codes "acceptor" ∷ codes "show_weight_one" ∷ codes "numeric" ∷ [];
   shape = One;
+  carries = Nothing;
 }
-form_of verbs.Info = record { name = codes "info"; options = []; flags = []; shape = One }
-form_of verbs.Invert = record { name = codes "invert"; options = []; flags = []; shape = One }
-form_of verbs.Reverse = record { name = codes "reverse"; options = []; flags = []; shape = One }
-form_of verbs.Connect = record { name = codes "connect"; options = []; flags = []; shape = One }
-form_of verbs.Union = record { name = codes "union"; options = []; flags = []; shape = Two }
-form_of verbs.Concat = record { name = codes "concat"; options = []; flags = []; shape = Two }
-form_of verbs.Closure = record { name = codes "closure"; options = []; flags = codes "closure_plus" ∷ []; shape = One }
-form_of verbs.Project = record { name = codes "project"; options = []; flags = codes "project_output" ∷ []; shape = One }
-form_of verbs.Replace = record { name = codes "replace"; options = []; flags = []; shape = Rules }
-form_of verbs.Relabel = record { name = codes "relabel"; options = codes "relabel_ipairs" ∷ codes "relabel_opairs" ∷ []; flags = []; shape = One }
-form_of verbs.Arcsort = record { name = codes "arcsort"; options = codes "sort_type" ∷ []; flags = []; shape = One }
-form_of verbs.Compose = record { name = codes "compose"; options = codes "connect" ∷ codes "max_states" ∷ []; flags = []; shape = Two }
-form_of verbs.Rmepsilon = record { name = codes "rmepsilon"; options = codes "connect" ∷ codes "queue_type" ∷ []; flags = []; shape = One }
-form_of verbs.Shortestdistance = record { name = codes "shortestdistance"; options = codes "queue_type" ∷ []; flags = codes "reverse" ∷ []; shape = One }
-form_of verbs.Shortestpath = record { name = codes "shortestpath"; options = codes "nshortest" ∷ []; flags = []; shape = One }
-form_of verbs.Push = record { name = codes "push"; options = codes "queue_type" ∷ []; flags = codes "push_weights" ∷ codes "remove_total_weight" ∷ []; shape = One }
-form_of verbs.Encode = record { name = codes "encode"; options = []; flags = codes "encode_labels" ∷ codes "encode_weights" ∷ codes "decode" ∷ []; shape = Codex }
-form_of verbs.Determinize = record { name = codes "determinize"; options = codes "max_states" ∷ []; flags = []; shape = One }
-form_of verbs.Minimize = record { name = codes "minimize"; options = codes "queue_type" ∷ []; flags = []; shape = One }
-form_of verbs.Prune = record { name = codes "prune"; options = codes "weight" ∷ codes "queue_type" ∷ []; flags = []; shape = One }
+form_of verbs.Info = record { name = codes "info"; options = []; flags = []; shape = One; carries = Nothing }
+form_of verbs.Invert = record { name = codes "invert"; options = []; flags = []; shape = One; carries = Exchanged }
+form_of verbs.Reverse = record { name = codes "reverse"; options = []; flags = []; shape = One; carries = First }
+form_of verbs.Connect = record { name = codes "connect"; options = []; flags = []; shape = One; carries = First }
+form_of verbs.Union = record { name = codes "union"; options = []; flags = []; shape = Two; carries = First }
+form_of verbs.Concat = record { name = codes "concat"; options = []; flags = []; shape = Two; carries = First }
+form_of verbs.Closure = record { name = codes "closure"; options = []; flags = codes "closure_plus" ∷ []; shape = One; carries = First }
+form_of verbs.Project = record { name = codes "project"; options = []; flags = codes "project_output" ∷ []; shape = One; carries = OneSide }
+form_of verbs.Replace = record { name = codes "replace"; options = []; flags = []; shape = Rules; carries = Nothing }
+form_of verbs.Relabel = record { name = codes "relabel"; options = codes "relabel_ipairs" ∷ codes "relabel_opairs" ∷ []; flags = []; shape = One; carries = Nothing }
+form_of verbs.Arcsort = record { name = codes "arcsort"; options = codes "sort_type" ∷ []; flags = []; shape = One; carries = First }
+form_of verbs.Compose = record { name = codes "compose"; options = codes "connect" ∷ codes "max_states" ∷ []; flags = []; shape = Two; carries = Outer }
+form_of verbs.Rmepsilon = record { name = codes "rmepsilon"; options = codes "connect" ∷ codes "queue_type" ∷ []; flags = []; shape = One; carries = First }
+form_of verbs.Shortestdistance = record { name = codes "shortestdistance"; options = codes "queue_type" ∷ []; flags = codes "reverse" ∷ []; shape = One; carries = Nothing }
+form_of verbs.Shortestpath = record { name = codes "shortestpath"; options = codes "nshortest" ∷ []; flags = []; shape = One; carries = First }
+form_of verbs.Push = record { name = codes "push"; options = codes "queue_type" ∷ []; flags = codes "push_weights" ∷ codes "remove_total_weight" ∷ []; shape = One; carries = First }
+form_of verbs.Encode = record { name = codes "encode"; options = []; flags = codes "encode_labels" ∷ codes "encode_weights" ∷ codes "decode" ∷ []; shape = Codex; carries = Nothing }
+form_of verbs.Determinize = record { name = codes "determinize"; options = codes "max_states" ∷ []; flags = []; shape = One; carries = First }
+form_of verbs.Minimize = record { name = codes "minimize"; options = codes "queue_type" ∷ []; flags = []; shape = One; carries = First }
+form_of verbs.Prune = record { name = codes "prune"; options = codes "weight" ∷ codes "queue_type" ∷ []; flags = []; shape = One; carries = First }
 form_of verbs.Batch = record {
   name = codes "batch";
   options = codes "nshortest" ∷ codes "workers" ∷ codes "max_states" ∷ [];
   flags = codes "summary" ∷ [];
   shape = Three;
+  carries = Nothing;
 }
 form_of verbs.Make = record {
   name = codes "make";
   options = codes "seed" ∷ codes "lines" ∷ codes "nshortest" ∷ codes "workers" ∷ codes "max_states" ∷ [];
   flags = [];
   shape = NoInput;
+  carries = Nothing;
 }
+
+-- the symbol tables that the machine of the output carries
+abbrev pub carries_of : Verb → Carries
+carries_of verb = (form_of verb).carries
 
 -- ---- what a shape says of the names
 

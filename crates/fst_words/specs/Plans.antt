@@ -9,7 +9,7 @@ use Rattle.fst_words.specs.declared.plan.Plan.{Plan}
 use Rattle.fst_words.specs.declared.fault.WordsFault.{WordsFault}
 use Rattle.fst_words.specs.declared.fault.WordsFault.TheVariants.{Usage, Memory}
 use Rattle.fst_words.specs.declared.verb.Verb.{Verb}
-use Rattle.fst_words.specs.declared.verb.Verb.TheVariants.{Push, Encode}
+use Rattle.fst_words.specs.declared.verb.Verb.TheVariants.{Compile, Print, Push, Encode}
 use Rattle.fst_words.specs.Forms.{form_of, has_rules, place_of}
 use Rattle.fst_words.specs.Verbs.{verb_of}
 use Rattle.fst_words.specs.Commands.{all_names, found_in, takes_names}
@@ -77,8 +77,10 @@ numbers_differ (n ∷ ns) = not (list_any (λ m. n == m) ns) && numbers_differ n
 abbrev pub is_dash : List ℕ → Bool
 is_dash name = bytes_eq name (codes "-")
 
--- the flags that a command needs, and those that do not stand together
+-- the flags that a command needs, those that do not stand together, and those that stand beside an option alone, or never
 abbrev pub flags_fit : Verb → Options → Bool
+flags_fit Compile o = (not o.keep_isymbols || is_some o.isymbols) && (not o.keep_osymbols || is_some o.osymbols)
+flags_fit Print o = not o.numeric || not (is_some o.isymbols || is_some o.osymbols)
 flags_fit Push o = o.push_weights
 flags_fit Encode o = if o.decode then not o.encode_labels && not o.encode_weights else o.encode_labels
 flags_fit _ o = true

@@ -2,7 +2,7 @@
 
 ghost use Rattle.std.specs.Prelude.{◌≡◌, map};
 ghost use Rattle.fst_words.specs.Commands.{flags_of, options_of};
-ghost use Rattle.fst_words.specs.Forms.{all_of, form_of, has_rules, least_of, place_of, role_of};
+ghost use Rattle.fst_words.specs.Forms.{all_of, carries_of, form_of, has_rules, least_of, place_of, role_of};
 ghost use Rattle.fst_words.specs.Verbs.{name_of};
 
 use crate::verb::Verb;
@@ -39,6 +39,23 @@ pub enum Room {
     Text,
 }
 
+/// The symbol tables that the machine of a command's output carries.
+#[derive(Clone, Copy, Debug, PartialEq, Eq)]
+pub enum Carries {
+    /// None: its labels are new ones, or the output is no machine.
+    Nothing,
+    /// Those of the options, as far as the words keep them.
+    Kept,
+    /// Those of the first machine that is read.
+    First,
+    /// The same, each on the other side.
+    Exchanged,
+    /// That of the side on which the labels are kept, on both sides.
+    OneSide,
+    /// The input side's of the first machine that is read, and the output side's of the last.
+    Outer,
+}
+
 /// What a command takes, and what it does with the contents that it reads.
 #[derive(Clone, Copy)]
 pub(crate) struct Form {
@@ -52,10 +69,13 @@ pub(crate) struct Form {
     pub(crate) shape: Shape,
     /// What becomes of the content of a machine.
     pub(crate) room: Room,
+    /// The symbol tables that the machine of its output carries.
+    pub(crate) carries: Carries,
 }
 
 /// A row of the table: a command, its name without `fst` in front, its options with a value, its flags, which have no
-/// value, the shape of its names, and what becomes of the content of a machine.
+/// value, the shape of its names, what becomes of the content of a machine, and the symbol tables that that of its output
+/// carries.
 type Row = (
     Verb,
     &'static str,
@@ -63,6 +83,7 @@ type Row = (
     &'static [&'static str],
     Shape,
     Room,
+    Carries,
 );
 
 /// The commands, a row each, in the order of `Verb`.
@@ -71,21 +92,28 @@ pub(crate) static ROWS: &[Row] = &[
         Verb::Compile,
         "compile",
         &["arc_type", "isymbols", "osymbols"],
-        &["acceptor", "keep_state_numbering"],
+        &[
+            "acceptor",
+            "keep_state_numbering",
+            "keep_isymbols",
+            "keep_osymbols",
+        ],
         Shape::Text,
         Room::Output,
+        Carries::Kept,
     ),
     (
         Verb::Print,
         "print",
         &["isymbols", "osymbols"],
-        &["acceptor", "show_weight_one"],
+        &["acceptor", "show_weight_one", "numeric"],
         Shape::One,
         Room::Text,
+        Carries::Nothing,
     ),
-    (Verb::Info, "info", &[], &[], Shape::One, Room::Freed),
-    (Verb::Invert, "invert", &[], &[], Shape::One, Room::Output),
-    (Verb::Reverse, "reverse", &[], &[], Shape::One, Room::Freed),
+    (Verb::Info, "info", &[], &[], Shape::One, Room::Freed, Carries::Nothing),
+    (Verb::Invert, "invert", &[], &[], Shape::One, Room::Output, Carries::Exchanged),
+    (Verb::Reverse, "reverse", &[], &[], Shape::One, Room::Freed, Carries::First),
     (
         Verb::Connect,
         "connect",
@@ -93,9 +121,10 @@ pub(crate) static ROWS: &[Row] = &[
         &[],
         Shape::One,
         Room::LightOutput,
+        Carries::First,
     ),
-    (Verb::Union, "union", &[], &[], Shape::Two, Room::Output),
-    (Verb::Concat, "concat", &[], &[], Shape::Two, Room::Output),
+    (Verb::Union, "union", &[], &[], Shape::Two, Room::Output, Carries::First),
+    (Verb::Concat, "concat", &[], &[], Shape::Two, Room::Output, Carries::First),
     (
         Verb::Closure,
         "closure",
@@ -103,6 +132,7 @@ pub(crate) static ROWS: &[Row] = &[
         &["closure_plus"],
         Shape::One,
         Room::Output,
+        Carries::First,
     ),
     (
         Verb::Project,
@@ -111,6 +141,7 @@ pub(crate) static ROWS: &[Row] = &[
         &["project_output"],
         Shape::One,
         Room::Output,
+        Carries::OneSide,
     ),
     (
         Verb::Replace,
@@ -119,6 +150,7 @@ pub(crate) static ROWS: &[Row] = &[
         &[],
         Shape::Rules,
         Room::Freed,
+        Carries::Nothing,
     ),
     (
         Verb::Relabel,
@@ -127,6 +159,7 @@ pub(crate) static ROWS: &[Row] = &[
         &[],
         Shape::One,
         Room::Output,
+        Carries::Nothing,
     ),
     (
         Verb::Arcsort,
@@ -135,6 +168,7 @@ pub(crate) static ROWS: &[Row] = &[
         &[],
         Shape::One,
         Room::Output,
+        Carries::First,
     ),
     (
         Verb::Compose,
@@ -143,6 +177,7 @@ pub(crate) static ROWS: &[Row] = &[
         &[],
         Shape::Two,
         Room::Freed,
+        Carries::Outer,
     ),
     (
         Verb::Rmepsilon,
@@ -151,6 +186,7 @@ pub(crate) static ROWS: &[Row] = &[
         &[],
         Shape::One,
         Room::Freed,
+        Carries::First,
     ),
     (
         Verb::Shortestdistance,
@@ -159,6 +195,7 @@ pub(crate) static ROWS: &[Row] = &[
         &["reverse"],
         Shape::One,
         Room::Freed,
+        Carries::Nothing,
     ),
     (
         Verb::Shortestpath,
@@ -167,6 +204,7 @@ pub(crate) static ROWS: &[Row] = &[
         &[],
         Shape::One,
         Room::Freed,
+        Carries::First,
     ),
     (
         Verb::Push,
@@ -175,6 +213,7 @@ pub(crate) static ROWS: &[Row] = &[
         &["push_weights", "remove_total_weight"],
         Shape::One,
         Room::Freed,
+        Carries::First,
     ),
     (
         Verb::Encode,
@@ -183,6 +222,7 @@ pub(crate) static ROWS: &[Row] = &[
         &["encode_labels", "encode_weights", "decode"],
         Shape::Codex,
         Room::Freed,
+        Carries::Nothing,
     ),
     (
         Verb::Determinize,
@@ -191,6 +231,7 @@ pub(crate) static ROWS: &[Row] = &[
         &[],
         Shape::One,
         Room::Freed,
+        Carries::First,
     ),
     (
         Verb::Minimize,
@@ -199,6 +240,7 @@ pub(crate) static ROWS: &[Row] = &[
         &[],
         Shape::One,
         Room::Freed,
+        Carries::First,
     ),
     (
         Verb::Prune,
@@ -207,6 +249,7 @@ pub(crate) static ROWS: &[Row] = &[
         &[],
         Shape::One,
         Room::Freed,
+        Carries::First,
     ),
     (
         Verb::Batch,
@@ -215,6 +258,7 @@ pub(crate) static ROWS: &[Row] = &[
         &["summary"],
         Shape::Three,
         Room::Freed,
+        Carries::Nothing,
     ),
     (
         Verb::Make,
@@ -223,6 +267,7 @@ pub(crate) static ROWS: &[Row] = &[
         &[],
         Shape::NoInput,
         Room::Freed,
+        Carries::Nothing,
     ),
 ];
 
@@ -232,14 +277,16 @@ pub(crate) fn form_of(verb: Verb) -> Form
     ensures options { map (λ s. s.now) result.options.now ≡ options_of verb }
     ensures flags { map (λ s. s.now) result.flags.now ≡ flags_of verb }
     ensures shape { result.shape ≡ (form_of verb).shape }
+    ensures carries { result.carries ≡ carries_of verb }
 {
-    let (_, name, options, flags, shape, room) = ROWS[verb as usize];
+    let (_, name, options, flags, shape, room, carries) = ROWS[verb as usize];
     Form {
         name,
         options,
         flags,
         shape,
         room,
+        carries,
     }
 }
 

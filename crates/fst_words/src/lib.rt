@@ -21,7 +21,7 @@ mod values;
 mod verb;
 
 pub use fault::WordsFault;
-pub use form::{Role, Room};
+pub use form::{Carries, Role, Room};
 pub use inputs::Input;
 pub use name::{Name, Names};
 pub use options::Options;

@@ -19,6 +19,12 @@ pub struct Options {
     pub isymbols: Option<Name>,
     /// `--osymbols`, the name of a file
     pub osymbols: Option<Name>,
+    /// `--keep_isymbols`
+    pub keep_isymbols: bool,
+    /// `--keep_osymbols`
+    pub keep_osymbols: bool,
+    /// `--numeric`
+    pub numeric: bool,
     /// `--closure_plus`
     pub closure_plus: bool,
     /// `--project_output`

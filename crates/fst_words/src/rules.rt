@@ -14,11 +14,18 @@ use crate::verb::Verb;
 use std::alloc::{AllocError, Global};
 use std::collections::HashSet;
 
-/// Whether the command's flags stand that it needs, and those alone that may stand together.
+/// Whether the command's flags stand that it needs, and those alone that may stand together and beside its options.
 fn flags_fit(verb: Verb, options: &Options) -> bool
     ensures { result ≡ flags_fit verb options.now }
 {
     match verb {
+        Verb::Compile => {
+            (!options.keep_isymbols || options.isymbols.is_some())
+                && (!options.keep_osymbols || options.osymbols.is_some())
+        }
+        Verb::Print => {
+            !options.numeric || !(options.isymbols.is_some() || options.osymbols.is_some())
+        }
         Verb::Push => options.push_weights,
         Verb::Encode => {
             if options.decode {

@@ -1,9 +1,10 @@
 //! The commands, and the verb of a first word.
 
 ghost use Rattle.std.specs.Prelude.{◌≡◌};
+ghost use Rattle.fst_words.specs.Forms.{carries_of};
 ghost use Rattle.fst_words.specs.Verbs.{name_of, verb_named, verb_of, without_prefix};
 
-use crate::form::{ROWS, Room, form_of};
+use crate::form::{Carries, ROWS, Room, form_of};
 
 /// A command. (OpenFst manual: `compile` is the program `fstcompile`.)
 #[derive(Clone, Copy, Debug, PartialEq, Eq)]
@@ -69,6 +70,13 @@ impl Verb {
     /// What becomes of the content of a machine that the command has read. Takes no memory.
     pub fn room(self) -> Room {
         form_of(self).room
+    }
+
+    /// The symbol tables that the machine of the output carries. Takes no memory.
+    pub fn carries(self) -> Carries
+        ensures { result ≡ carries_of self }
+    {
+        form_of(self).carries
     }
 }
 
