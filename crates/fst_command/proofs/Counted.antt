@@ -37,11 +37,11 @@ put_machines o roles.BothSymbols name content before after e = let got = then_ok
 put_machines o roles.InputPairs name content before after e = let got = then_ok (pairs_in name content) _ after e in ap (λ (h : Held). length h.machines) (sym got.1)
 put_machines o roles.OutputPairs name content before after e = let got = then_ok (pairs_in name content) _ after e in ap (λ (h : Held). length h.machines) (sym got.1)
 put_machines o roles.Text name content before after e =
-    let got = then_ok (text_in (arc_type_of o) (choices_by o before.isymbols before.osymbols) name content) _ after e in
+    let got = then_ok (text_in (arc_type_of o) (choices_by o before.tables.isymbols before.tables.osymbols) name content) _ after e in
     ap (λ (h : Held). length h.machines) (sym got.1) ∙ omega (arith, length-append before.machines (got.0 ∷ []))
 put_machines o roles.Machine name content before after e =
     let got = then_ok (machine_in name content) _ after e in
-    ap (λ (h : Held). length h.machines) (sym got.1) ∙ omega (arith, length-append before.machines (got.0 ∷ []))
+    ap (λ (h : Held). length h.machines) (sym got.1) ∙ omega (arith, length-append before.machines (got.0.typed ∷ []))
 put_machines o roles.Codex name content before after e = let got = then_ok (codex_in name content) _ after e in ap (λ (h : Held). length h.machines) (sym got.1)
 put_machines o roles.Lines name content before after e = let same : record before { lines = content } ≡ after = cc in ap (λ (h : Held). length h.machines) (sym same)
 
@@ -54,7 +54,7 @@ put_codex o roles.BothSymbols name content before after e = let got = then_ok (t
 put_codex o roles.InputPairs name content before after e = let got = then_ok (pairs_in name content) _ after e in ap (λ (h : Held). is_some h.codex) (sym got.1)
 put_codex o roles.OutputPairs name content before after e = let got = then_ok (pairs_in name content) _ after e in ap (λ (h : Held). is_some h.codex) (sym got.1)
 put_codex o roles.Text name content before after e =
-    let got = then_ok (text_in (arc_type_of o) (choices_by o before.isymbols before.osymbols) name content) _ after e in ap (λ (h : Held). is_some h.codex) (sym got.1)
+    let got = then_ok (text_in (arc_type_of o) (choices_by o before.tables.isymbols before.tables.osymbols) name content) _ after e in ap (λ (h : Held). is_some h.codex) (sym got.1)
 put_codex o roles.Machine name content before after e = let got = then_ok (machine_in name content) _ after e in ap (λ (h : Held). is_some h.codex) (sym got.1)
 put_codex o roles.Codex name content before after e = let got = then_ok (codex_in name content) _ after e in ap (λ (h : Held). is_some h.codex) (sym got.1)
 put_codex o roles.Lines name content before after e = let same : record before { lines = content } ≡ after = cc in ap (λ (h : Held). is_some h.codex) (sym same)
@@ -74,7 +74,7 @@ put_lines o roles.InputPairs name content before after e short few =
 put_lines o roles.OutputPairs name content before after e short few =
     let got = then_ok (pairs_in name content) _ after e in subst (λ (h : Held). length h.lines ≤ read_limit) got.1 few
 put_lines o roles.Text name content before after e short few =
-    let got = then_ok (text_in (arc_type_of o) (choices_by o before.isymbols before.osymbols) name content) _ after e in
+    let got = then_ok (text_in (arc_type_of o) (choices_by o before.tables.isymbols before.tables.osymbols) name content) _ after e in
     subst (λ (h : Held). length h.lines ≤ read_limit) got.1 few
 put_lines o roles.Machine name content before after e short few =
     let got = then_ok (machine_in name content) _ after e in subst (λ (h : Held). length h.lines ≤ read_limit) got.1 few
@@ -166,12 +166,12 @@ unfolding given_at
 parts kind held given e = go (machines_as kind held.machines) (codex_at kind held.codex) refl refl e where
   go : (ms : Result (List (Machine Cost)) ArcType) (c : Result (Option (Table Cost)) ArcType) → machines_as kind held.machines ≡ ms → codex_at kind held.codex ≡ c
       → (telling (kinds_differ kind) ms >>= λ machines. telling (kinds_differ kind) c >>= λ codex.
-      Ok (record { kind = kind; isymbols = held.isymbols; osymbols = held.osymbols; ipairs = held.ipairs; opairs = held.opairs; lines = held.lines; machines = machines; codex = codex })) ≡ Ok given
+      Ok (record { kind = kind; tables = held.tables; ipairs = held.ipairs; opairs = held.opairs; lines = held.lines; machines = machines; codex = codex })) ≡ Ok given
       → Parts kind held given
   go (Err k) c mi ci is = absurd cc
   go (Ok ms) (Err k) mi ci is = absurd cc
   go (Ok ms) (Ok c) mi ci is =
-      let same : record { kind = kind; isymbols = held.isymbols; osymbols = held.osymbols; ipairs = held.ipairs; opairs = held.opairs; lines = held.lines; machines = ms; codex = c } ≡ given = cc in
+      let same : record { kind = kind; tables = held.tables; ipairs = held.ipairs; opairs = held.opairs; lines = held.lines; machines = ms; codex = c } ≡ given = cc in
       record { machines = mi ∙ ap (λ (g : Given). Ok g.machines) same; codex = ci ∙ ap (λ (g : Given). Ok g.codex) same; lines = ap (λ (g : Given). g.lines) (sym same) }
 
 pub given_machines : (kind : ArcType) (held : Held) (given : Given) → given_at kind held ≡ Ok given → length given.machines ≡ length held.machines

@@ -5,6 +5,7 @@ use Rattle.fst_words.specs.declared.plan.Plan.{Plan}
 use Rattle.fst_command.specs.Commands.{meaning_for}
 use Rattle.fst_command.specs.Given.{Given, Held, given_at, kind_of}
 use Rattle.fst_command.specs.Meaning.{Declines, Made, Product, Settles, bytes_of, ending_of}
+use Rattle.fst_command.specs.Tabling.{tables_for}
 use Rattle.fst_command.specs.Steps.{Decides, IsWorked}
 use Rattle.fst_command.specs.Told.{Fails}
 use Rattle.fst_command.specs.declared.refusal.Refusal.{Refusal}
@@ -18,7 +19,7 @@ decides_stopped plan held kind given refusal e reads (inl memory) = inl memory
 decides_stopped plan held kind given refusal e reads (inr (fault, stops, tells)) = inr (fault, inr (given, ap (λ k. given_at k held) e ∙ reads, stops), tells)
 
 pub decides_made : (plan : Plan) (held : Held) (kind : ArcType) (given : Given) (made : Made) (product : Product) → kind_of plan.options held.machines ≡ kind → given_at kind held ≡ Ok given → Settles (meaning_for plan) given (Ok made)
-    → product.bytes ≡ bytes_of made → product.status ≡ ending_of made → IsWorked plan held product
+    → product.bytes ≡ bytes_of (tables_for plan given.tables) made → product.status ≡ ending_of made → IsWorked plan held product
 decides_made plan held kind given made product e reads settles spells ends = record {
   given = given;
   reads = ap (λ k. given_at k held) e ∙ reads;

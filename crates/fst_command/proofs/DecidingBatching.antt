@@ -15,6 +15,7 @@ use Rattle.fst_words.specs.declared.options.Options.{Options}
 use Rattle.fst_command.specs.Batching.{AreAnswered, IsBatch, batch_text}
 use Rattle.fst_command.specs.Composing.{state_limit}
 use Rattle.fst_command.specs.Listing.{path_count}
+use Rattle.fst_binary.specs.Sides.{neither}
 use Rattle.fst_command.specs.Meaning.{answered, bytes_of, for_two, Made}
 use Rattle.fst_command.specs.OneOutcome.{One}
 
@@ -51,8 +52,8 @@ one_batch kind a b o lines x y one two =
     one.is ∙ (ap₂ (λ (list : List (LineAnswer Cost)) (e : ℕ). answered (batch_text kind o lines list e) e) same.0 same.1 ∙ sym two.is)
 
 -- it makes one output
-pub batch_count : (ms : List (Machine Cost)) (kind : ArcType) (o : Options) (lines : List (List ℕ)) (made : Made) → for_two ms (λ a b. IsBatch kind a b o lines made) → length (bytes_of made) ≡ 1
+pub batch_count : (ms : List (Machine Cost)) (kind : ArcType) (o : Options) (lines : List (List ℕ)) (made : Made) → for_two ms (λ a b. IsBatch kind a b o lines made) → length (bytes_of neither made) ≡ 1
 batch_count [] kind o lines made is = absurd is
 batch_count (a ∷ []) kind o lines made is = absurd is
-batch_count (a ∷ b ∷ []) kind o lines made is = ap (λ (m : Made). length (bytes_of m)) is.is
+batch_count (a ∷ b ∷ []) kind o lines made is = ap (λ (m : Made). length (bytes_of neither m)) is.is
 batch_count (a ∷ b ∷ c ∷ ms) kind o lines made is = absurd is

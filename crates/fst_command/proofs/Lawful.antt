@@ -19,8 +19,11 @@ use Rattle.fst_words.proofs.Counts.{stored_all}
 use Rattle.fst_command.specs.Causes.{unmade}
 use Rattle.fst_command.specs.Commands.{meaning_by}
 use Rattle.fst_command.specs.Composing.{state_limit}
-use Rattle.fst_command.specs.Given.{Given, Held, choices_by}
+use Rattle.fst_command.specs.Given.{Given, Held}
+use Rattle.fst_command.specs.Tabling.{tables_for}
+use Rattle.fst_command.specs.Texts.{print_choices}
 use Rattle.fst_command.specs.Listing.{path_count}
+use Rattle.fst_binary.specs.Sides.{neither}
 use Rattle.fst_command.specs.Meaning.{Made, Meaning, Product, bytes_of}
 use Rattle.fst_command.specs.Measuring.{direction_of}
 use Rattle.fst_command.specs.OneOutcome.{HasOneOutcome, One}
@@ -40,7 +43,7 @@ use Rattle.fst_command.proofs.DecidingRemoving.{one_removed_machine, one_unremov
 use Rattle.fst_command.proofs.DecidingSizes.{one_cause, one_too_large}
 use Rattle.fst_command.proofs.Making.{one_cascade}
 use Rattle.fst_command.proofs.Measured.{one_distances, one_unmeasured}
-use Rattle.fst_command.proofs.OneMade.{IsOneMade, a_coding, a_machine, a_text, of_one, of_two, the_made}
+use Rattle.fst_command.proofs.OneMade.{IsOneMade, a_coding, a_machine, a_text, as_many, of_one, of_two, the_made}
 
 pub record IsLawful (m : Meaning) (given : Given) (stored : ℕ) : Type 0 where
   pub stopped : One (m.stops given)
@@ -51,8 +54,8 @@ pub record IsLawful (m : Meaning) (given : Given) (stored : ℕ) : Type 0 where
 pub lawful : (verb : Verb) (labels : List ℕ) (o : Options) (given : Given) → IsLawful (meaning_by verb labels o) given (stored_by (form_of verb).shape o.decode)
 lawful verbs.Compile labels o given = record { stopped = one_never; makes = of_one _ (λ m. the_made _) given.machines }
 lawful verbs.Print labels o given = record {
-  stopped = one_for_one _ (λ m. one_told _ _ (one_error (text_of_machine given.kind (choices_by o given.isymbols given.osymbols) m))) given.machines;
-  makes = of_one _ (λ m. a_text _ _ (one_value (text_of_machine given.kind (choices_by o given.isymbols given.osymbols) m))) given.machines;
+  stopped = one_for_one _ (λ m. one_told _ _ (one_error (text_of_machine given.kind (print_choices o given.tables) m))) given.machines;
+  makes = of_one _ (λ m. a_text _ _ (one_value (text_of_machine given.kind (print_choices o given.tables) m))) given.machines;
 }
 lawful verbs.Info labels o given = record { stopped = one_never; makes = of_one _ (λ m. a_text _ _ (one_described given.kind (λ w. w) m)) given.machines }
 lawful verbs.Invert labels o given = record { stopped = one_never; makes = of_one _ (λ m. a_machine given.kind _ (one_equal _ _)) given.machines }
@@ -122,7 +125,7 @@ lawful verbs.Batch labels o given = record {
 }
 lawful verbs.Make labels o given = record {
   stopped = one_never;
-  makes = record { one = one_cascade o; count = λ made is. ap (λ (m : Made). length (bytes_of m)) is.is };
+  makes = record { one = one_cascade o; count = λ made is. ap (λ (m : Made). length (bytes_of neither m)) is.is };
 }
 
 -- ---- what follows
@@ -134,4 +137,4 @@ one_meaning verb labels o given = record { stopped = (lawful verb labels o given
 -- the bytes of a command are as many as its outputs
 pub stored_fits : (plan : Plan) (held : Held) (product : Product) → IsWhole plan → IsWorked plan held product → length (outputs_of plan) ≡ length product.bytes
 stored_fits plan held product whole w =
-    stored_all plan whole ∙ sym ((lawful plan.command _ plan.options w.given).makes.count w.made w.makes) ∙ ap length (sym w.spells)
+    stored_all plan whole ∙ sym ((lawful plan.command _ plan.options w.given).makes.count w.made w.makes) ∙ sym (as_many (tables_for plan w.given.tables) w.made) ∙ ap length (sym w.spells)

@@ -10,6 +10,7 @@ use Rattle.fst_command.specs.Given.{Given, Held, given_at, kind_of}
 use Rattle.fst_command.specs.Meaning.{Made, Product, Settles, bytes_of, ending_of}
 use Rattle.fst_command.specs.Metering.{Metered, Raises}
 use Rattle.fst_command.specs.Outcome.{MetersBy, MetersPlan}
+use Rattle.fst_command.specs.Tabling.{tables_for}
 use Rattle.fst_command.specs.Steps.{MetersEnd, MetersWords, MetersWorkBy, Progress}
 use Rattle.fst_command.specs.Told.{Tells, told_status}
 use Rattle.fst_command.specs.declared.refusal.Refusal.{Refusal}
@@ -21,7 +22,7 @@ raises_nothing plan before result none = subst (λ (b : Bool). Raises b before b
 
 -- what is made raised it, and so did the work
 pub work_raised : (b : Bool) (plan : Plan) (held : Held) (kind : ArcType) (given : Given) (made : Made) (product : Product) (before after : Metered)
-    → kind_of plan.options held.machines ≡ kind → given_at kind held ≡ Ok given → Settles (meaning_for plan) given (Ok made) → product.bytes ≡ bytes_of made → product.status ≡ ending_of made
+    → kind_of plan.options held.machines ≡ kind → given_at kind held ≡ Ok given → Settles (meaning_for plan) given (Ok made) → product.bytes ≡ bytes_of (tables_for plan given.tables) made → product.status ≡ ending_of made
     → Raises b before after (Ok made) → MetersWorkBy b plan held before after (Ok product)
 work_raised false plan held kind given made product before after e reads settles spells ends raises = raises
 work_raised true plan held kind given made product before after e reads settles spells ends raises =

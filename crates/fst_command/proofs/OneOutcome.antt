@@ -8,6 +8,7 @@ use Rattle.fst_command.specs.Causes.{Cause, Fault, faulty}
 use Rattle.fst_command.specs.Commands.{meaning_for}
 use Rattle.fst_command.specs.Given.{Given, given_of}
 use Rattle.fst_command.specs.Meaning.{Made, bytes_of, ending_of}
+use Rattle.fst_command.specs.Tabling.{tables_for}
 use Rattle.fst_command.specs.OneOutcome.{EndsWith, HasOneOutcome, One, OneOutcome}
 use Rattle.fst_command.specs.Outcome.{Agrees, AreNamed, IsCause, Makes, Output, Prescribes, Refuses}
 use Rattle.fst_command.proofs.Deciding.{one_error, one_value}
@@ -46,7 +47,10 @@ module _ (plan : Plan) (files : Files) where
   one_list_of_outputs : One (Prescribes plan (Some files))
   one_list_of_outputs a b one two =
       let made : one.made ≡ two.made = one_making one.made two.made one.makes two.makes in
-      one_naming (outputs_of plan) (bytes_of two.made) a b (subst (λ (m : Made). AreNamed (outputs_of plan) (bytes_of m) a) made one.named) two.named
+      let given : one.makes.given ≡ two.makes.given = same_given one.made two.made one.makes two.makes in
+      let bytes : bytes_of (tables_for plan one.makes.given.tables) one.made ≡ bytes_of (tables_for plan two.makes.given.tables) two.made =
+          ap (λ (g : Given). bytes_of (tables_for plan g.tables) one.made) given ∙ ap (bytes_of (tables_for plan two.makes.given.tables)) made in
+      one_naming (outputs_of plan) (bytes_of (tables_for plan two.makes.given.tables) two.made) a b (subst (λ (written : List (List ℕ)). AreNamed (outputs_of plan) written a) bytes one.named) two.named
 
   one_fault : (contents : List (List ℕ)) → One (IsCause plan contents)
   one_fault contents c d (inl one) (inl two) = one_error (given_of plan contents) c d one two

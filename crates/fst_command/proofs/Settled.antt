@@ -4,7 +4,8 @@ use Rattle.fst_semiring.specs.declared.arc_type.ArcType.{ArcType}
 use Rattle.fst_semiring.specs.Cost.{Cost}
 use Rattle.fst_machine.specs.Machine.{Machine, valued}
 use Rattle.fst_command.specs.Meaning.{Made, Meaning, Settles}
-use Rattle.fst_command.specs.Seeing.{given_seen}
+use Rattle.fst_command.specs.Seeing.{given_seen, given_with}
+use Rattle.fst_command.specs.declared.tables.Tables.{Tables as DeclaredTables}
 use Rattle.fst_command.specs.declared.given.Given.{Given as DeclaredGiven}
 use Rattle.fst_command.specs.declared.refusal.Refusal.{Refusal}
 
@@ -12,3 +13,8 @@ pub settled : {W X : Type 0} (meaning : Meaning) (kind : ArcType) (value : W →
     → Settles meaning (record (given_seen kind value g) { machines = map (valued value) ms }) result → Settles meaning (given_seen kind value g) result
 settled meaning kind value g ms result e h =
     subst (λ (xs : List (Machine _)). Settles meaning (record (given_seen kind value g) { machines = map (valued value) xs }) result) (sym e) h
+
+pub settled_with : {W X : Type 0} (meaning : Meaning) (t : DeclaredTables) (kind : ArcType) (value : W → Cost) (g : DeclaredGiven W X) (ms : List (Machine W)) (result : Result Made Refusal) → g.machines.items ≡ ms
+    → Settles meaning (record (given_with t kind value g) { machines = map (valued value) ms }) result → Settles meaning (given_with t kind value g) result
+settled_with meaning t kind value g ms result e h =
+    subst (λ (xs : List (Machine _)). Settles meaning (record (given_with t kind value g) { machines = map (valued value) xs }) result) (sym e) h

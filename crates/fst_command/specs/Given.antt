@@ -1,6 +1,6 @@
 -- What a command is given: what the contents of its inputs stand for, each judged before the next is read, and all
 -- machines of one arc type; or the first cause. Reading is a function, so that the first cause is the order of its steps.
-use Rattle.std.specs.Prelude.{ℕ, List, [], ◌∷◌, ◌++◌, length, Option, Some, None, Result, Ok, Err, nat_lt, unwrap_or, codes, if◌then◌else◌}
+use Rattle.std.specs.Prelude.{ℕ, List, [], ◌∷◌, ◌++◌, ◌==◌, length, Option, Some, None, Result, Ok, Err, nat_lt, unwrap_or, codes, if◌then◌else◌}
 use Rattle.fst_fields.specs.Reading.{◌>>=◌}
 use Rattle.fst_semiring.specs.declared.arc_type.ArcType.{ArcType}
 use Rattle.fst_semiring.specs.declared.arc_type.ArcType.TheVariants.{Tropical}
@@ -15,9 +15,10 @@ use Rattle.fst_rational.specs.Faults as pairs
 use Rattle.fst_text.specs.Options as text
 use Rattle.fst_text.specs.Faults as texts
 use Rattle.fst_binary.specs.Faults as binary
+use Rattle.fst_binary.specs.Sides.{Sides, neither}
 use Rattle.fst_codex.specs.Faults as codices
 use Rattle.fst_codex.specs.Table.{Table}
-use Rattle.fst_any.specs.Typed.{Typed, TypedCodex, codex_of_file, machine_of_file, typed_machine_of_text}
+use Rattle.fst_any.specs.Typed.{Typed, TypedCodex, TypedTabled, codex_of_file, machine_of_file, typed_machine_of_text}
 use Rattle.fst_any.specs.Taken.{codex_as, machines_as}
 use Rattle.fst_words.specs.declared.form.Role.{Role}
 use Rattle.fst_words.specs.declared.form.Role.TheVariants.{InputSymbols, OutputSymbols, BothSymbols, InputPairs, OutputPairs, Text, Machine as MachineRole, Codex, Lines}
@@ -30,10 +31,16 @@ use Rattle.fst_command.specs.Causes.{Cause, Fault, faulty, kinds_differ, misread
 abbrev pub read_limit : ℕ
 read_limit = 1342177280
 
--- what was read, each machine with its arc type
-pub record Held : Type 0 where
+-- the symbol tables that were read: those of the options, and those that the first machine and the last one carry
+pub record Tables : Type 0 where
   pub isymbols : Option (List Symbol)
   pub osymbols : Option (List Symbol)
+  pub first : Sides
+  pub last : Sides
+
+-- what was read, each machine with its arc type
+pub record Held : Type 0 where
+  pub tables : Tables
   pub ipairs : List Pair
   pub opairs : List Pair
   pub lines : List ℕ
@@ -43,17 +50,19 @@ pub record Held : Type 0 where
 -- what a command is given: the files of its options, and what it works on, all of one arc type
 pub record Given : Type 0 where
   pub kind : ArcType
-  pub isymbols : Option (List Symbol)
-  pub osymbols : Option (List Symbol)
+  pub tables : Tables
   pub ipairs : List Pair
   pub opairs : List Pair
   pub lines : List ℕ
   pub machines : List (Machine Cost)
   pub codex : Option (Table Cost)
 
--- nothing is read yet
+-- no symbol table is read yet, and nothing is
+abbrev pub no_tables : Tables
+no_tables = record { isymbols = None; osymbols = None; first = neither; last = neither }
+
 abbrev pub nothing : Held
-nothing = record { isymbols = None; osymbols = None; ipairs = []; opairs = []; lines = []; machines = []; codex = None }
+nothing = record { tables = no_tables; ipairs = []; opairs = []; lines = []; machines = []; codex = None }
 
 -- ---- the content of one input
 
@@ -73,7 +82,7 @@ unfoldable pub text_in : ArcType → text.Options → List ℕ → List ℕ → 
 text_in kind choices name content =
     telling (λ fault. misread name (codes "line") (texts.line_of fault) (texts.reason_of fault)) (typed_machine_of_text kind choices content)
 
-unfoldable pub machine_in : List ℕ → List ℕ → Result Typed Fault
+unfoldable pub machine_in : List ℕ → List ℕ → Result TypedTabled Fault
 machine_in name content = telling (λ fault. misread name (codes "byte") fault.offset (binary.reason_of fault.kind)) (machine_of_file content)
 
 unfoldable pub codex_in : List ℕ → List ℕ → Result TypedCodex Fault
@@ -93,16 +102,30 @@ choices_by o isymbols osymbols = record {
   osymbols = osymbols;
 }
 
+-- the tables of the options, where those of a side are read, or one for both sides
+abbrev pub with_input : List Symbol → Tables → Tables
+with_input table t = record t { isymbols = Some table }
+
+abbrev pub with_output : List Symbol → Tables → Tables
+with_output table t = record t { osymbols = Some table }
+
+abbrev pub with_both : List Symbol → Tables → Tables
+with_both table t = record t { isymbols = Some table; osymbols = Some table }
+
+-- and where a machine is read that carries these, after so many others
+abbrev pub with_carried : ℕ → Sides → Tables → Tables
+with_carried before own t = if before == 0 then record t { first = own; last = own } else record t { last = own }
+
 -- the content of an input, put beside what stands before it, by what the input is for
 unfoldable pub put : Options → Role → List ℕ → List ℕ → Held → Result Held Fault
-put o InputSymbols name content held = table_in name content >>= λ table. Ok (record held { isymbols = Some table })
-put o OutputSymbols name content held = table_in name content >>= λ table. Ok (record held { osymbols = Some table })
-put o BothSymbols name content held = table_in name content >>= λ table. Ok (record held { isymbols = Some table; osymbols = Some table })
+put o InputSymbols name content held = table_in name content >>= λ table. Ok (record held { tables = with_input table held.tables })
+put o OutputSymbols name content held = table_in name content >>= λ table. Ok (record held { tables = with_output table held.tables })
+put o BothSymbols name content held = table_in name content >>= λ table. Ok (record held { tables = with_both table held.tables })
 put o InputPairs name content held = pairs_in name content >>= λ read. Ok (record held { ipairs = read })
 put o OutputPairs name content held = pairs_in name content >>= λ read. Ok (record held { opairs = read })
 put o Text name content held =
-    text_in (arc_type_of o) (choices_by o held.isymbols held.osymbols) name content >>= λ m. Ok (record held { machines = held.machines ++ m ∷ [] })
-put o MachineRole name content held = machine_in name content >>= λ m. Ok (record held { machines = held.machines ++ m ∷ [] })
+    text_in (arc_type_of o) (choices_by o held.tables.isymbols held.tables.osymbols) name content >>= λ m. Ok (record held { machines = held.machines ++ m ∷ [] })
+put o MachineRole name content held = machine_in name content >>= λ t. Ok (record held { tables = with_carried (length held.machines) t.sides held.tables; machines = held.machines ++ t.typed ∷ [] })
 put o Codex name content held = codex_in name content >>= λ c. Ok (record held { codex = Some c })
 put o Lines name content held = Ok (record held { lines = content })
 
@@ -131,8 +154,7 @@ given_at kind held = do
   codex ← telling (kinds_differ kind) (codex_at kind held.codex)
   Ok (record {
     kind = kind;
-    isymbols = held.isymbols;
-    osymbols = held.osymbols;
+    tables = held.tables;
     ipairs = held.ipairs;
     opairs = held.opairs;
     lines = held.lines;

@@ -3,6 +3,7 @@
 -- steps of a command promise.
 pub mod Causes
 pub mod Given
+pub mod Tabling
 pub mod Meaning
 pub mod Metering
 pub mod Rational

@@ -3,7 +3,8 @@ use Rattle.std.specs.Prelude.{◌≡◌, ◌⊎◌, ℕ, List, [], ◌∷◌, Re
 use Rattle.fst_semiring.specs.declared.arc_type.ArcType.{ArcType}
 use Rattle.fst_semiring.specs.Cost.{Cost}
 use Rattle.fst_machine.specs.Machine.{Machine}
-use Rattle.fst_binary.specs.Spelling.{spelling}
+use Rattle.fst_binary.specs.Sides.{Sides}
+use Rattle.fst_binary.specs.Spelling.{tabled_spelling}
 use Rattle.fst_codex.specs.Spelling.{codex_spelling}
 use Rattle.fst_codex.specs.Table.{Table}
 use Rattle.fst_command.specs.Causes.{Fault, faulty, refused}
@@ -22,12 +23,12 @@ pub data Made : Type 0 where
   -- the text of the answers to lines, with how many states of the cascade were expanded for them
   answered : List ℕ → ℕ → Made
 
--- the bytes of its outputs, in the order in which they are stored
-abbrev pub bytes_of : Made → List (List ℕ)
-bytes_of (machine kind m) = spelling kind m ∷ []
-bytes_of (text bytes) = bytes ∷ []
-bytes_of (coded kind table m) = codex_spelling kind table ∷ spelling kind m ∷ []
-bytes_of (answered bytes expansions) = bytes ∷ []
+-- the bytes of its outputs, in the order in which they are stored: a machine carries these symbol tables
+abbrev pub bytes_of : Sides → Made → List (List ℕ)
+bytes_of s (machine kind m) = tabled_spelling kind m s ∷ []
+bytes_of s (text bytes) = bytes ∷ []
+bytes_of s (coded kind table m) = codex_spelling kind table ∷ tabled_spelling kind m s ∷ []
+bytes_of s (answered bytes expansions) = bytes ∷ []
 
 -- the status that a run ends with which makes it
 abbrev pub ending_of : Made → ℕ

@@ -9,6 +9,7 @@ use Rattle.fst_command.specs.Causes.{Cause, too_long, faulty, Fault, Answer, don
 use Rattle.fst_command.specs.Commands.{meaning_for}
 use Rattle.fst_command.specs.Given.{Given, Held, given_by, given_of, nothing, read_limit}
 use Rattle.fst_command.specs.Meaning.{Made, Passes, bytes_of, ending_of, expansions_of}
+use Rattle.fst_command.specs.Tabling.{tables_for}
 use Rattle.fst_command.specs.Metering.{Metered, risen_by}
 
 -- the contents are those that are told under the names of the inputs
@@ -43,11 +44,11 @@ pub record Makes (plan : Plan) (told : Option Files) (made : Made) : Type 0 wher
   pub passes : Passes ((meaning_for plan).stops given)
   pub is : (meaning_for plan).makes given made
 
--- the outcome is Ok with these outputs: they are the bytes of what the command makes
+-- the outcome is Ok with these outputs: they are the bytes of what the command makes, with the symbol tables of its row
 pub record Prescribes (plan : Plan) (told : Option Files) (outputs : List Output) : Type 0 where
   pub made : Made
   pub makes : Makes plan told made
-  pub named : AreNamed (outputs_of plan) (bytes_of made) outputs
+  pub named : AreNamed (outputs_of plan) (bytes_of (tables_for plan makes.given.tables) made) outputs
 
 -- what a command is given has this cause, or else the command is stopped by it
 abbrev pub IsCause : Plan → List (List ℕ) → Cause → Type 0

@@ -1,15 +1,17 @@
 -- What the code holds, seen as what the definitions speak of.
 use Rattle.std.specs.Prelude.{ℕ, List, [], ◌∷◌, Option, None, map}
-use Rattle.std.specs.Option.{option_map, option_or}
+use Rattle.std.specs.Option.{option_map, option_map_or, option_or}
 use Rattle.fst_semiring.specs.declared.arc_type.ArcType.{ArcType}
 use Rattle.fst_semiring.specs.Cost.{Cost}
 use Rattle.fst_machine.specs.Machine.{Machine, valued}
 use Rattle.fst_codex.specs.Table.{valued_table}
 use Rattle.fst_symbols.specs.Symbols.{Symbol}
 use Rattle.fst_any.specs.Typed.{typed, typed_codex}
-use Rattle.fst_command.specs.Given.{Given, Held}
+use Rattle.fst_binary.specs.Sides.{Sides}
+use Rattle.fst_command.specs.Given.{Given, Held, Tables, no_tables}
 use Rattle.fst_command.specs.Meaning.{Made, Product, answered, coded, machine, text}
-use Rattle.fst_command.specs.declared.tables.Tables.{Tables}
+use Rattle.fst_command.specs.declared.tables.Carried.{Carried}
+use Rattle.fst_command.specs.declared.tables.Tables.{Tables as DeclaredTables}
 use Rattle.fst_command.specs.declared.given.Held.{Held as DeclaredHeld}
 use Rattle.fst_command.specs.declared.given.Given.{Given as DeclaredGiven}
 use Rattle.fst_command.specs.declared.made.Made.{Made as DeclaredMade}
@@ -19,17 +21,24 @@ use Rattle.fst_command.specs.declared.made.Bytes.TheVariants as bytes
 use Rattle.fst_command.specs.declared.made.Product.{Product as DeclaredProduct}
 
 -- the names of the labels of each side: those of its own table, or else of the table of both sides
-abbrev pub input_names : Tables → Option (List Symbol)
+abbrev pub input_names : DeclaredTables → Option (List Symbol)
 input_names t = option_or t.input t.shared
 
-abbrev pub output_names : Tables → Option (List Symbol)
+abbrev pub output_names : DeclaredTables → Option (List Symbol)
 output_names t = option_or t.output t.shared
+
+-- those that a machine carries
+abbrev pub sides_of : Carried → Sides
+sides_of c = record { isymbols = c.isymbols; osymbols = c.osymbols }
+
+-- all symbol tables that were read: where one machine was, it is the first and the last
+abbrev pub tables_seen : DeclaredTables → Tables
+tables_seen t = record { isymbols = input_names t; osymbols = output_names t; first = sides_of t.first; last = option_map_or sides_of t.last (sides_of t.first) }
 
 -- what was read
 abbrev pub held_seen : DeclaredHeld → Held
 held_seen h = record {
-  isymbols = input_names h.tables;
-  osymbols = output_names h.tables;
+  tables = tables_seen h.tables;
   ipairs = h.ipairs;
   opairs = h.opairs;
   lines = h.lines.items;
@@ -37,18 +46,21 @@ held_seen h = record {
   codex = option_map typed_codex h.codex;
 }
 
--- what a command is given
+-- what a command is given beside the symbol tables
 abbrev pub given_seen : {W X : Type 0} → ArcType → (W → Cost) → DeclaredGiven W X → Given
 given_seen kind value g = record {
   kind = kind;
-  isymbols = input_names g.tables;
-  osymbols = output_names g.tables;
+  tables = no_tables;
   ipairs = g.ipairs;
   opairs = g.opairs;
   lines = g.lines.items;
   machines = map (valued value) g.machines.items;
   codex = option_map (valued_table value) g.codex;
 }
+
+-- and with them
+abbrev pub given_with : {W X : Type 0} → DeclaredTables → ArcType → (W → Cost) → DeclaredGiven W X → Given
+given_with t kind value g = record (given_seen kind value g) { tables = tables_seen t }
 
 -- what it makes
 abbrev pub made_seen : {W X : Type 0} → ArcType → (W → Cost) → DeclaredMade W X → Made
@@ -70,4 +82,4 @@ product_seen p = record { status = p.status; bytes = bytes_seen p.bytes }
 -- what a command is given where it is machines alone, and where the new labels of both sides, the symbol tables, or a
 -- codex stand beside them
 abbrev pub just : ArcType → List (Machine Cost) → Given
-just kind machines = record { kind = kind; isymbols = None; osymbols = None; ipairs = []; opairs = []; lines = []; machines = machines; codex = None }
+just kind machines = record { kind = kind; tables = no_tables; ipairs = []; opairs = []; lines = []; machines = machines; codex = None }

@@ -9,6 +9,7 @@ use Rattle.fst_command.specs.Causes.{Answer, Fault, done, faulty, no_memory, ref
 use Rattle.fst_command.specs.Commands.{meaning_for}
 use Rattle.fst_command.specs.Given.{Given, Held, given_at, given_by, kind_of, nothing, put, read_limit}
 use Rattle.fst_command.specs.Meaning.{Made, Passes, Product, bytes_of, ending_of, expansions_of}
+use Rattle.fst_command.specs.Tabling.{tables_for}
 use Rattle.fst_command.specs.Metering.{Metered, risen_by}
 use Rattle.fst_command.specs.Outcome.{Agrees, Answers, Calls, Makes}
 use Rattle.fst_command.specs.declared.refusal.Refusal.{Refusal}
@@ -164,7 +165,7 @@ pub record IsWorked (plan : Plan) (held : Held) (product : Product) : Type 0 whe
   pub passes : Passes ((meaning_for plan).stops given)
   pub made : Made
   pub makes : (meaning_for plan).makes given made
-  pub spells : product.bytes ≡ bytes_of made
+  pub spells : product.bytes ≡ bytes_of (tables_for plan given.tables) made
   pub ends : product.status ≡ ending_of made
 
 -- the fault of what was read, or else that which stops the command

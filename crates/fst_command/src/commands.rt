@@ -8,7 +8,7 @@ ghost use Rattle.fst_command.specs.Commands.{meaning_for};
 ghost use Rattle.fst_command.specs.Given.{read_limit};
 ghost use Rattle.fst_command.specs.Meaning.{Settles};
 ghost use Rattle.fst_command.specs.Metering.{IsFree, Raises, meter_seen};
-ghost use Rattle.fst_command.specs.Seeing.{given_seen, made_seen};
+ghost use Rattle.fst_command.specs.Seeing.{given_with, made_seen};
 
 mod batching;
 mod coding;
@@ -32,6 +32,7 @@ use crate::given::Given;
 use crate::made::Made;
 use crate::queues::Queues;
 use crate::refusal::Refusal;
+use crate::tables::Tables;
 use fst_delayed::Meter;
 use fst_semiring::Weight;
 use fst_words::{Plan, Verb};
@@ -44,6 +45,7 @@ pub(crate) fn made<R: Threads + Sync, W: Weight + Send + Sync, M: Meter>(
     alloc: Global,
     plan: &Plan,
     given: Given<W>,
+    tables: &Tables,
     queues: Queues,
     meter: &mut M,
 ) -> Result<Made<W>, Refusal>
@@ -54,12 +56,12 @@ where
     requires codex { has_codex plan.now ≡ true → IsSome given.codex }
     requires lines { length given.lines.items ≤ read_limit }
     requires free { IsFree (meter_seen M.count M.parts_out M.is_part meter.old) }
-    ensures settles { Settles (meaning_for plan.now) (given_seen W.KIND W.value given) (result_map_both (made_seen W.KIND W.value) (λ e. e) result) }
+    ensures settles { Settles (meaning_for plan.now) (given_with tables.now W.KIND W.value given) (result_map_both (made_seen W.KIND W.value) (λ e. e) result) }
     ensures meter { Raises (expands plan.now) (meter_seen M.count M.parts_out M.is_part meter.old) (meter_seen M.count M.parts_out M.is_part meter.new) (result_map_both (made_seen W.KIND W.value) (λ e. e) result) }
 {
     match plan.command {
         Verb::Compile => texts::compiled(given),
-        Verb::Print => texts::printed(alloc, &plan.options, given),
+        Verb::Print => texts::printed(alloc, &plan.options, given, tables),
         Verb::Info => describing::described(alloc, given),
         Verb::Invert => rational::inverted(alloc, given),
         Verb::Reverse => rational::reversed(alloc, given),

@@ -8,7 +8,7 @@ ghost use Rattle.fst_any.specs.Taken.{machines_as};
 ghost use Rattle.fst_any.specs.Typed.{typed, typed_codex};
 ghost use Rattle.fst_command.specs.Causes.{kinds_differ};
 ghost use Rattle.fst_command.specs.Given.{arc_type_of, codex_at, given_at, kind_of, nothing, telling};
-ghost use Rattle.fst_command.specs.Seeing.{given_seen, held_seen};
+ghost use Rattle.fst_command.specs.Seeing.{given_with, held_seen};
 ghost use Rattle.fst_command.specs.Told.{Judges};
 
 use crate::refusal::{Refusal, kinds_apart};
@@ -24,7 +24,7 @@ use std::alloc::Global;
 /// What was read, each machine with its arc type.
 #[derive(Drop)]
 pub(crate) struct Held {
-    /// The names of the labels of both sides.
+    /// The symbol tables.
     pub(crate) tables: Tables,
     /// The new labels of the input side.
     pub(crate) ipairs: Pairs,
@@ -43,11 +43,10 @@ pub(crate) struct Held {
     pub(crate) text_room: Vec<u8>,
 }
 
-/// What a command is given: the files of its options, and what it works on, all of one arc type.
+/// What a command is given beside the symbol tables: the other files of its options, and what it works on, all of one arc
+/// type.
 #[derive(Drop)]
 pub(crate) struct Given<W: Weight> {
-    /// The names of the labels of both sides.
-    pub(crate) tables: Tables,
     /// The new labels of the input side.
     pub(crate) ipairs: Pairs,
     /// Those of the output side.
@@ -124,23 +123,23 @@ fn alike_codex<W: Kinded>(alloc: Global, any: Option<AnyCodex>) -> Result<Option
     }
 }
 
-/// What was read, all of the arc type of the weights; the room for bytes is freed. The first machine of another arc type,
-/// or else a codex of another, is a refusal.
+/// What was read, all of the arc type of the weights, and the symbol tables beside it; the room for bytes is freed. The first
+/// machine of another arc type, or else a codex of another, is a refusal.
 #[tactic(auto, unfolding(crate::specs::Given::given_at))]
-pub(crate) fn alike<W: Kinded>(alloc: Global, held: Held) -> Result<Given<W>, Refusal>
-    ensures { Judges (λ given. given_seen W.KIND W.value given) result (given_at W.KIND (held_seen held)) }
+pub(crate) fn alike<W: Kinded>(alloc: Global, held: Held) -> Result<(Given<W>, Tables), Refusal>
+    ensures { Judges (λ x. given_with x.1 W.KIND W.value x.0) result (given_at W.KIND (held_seen held)) }
 {
     let machines = alike_machines::<W>(alloc, held.machines)?;
     let codex = alike_codex::<W>(alloc, held.codex)?;
-    Ok(Given {
-        tables: held.tables,
+    let given = Given {
         ipairs: held.ipairs,
         opairs: held.opairs,
         lines: held.lines,
         machines,
         codex,
         text_room: held.text_room,
-    })
+    };
+    Ok((given, held.tables))
 }
 
 /// The one machine of a list.

@@ -4,7 +4,7 @@ ghost use Rattle.std.specs.Prelude.{◌≡◌, IfOk};
 ghost use Rattle.fst_command.specs.Meaning.{bytes_of, ending_of};
 ghost use Rattle.fst_command.specs.Seeing.{bytes_seen, made_seen};
 
-use fst_binary::{encode_into, encode_joined};
+use fst_binary::{LentTables, encode_tabled_into, encode_tabled_joined};
 use fst_codex::{Codex, write_codex};
 use fst_machine::{Fst, Joined};
 use fst_semiring::Weight;
@@ -43,25 +43,26 @@ pub(crate) struct Product {
     pub(crate) bytes: Bytes,
 }
 
-/// The status and the bytes of what a command makes, those of a machine where the content of a room stood. A codex is
+/// The status and the bytes of what a command makes, a machine with these symbol tables, where the content of a room stood. A codex is
 /// freed before the machine beside it is written, the room of a machine as it is written, where the bytes did not stand
 /// beside it before, and of a machine in two lists the first before the second is written.
 pub(crate) fn product_of<W: Weight>(
     alloc: Global,
     room: Vec<u8>,
     made: Made<W>,
+    tables: &LentTables,
 ) -> Result<Product, AllocError>
-    ensures bytes { IfOk result (λ product. bytes_seen product.bytes ≡ bytes_of (made_seen W.KIND W.value made)) }
+    ensures bytes { IfOk result (λ product. bytes_seen product.bytes ≡ bytes_of tables.now (made_seen W.KIND W.value made)) }
     ensures status { IfOk result (λ product. product.status ≡ ending_of (made_seen W.KIND W.value made)) }
 {
     match made {
         Made::Machine(machine) => Ok(Product {
             status: 0,
-            bytes: Bytes::One(encode_into(room, machine)?),
+            bytes: Bytes::One(encode_tabled_into(room, machine, tables)?),
         }),
         Made::Joined(joined) => Ok(Product {
             status: 0,
-            bytes: Bytes::One(encode_joined(room, joined)?),
+            bytes: Bytes::One(encode_tabled_joined(room, joined, tables)?),
         }),
         Made::Text(text) | Made::Answered(text, _) => Ok(Product {
             status: 0,
@@ -72,7 +73,7 @@ pub(crate) fn product_of<W: Weight>(
             drop(codex);
             Ok(Product {
                 status: 0,
-                bytes: Bytes::Two(first, encode_into(room, machine)?),
+                bytes: Bytes::Two(first, encode_tabled_into(room, machine, tables)?),
             })
         }
     }

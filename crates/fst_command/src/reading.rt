@@ -2,7 +2,7 @@
 
 ghost use Rattle.std.specs.Prelude.{◌≡◌, codes};
 ghost use Rattle.std.specs.Result.{result_map_both};
-ghost use Rattle.fst_any.specs.Typed.{typed, typed_codex};
+ghost use Rattle.fst_any.specs.Typed.{typed, typed_codex, typed_tabled};
 ghost use Rattle.fst_binary.specs.Faults as binary;
 ghost use Rattle.fst_codex.specs.Faults as codices;
 ghost use Rattle.fst_rational.specs.Faults as pairs;
@@ -11,15 +11,16 @@ ghost use Rattle.fst_text.specs.Faults as texts;
 ghost use Rattle.fst_words.specs.Inputs.{input_seen};
 ghost use Rattle.fst_command.specs.Causes.{faulty, misread, refused};
 ghost use Rattle.fst_command.specs.Given.{arc_type_of, choices_by, codex_in, machine_in, pairs_in, put, table_in, text_in};
-ghost use Rattle.fst_command.specs.Seeing.{held_seen, input_names, output_names};
+ghost use Rattle.fst_command.specs.Seeing.{held_seen, input_names, output_names, tables_seen};
 ghost use Rattle.fst_command.specs.Steps.{ReadsAll, StepAnswer};
+ghost use Rattle.fst_command.specs.Texts.{print_choices};
 ghost use Rattle.fst_command.specs.Told.{IsMade, Judges};
 
 use crate::files::read_input;
 use crate::given::{Held, arc_type_of};
 use crate::refusal::{Refusal, misread};
-use crate::tables::Tables;
-use fst_any::{AnyCodex, AnyFst, compile_any, decode_any, read_any_codex};
+use crate::tables::{Carried, Tables};
+use fst_any::{AnyCodex, AnyFst, AnyTabled, compile_any, decode_any, read_any_codex};
 use fst_binary::{BinaryFault, BinaryKind};
 use fst_codex::{CodexFault, CodexKind};
 use fst_desk::Desk;
@@ -80,8 +81,8 @@ fn read_pairs(alloc: Global, name: &str, content: &[u8]) -> Result<Pairs, Refusa
     }
 }
 
-/// How texts are read and printed.
-pub(crate) fn choices<'t>(options: &Options, tables: &'t Tables) -> TextOptions<'t>
+/// How texts are read.
+fn choices<'t>(options: &Options, tables: &'t Tables) -> TextOptions<'t>
     ensures { result ≡ choices_by options.now (input_names tables.entry.now) (output_names tables.entry.now) }
 {
     TextOptions {
@@ -90,6 +91,19 @@ pub(crate) fn choices<'t>(options: &Options, tables: &'t Tables) -> TextOptions<
         show_weight_one: options.show_weight_one,
         isymbols: tables.of_input(),
         osymbols: tables.of_output(),
+    }
+}
+
+/// How texts are printed: a side by the names of its option, or else by those that the machine carries.
+pub(crate) fn print_choices<'t>(options: &Options, tables: &'t Tables) -> TextOptions<'t>
+    ensures { result ≡ print_choices options.now (tables_seen tables.entry.now) }
+{
+    TextOptions {
+        acceptor: options.acceptor,
+        keep_state_numbering: options.keep_state_numbering,
+        show_weight_one: options.show_weight_one,
+        isymbols: tables.shown_input(options.numeric),
+        osymbols: tables.shown_output(options.numeric),
     }
 }
 
@@ -134,13 +148,13 @@ fn not_binary(alloc: Global, name: &str, fault: BinaryFault) -> Refusal
     }
 }
 
-/// The machine of a content in the binary form.
+/// The machine of a content in the binary form, and the symbol tables that it carries.
 #[tactic(auto, unfolding(crate::specs::Given::machine_in))]
-fn read_machine(alloc: Global, name: &str, content: &[u8]) -> Result<AnyFst, Refusal>
-    ensures { Judges (λ m. typed m) result (machine_in name.now content.now) }
+fn read_machine(alloc: Global, name: &str, content: &[u8]) -> Result<AnyTabled, Refusal>
+    ensures { Judges (λ t. typed_tabled t) result (machine_in name.now content.now) }
 {
     match decode_any(alloc, content) {
-        Ok(machine) => Ok(machine),
+        Ok(tabled) => Ok(tabled),
         Err(fault) => Err(not_binary(alloc, name, fault)),
     }
 }
@@ -180,9 +194,9 @@ fn put(
     ensures { Judges (λ u. held_seen held.new) result (put options.now role name.now content.now (held_seen held.old)) }
 {
     match role {
-        Role::InputSymbols => held.tables.input = Some(read_table(alloc, name, content)?),
-        Role::OutputSymbols => held.tables.output = Some(read_table(alloc, name, content)?),
-        Role::BothSymbols => held.tables = Tables::for_both(read_table(alloc, name, content)?),
+        Role::InputSymbols => held.tables.put_input(read_table(alloc, name, content)?),
+        Role::OutputSymbols => held.tables.put_output(read_table(alloc, name, content)?),
+        Role::BothSymbols => held.tables.put_both(read_table(alloc, name, content)?),
         Role::InputPairs => held.ipairs = read_pairs(alloc, name, content)?,
         Role::OutputPairs => held.opairs = read_pairs(alloc, name, content)?,
         Role::Text => {
@@ -190,8 +204,13 @@ fn put(
             held.machines.push(machine)?;
         }
         Role::Machine => {
-            let machine = read_machine(alloc, name, content)?;
-            held.machines.push(machine)?;
+            let tabled = read_machine(alloc, name, content)?;
+            let carried = Carried {
+                isymbols: tabled.isymbols,
+                osymbols: tabled.osymbols,
+            };
+            held.tables.put_carried(held.machines.len(), carried);
+            held.machines.push(tabled.fst)?;
         }
         Role::Codex => held.codex = Some(read_codex(alloc, name, content)?),
         Role::Lines => held.lines = Vec::from_slice(alloc, content)?,

@@ -1,48 +1,104 @@
-//! The names of the labels of both sides.
+//! The symbol tables that were read: those of the options, and those that machines carry.
 
-ghost use Rattle.std.specs.Prelude.{◌≡◌, None, Some};
+ghost use Rattle.std.specs.Prelude.{◌≡◌};
 ghost use Rattle.std.specs.Option.{option_map};
-ghost use Rattle.fst_command.specs.Seeing.{input_names, output_names};
+ghost use Rattle.fst_binary.specs.Sides.{neither};
+ghost use Rattle.fst_command.specs.Given.{no_tables, with_both, with_carried, with_input, with_output};
+ghost use Rattle.fst_command.specs.Seeing.{input_names, output_names, sides_of, tables_seen};
+ghost use Rattle.fst_command.specs.Tabling.{kept_if, tables_by, tables_for};
+ghost use Rattle.fst_command.specs.Texts.{shown_by};
 
+use fst_binary::LentTables;
 use fst_symbols::SymbolTable;
+use fst_words::{Carries, Options, Plan};
+
+/// The symbol tables that a machine carries.
+#[derive(Drop)]
+pub(crate) struct Carried {
+    /// The names of its input labels.
+    pub(crate) isymbols: Option<SymbolTable>,
+    /// The names of its output labels.
+    pub(crate) osymbols: Option<SymbolTable>,
+}
 
 /// The symbol tables that were read. A table that was given for both sides stands here once.
 #[derive(Drop)]
 pub(crate) struct Tables {
-    /// The names of the labels of the input side, where it has a table of its own.
+    /// The names of the labels of the input side, where an option names a table of its own.
     pub(crate) input: Option<SymbolTable>,
-    /// Those of the output side, where it has a table of its own.
+    /// Those of the output side, where an option names a table of its own.
     pub(crate) output: Option<SymbolTable>,
     /// Those of each side that has no table of its own.
     pub(crate) shared: Option<SymbolTable>,
+    /// Those that the first machine carries.
+    pub(crate) first: Carried,
+    /// Those that the last machine carries, where it is not the first.
+    pub(crate) last: Option<Carried>,
+}
+
+impl Carried {
+    /// None. Takes no memory.
+    fn none() -> Carried
+        ensures { sides_of result ≡ neither }
+    {
+        Carried {
+            isymbols: None,
+            osymbols: None,
+        }
+    }
 }
 
 impl Tables {
     /// No names. Takes no memory.
     pub(crate) fn new() -> Tables
-        ensures input { input_names result ≡ None }
-        ensures output { output_names result ≡ None }
+        ensures { tables_seen result ≡ no_tables }
     {
         Tables {
             input: None,
             output: None,
             shared: None,
+            first: Carried::none(),
+            last: None,
         }
     }
 
-    /// The names of one table for both sides. Takes no memory.
-    pub(crate) fn for_both(table: SymbolTable) -> Tables
-        ensures input { input_names result ≡ Some table }
-        ensures output { output_names result ≡ Some table }
+    /// Puts the table of the option for the input side.
+    pub(crate) fn put_input(&mut self, table: SymbolTable)
+        ensures { tables_seen self.new ≡ with_input table (tables_seen self.old) }
     {
-        Tables {
-            input: None,
-            output: None,
-            shared: Some(table),
+        self.input = Some(table);
+    }
+
+    /// Puts the table of the option for the output side.
+    pub(crate) fn put_output(&mut self, table: SymbolTable)
+        ensures { tables_seen self.new ≡ with_output table (tables_seen self.old) }
+    {
+        self.output = Some(table);
+    }
+
+    /// Puts the one table of the options for both sides.
+    pub(crate) fn put_both(&mut self, table: SymbolTable)
+        ensures { tables_seen self.new ≡ with_both table (tables_seen self.old) }
+    {
+        self.input = None;
+        self.output = None;
+        self.shared = Some(table);
+    }
+
+    /// Puts the tables that a machine carries before which so many were read. Those of a machine that is neither the first
+    /// nor the last are freed.
+    pub(crate) fn put_carried(&mut self, before: usize, carried: Carried)
+        ensures { tables_seen self.new ≡ with_carried before (sides_of carried) (tables_seen self.old) }
+    {
+        if before == 0 {
+            self.first = carried;
+            self.last = None;
+        } else {
+            self.last = Some(carried);
         }
     }
 
-    /// The names of the labels of the input side.
+    /// The names of the labels of the input side that the options give.
     pub(crate) fn of_input(&self) -> Option<&SymbolTable>
         ensures { option_map (λ t. t.now) result ≡ input_names self.entry.now }
     {
@@ -52,7 +108,7 @@ impl Tables {
         }
     }
 
-    /// The names of the labels of the output side.
+    /// The names of the labels of the output side that the options give.
     pub(crate) fn of_output(&self) -> Option<&SymbolTable>
         ensures { option_map (λ t. t.now) result ≡ output_names self.entry.now }
     {
@@ -61,4 +117,91 @@ impl Tables {
             None => self.shared.as_ref(),
         }
     }
+
+    /// The names of the output labels of the last machine.
+    fn of_last_output(&self) -> Option<&SymbolTable>
+        ensures { option_map (λ t. t.now) result ≡ (tables_seen self.entry.now).last.osymbols }
+    {
+        match &self.last {
+            Some(last) => last.osymbols.as_ref(),
+            None => self.first.osymbols.as_ref(),
+        }
+    }
+
+    /// The names of the labels of the input side of a machine that is printed.
+    pub(crate) fn shown_input(&self, numeric: bool) -> Option<&SymbolTable>
+        ensures { option_map (λ t. t.now) result ≡ shown_by numeric (tables_seen self.entry.now).isymbols (tables_seen self.entry.now).first.isymbols }
+    {
+        if numeric {
+            return None;
+        }
+        match self.of_input() {
+            Some(table) => Some(table),
+            None => self.first.isymbols.as_ref(),
+        }
+    }
+
+    /// The names of the labels of its output side.
+    pub(crate) fn shown_output(&self, numeric: bool) -> Option<&SymbolTable>
+        ensures { option_map (λ t. t.now) result ≡ shown_by numeric (tables_seen self.entry.now).osymbols (tables_seen self.entry.now).first.osymbols }
+    {
+        if numeric {
+            return None;
+        }
+        match self.of_output() {
+            Some(table) => Some(table),
+            None => self.first.osymbols.as_ref(),
+        }
+    }
+}
+
+/// A table that is kept, or none.
+fn kept_if(keep: bool, table: Option<&SymbolTable>) -> Option<&SymbolTable>
+    ensures { option_map (λ t. t.now) result ≡ kept_if keep (option_map (λ t. t.now) table.entry) }
+{
+    if keep { table } else { None }
+}
+
+/// The symbol tables that the machine of an output carries, by the column of its command.
+fn tables_by<'t>(carries: Carries, options: &Options, tables: &'t Tables) -> LentTables<'t>
+    ensures { result ≡ tables_by carries options.now (tables_seen tables.entry.now) }
+{
+    let first = &tables.first;
+    match carries {
+        Carries::Nothing => LentTables::none(),
+        Carries::Kept => LentTables {
+            isymbols: kept_if(options.keep_isymbols, tables.of_input()),
+            osymbols: kept_if(options.keep_osymbols, tables.of_output()),
+        },
+        Carries::First => LentTables {
+            isymbols: first.isymbols.as_ref(),
+            osymbols: first.osymbols.as_ref(),
+        },
+        Carries::Exchanged => LentTables {
+            isymbols: first.osymbols.as_ref(),
+            osymbols: first.isymbols.as_ref(),
+        },
+        Carries::OneSide => {
+            let side = if options.project_output {
+                first.osymbols.as_ref()
+            } else {
+                first.isymbols.as_ref()
+            };
+            LentTables {
+                isymbols: side,
+                osymbols: side,
+            }
+        }
+        Carries::Outer => LentTables {
+            isymbols: first.isymbols.as_ref(),
+            osymbols: tables.of_last_output(),
+        },
+    }
+}
+
+/// The symbol tables that the machine of a plan's output carries, lent.
+pub(crate) fn tables_for<'t>(plan: &Plan, tables: &'t Tables) -> LentTables<'t>
+    ensures { result ≡ tables_for plan.now (tables_seen tables.entry.now) }
+{
+    tables_by(plan.command.carries(), &plan.options, tables)
 }

@@ -15,6 +15,7 @@ use crate::given::{Given, Held, alike};
 use crate::made::{Product, product_of};
 use crate::queues::Queues;
 use crate::refusal::Refusal;
+use crate::tables::{Tables, tables_for};
 use fst_any::Kinded;
 use fst_delayed::Meter;
 use fst_semiring::{ArcType, Boolean, Lexicographic, MinMax, Tropical};
@@ -45,15 +46,15 @@ where
 {
     let mut held = held;
     let room = replace(&mut held.room, Vec::new(alloc));
-    let given: Given<W> = match alike(alloc, held) {
-        Ok(given) => given,
+    let (given, tables): (Given<W>, Tables) = match alike(alloc, held) {
+        Ok(alike) => alike,
         Err(refusal) => return Err(refusal),
     };
-    let made = match made(rt, alloc, plan, given, queues, meter) {
+    let made = match made(rt, alloc, plan, given, &tables, queues, meter) {
         Ok(made) => made,
         Err(refusal) => return Err(refusal),
     };
-    match product_of(alloc, room, made) {
+    match product_of(alloc, room, made, &tables_for(plan, &tables)) {
         Ok(product) => Ok(product),
         Err(_) => Err(Refusal::Memory),
     }

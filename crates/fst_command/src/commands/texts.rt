@@ -5,14 +5,15 @@ ghost use Rattle.std.specs.Result.{result_map_both};
 ghost use Rattle.fst_text.specs.Faults.{print_text};
 ghost use Rattle.fst_command.specs.Causes.{faulty, refused, unmade};
 ghost use Rattle.fst_command.specs.Meaning.{Settles};
-ghost use Rattle.fst_command.specs.Seeing.{given_seen, made_seen};
+ghost use Rattle.fst_command.specs.Seeing.{given_seen, given_with, made_seen};
 ghost use Rattle.fst_command.specs.Texts.{compile_meaning, print_meaning};
 ghost use Rattle.fst_command.specs.Told.{IsMade};
 
 use crate::given::{Given, one};
 use crate::made::Made;
-use crate::reading::choices;
+use crate::reading::print_choices;
 use crate::refusal::{Refusal, unmade};
+use crate::tables::Tables;
 use fst_semiring::Weight;
 use fst_text::{PrintFault, print_into};
 use fst_words::Options;
@@ -42,13 +43,14 @@ pub(crate) fn printed<W: Weight>(
     alloc: Global,
     options: &Options,
     given: Given<W>,
+    tables: &Tables,
 ) -> Result<Made<W>, Refusal>
     requires { length given.machines.items ≡ 1 }
-    ensures { Settles (print_meaning options.now) (given_seen W.KIND W.value given) (result_map_both (made_seen W.KIND W.value) (λ e. e) result) }
+    ensures { Settles (print_meaning options.now) (given_with tables.now W.KIND W.value given) (result_map_both (made_seen W.KIND W.value) (λ e. e) result) }
 {
     let machine = one(given.machines);
     let room = given.text_room;
-    let choices = choices(options, &given.tables);
+    let choices = print_choices(options, tables);
     match print_into(room, &machine, &choices) {
         Ok(text) => Ok(Made::Text(text)),
         Err(fault) => Err(unprinted(alloc, fault)),

@@ -7,7 +7,7 @@ use Rattle.fst_words.specs.Plans.{is_replace, rule_labels}
 use Rattle.fst_words.proofs.Counts.{labels_all, rules_some}
 use Rattle.fst_command.specs.Commands.{meaning_by}
 use Rattle.fst_command.specs.Meaning.{Settles}
-use Rattle.fst_command.specs.Seeing.{given_seen, made_seen}
+use Rattle.fst_command.specs.Seeing.{given_with, made_seen}
 use Rattle.fst_command.proofs.Meters.{raises_nothing}
 use Rattle.fst_command.proofs.commands.made.Goals as goal
 
@@ -31,12 +31,12 @@ returns-in-Replace-clause-settles g c =
     let plan = c.args.plan.now in
     let kind = g.W.Weight.KIND in
     let value = g.W.Weight.value in
-    subst (λ (v : Verb). Settles (meaning_by v (rule_labels plan) plan.options) (given_seen kind value c.args.given) (result_map_both (made_seen kind value) (λ e. e) c.replaced.result)) (sym c.in-Replace.is) c.replaced.ensures
+    subst (λ (v : Verb). Settles (meaning_by v (rule_labels plan) plan.options) (given_with c.args.tables.now kind value c.args.given) (result_map_both (made_seen kind value) (λ e. e) c.replaced.result)) (sym c.in-Replace.is) c.replaced.ensures
 
 pub returns-in-Make-clause-settles : goal.returns-in-Make-clause-settles
 returns-in-Make-clause-settles g c =
     let plan = c.args.plan.now in
     let kind = g.W.Weight.KIND in
     let value = g.W.Weight.value in
-    let given = given_seen kind value c.args.given in
+    let given = given_with c.args.tables.now kind value c.args.given in
     subst (λ (v : Verb). Settles (meaning_by v (rule_labels plan) plan.options) given (result_map_both (made_seen kind value) (λ e. e) c.drawn.result)) (sym c.in-Make.is) (c.drawn.ensures.settles given)
