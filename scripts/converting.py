@@ -33,6 +33,33 @@ def shown(text):
                    for one in text)
 
 
+def table_at(data, at):
+    """The table at an offset of a machine of fst: its names with their numbers, and the offset after it."""
+    (count,), at, table = struct.unpack_from("<q", data, at), at + 8, {}
+    for _ in range(count):
+        size, = struct.unpack_from("<I", data, at)
+        name = data[at + 4:at + 4 + size].decode("utf-8", "surrogateescape")
+        table[name], = struct.unpack_from("<I", data, at + 4 + size)
+        at += 8 + size
+    return table, at
+
+
+def tables_of(data):
+    """The tables of input and of output labels that a machine of fst carries, `None` for none, and the offset after them.
+    The machine has been read by fst, and found whole."""
+    at = 18 + struct.unpack_from("<i", data, 14)[0]
+    flags, at, tables = struct.unpack_from("<i", data, at + 4)[0], at + 40, [None, None]
+    for side in range(2):
+        if flags & (side + 1):
+            tables[side], at = table_at(data, at)
+    return tables, at
+
+
+def epsilon_of(table):
+    """The name of epsilon in a table that a machine carries."""
+    return next((name for name, number in table.items() if number == 0), EPSILON)
+
+
 class Place:
     """A line of a file, for what is said of it."""
 
@@ -242,6 +269,7 @@ class Symbols:
                     place.refuse(f"{symbol if symbol in self.numbers else number} is given twice")
                 self.numbers[symbol] = int(number)
                 taken.add(int(number))
+        self.given = frozenset(self.numbers)
         self.epsilon = next((symbol for symbol, number in self.numbers.items() if number == 0), EPSILON)
         if self.numbers.setdefault(self.epsilon, 0) != 0:
             raise Refused(f"{name}: {EPSILON} has another number than 0")
@@ -268,8 +296,8 @@ def is_number(label):
 def takes_machine(words, tables=True):
     """The words of a script that reads a machine."""
     if tables:
-        words.add_argument("--isymbols", metavar="TABLE", help="the names of the input labels of a binary machine")
-        words.add_argument("--osymbols", metavar="TABLE", help="the names of its output labels; for an acceptor those of --isymbols unless given")
+        words.add_argument("--isymbols", metavar="TABLE", help="the names of the input labels of a binary machine, unless given those that it carries")
+        words.add_argument("--osymbols", metavar="TABLE", help="the names of its output labels, unless given those that it carries; for an acceptor those of --isymbols")
         words.add_argument("--epsilon", metavar="NAME", help="of a text: the name of epsilon, <eps> unless given; 0 where labels are numbers")
     words.add_argument("--arc_type", choices=ARC_TYPES, help="of a text: the type of its weights, tropical unless given")
     words.add_argument("--acceptor", action="store_true", help="an arc has one label")
@@ -284,11 +312,12 @@ def takes_between(words):
 
 class Text:
     """A machine, of its binary file or of the text that `fst print` writes: its arc type, its start, and by state its arcs
-    and its final weight, as they stand in the text. A side's epsilon has the name in `epsilons`."""
+    and its final weight, as they stand in the text. A side's epsilon has the name in `epsilons`. `carried` has the tables
+    that a binary machine carries: they name the labels of a side for which no option does, unless numbers are asked for."""
 
     def __init__(self, options, numbers=False):
-        self.start, self.arcs, self.finals, self.name = None, {}, {}, options.input
-        self.tables = [None, None] if numbers else [options.isymbols, options.osymbols]
+        self.start, self.arcs, self.finals, self.name, self.numbers = None, {}, {}, options.input, numbers
+        self.tables, self.carried = [None, None] if numbers else [options.isymbols, options.osymbols], [None, None]
         if options.acceptor and self.tables[1] is None:
             self.tables[1] = self.tables[0]
         file, head = opened(options.input)
@@ -296,8 +325,10 @@ class Text:
         self.is_binary = self.arc_type is not None
         if self.is_binary:
             with file:
-                lines = self.printed(options, file)
-            self.epsilons = ["0" if table is None else Symbols(table).epsilon for table in self.tables]
+                data = file.read()
+            lines = self.printed(options, data)
+            self.carried = tables_of(data)[0]
+            self.epsilons = [self.epsilon(side) for side in range(2)]
             self.read(read_lines(self.place, options.input, lines), False)
             return
         if any(self.tables):
@@ -313,14 +344,20 @@ class Text:
         if given is None:
             self.refuse_numbers()
 
-    def printed(self, options, file):
+    def epsilon(self, side):
+        """The name of epsilon on a side of a binary machine, 0 where its labels are numbers."""
+        if self.tables[side] is not None:
+            return Symbols(self.tables[side]).epsilon
+        return "0" if self.is_numbered(side) else epsilon_of(self.carried[side])
+
+    def printed(self, options, data):
         """The lines of a binary machine, by the program."""
         if options.arc_type not in (None, self.arc_type):
             raise Refused(f"{shown_name(options.input)}: the arc type is {self.arc_type}, and not {options.arc_type}")
         self.place = Place(options.input, "line of fst print")
         words = ["print", *(f"--{side}={table}" for side, table in zip(("isymbols", "osymbols"), self.tables) if table is not None)]
         try:
-            return io.BytesIO(run_program([*words, "-"], file.read()))
+            return io.BytesIO(run_program([*words, *(["--numeric"] if self.numbers else []), "-"], data))
         except Refused as refusal:
             line = re.sub("^(-|cannot read -):", f"{shown_name(options.input)}:", str(refusal))
             raise Refused(line if ": " in line else f"{shown_name(options.input)}: {line}") from None
@@ -335,7 +372,7 @@ class Text:
     def is_numbered(self, side):
         """Whether the labels of a side, 0 for input and 1 for output, are numbers and not names."""
         if self.is_binary:
-            return self.tables[side] is None
+            return self.numbers or self.tables[side] is None and self.carried[side] is None
         return self.epsilons[side] == "0"
 
     def is_zero(self, weight):

@@ -37,6 +37,7 @@ Weight = Union[int, float, Tuple[Any, ...]]
 Table = Union[Mapping[Any, int], str, "os.PathLike[str]"]
 Finals = Union[Mapping[int, Optional[Weight]], Iterable[int]]
 Pairs = Mapping[int, int]
+Symbols = Tuple[Optional[Dict[str, int]], Optional[Dict[str, int]]]
 Arc = Tuple[int, int, Label, Label, Optional[Weight]]
 
 
@@ -197,27 +198,64 @@ def _arc_row(arc: Tuple[Any, ...], labels: int, arc_type: str, place: str) -> Li
 
 
 def compile(source: Union[str, Iterable[Tuple[Any, ...]]], finals: Finals = {}, *, arc_type: str = "tropical", acceptor: bool = False,
-            keep_state_numbering: bool = False, isymbols: Optional[Table] = None, osymbols: Optional[Table] = None) -> Machine:
+            keep_state_numbering: bool = False, isymbols: Optional[Table] = None, osymbols: Optional[Table] = None,
+            keep_isymbols: bool = False, keep_osymbols: bool = False) -> Machine:
     """A machine of a text, or of arcs (source, destination, input, output[, weight]), with one label for an acceptor, and the
-    final states, with their weights or without. The first state that is named is the start."""
+    final states, with their weights or without. The first state that is named is the start. The machine carries the tables
+    that are kept, and most operations pass them on."""
     if not isinstance(source, str):
         rows = [_arc_row(arc, 3 if acceptor else 4, arc_type, f"arc {number}") for number, arc in enumerate(source)]
         source = "".join("\t".join(row) + "\n" for row in rows + _final_rows(finals, arc_type))
     files = {"text": source.encode("utf-8", "surrogateescape")}
-    options = _tables(files, isymbols=isymbols, osymbols=osymbols) + _options(arc_type=arc_type, acceptor=acceptor, keep_state_numbering=keep_state_numbering)
+    options = _tables(files, isymbols=isymbols, osymbols=osymbols) + _options(arc_type=arc_type, acceptor=acceptor, keep_state_numbering=keep_state_numbering,
+                                                                                keep_isymbols=keep_isymbols, keep_osymbols=keep_osymbols)
     return run(["compile", *options, "text"], files)[0]
 
 
 def print(machine: bytes, *, acceptor: bool = False, show_weight_one: bool = False, isymbols: Optional[Table] = None,
-          osymbols: Optional[Table] = None) -> str:
-    """The text of a machine."""
+          osymbols: Optional[Table] = None, numeric: bool = False) -> str:
+    """The text of a machine: labels by the tables that are given, or else by those that it carries, or as numbers."""
     files = {"first": machine}
-    options = _tables(files, isymbols=isymbols, osymbols=osymbols) + _options(acceptor=acceptor, show_weight_one=show_weight_one)
+    options = _tables(files, isymbols=isymbols, osymbols=osymbols) + _options(acceptor=acceptor, show_weight_one=show_weight_one, numeric=numeric)
     return run(["print", *options, "first"], files)[0].decode("utf-8", "surrogateescape")
 
 
+def _table_at(machine: bytes, at: int) -> Tuple[Dict[str, int], int]:
+    """The table at an offset of a machine, and the offset after it."""
+    def number(size: int) -> int:
+        nonlocal at
+        at += size
+        return int.from_bytes(machine[at - size:at], "little")
+
+    table: Dict[str, int] = {}
+    for _ in range(number(8)):
+        size = number(4)
+        at += size
+        name = bytes(machine[at - size:at]).decode("utf-8", "surrogateescape")
+        table[name] = number(4)
+    return table, at
+
+
+def symbols(machine: bytes) -> Symbols:
+    """The tables of input and of output labels that a machine carries: names with their numbers, or None."""
+    _unary("info", machine)
+    at = 18 + int.from_bytes(machine[14:18], "little")
+    flags, at = machine[at + 4], at + 40
+    isymbols, at = _table_at(machine, at) if flags & 1 else (None, at)
+    osymbols, at = _table_at(machine, at) if flags & 2 else (None, at)
+    return isymbols, osymbols
+
+
+def _shown(machine: bytes, isymbols: Optional[Table], osymbols: Optional[Table]) -> Tuple[Optional[Table], Optional[Table]]:
+    """The tables that name the labels: those that are given, or else those that the machine carries."""
+    own = symbols(machine)
+    return own[0] if isymbols is None else isymbols, own[1] if osymbols is None else osymbols
+
+
 def parts(machine: bytes, *, isymbols: Optional[Table] = None, osymbols: Optional[Table] = None) -> Parts:
-    """The start, the arcs and the final states of a machine; a label is a number, or a name of its side's table."""
+    """The start, the arcs and the final states of a machine; a label is a name of its side's table, one that is given or that
+    the machine carries, or else a number."""
+    isymbols, osymbols = _shown(machine, isymbols, osymbols)
     rows = [line.split("\t") for line in print(machine, isymbols=isymbols, osymbols=osymbols).split("\n")[:-1]]
     zero = _ZEROS.get(_arc_type(machine))
     arcs: List[Arc] = []
@@ -268,6 +306,7 @@ def _epsilon(table: Optional[Table]) -> str:
 def strings(machine: bytes, *, isymbols: Optional[Table] = None, osymbols: Optional[Table] = None, between: Optional[str] = None) -> Iterator[Path]:
     """The strings of each successful path, in the order of the arcs, epsilons left out. Between labels stands `between`, if not
     given nothing between names and a blank between numbers. A cycle has no end of paths: ValueError names a state on it."""
+    isymbols, osymbols = _shown(machine, isymbols, osymbols)
     start, arcs, finals = parts(machine, isymbols=isymbols, osymbols=osymbols)
     arc_type, leaving = _arc_type(machine), {}  # type: str, Dict[int, List[Arc]]
     for arc in arcs:
@@ -306,6 +345,7 @@ def _refuse_cycles(start: int, leaving: Mapping[int, List[Arc]]) -> None:
 
 def draw(machine: bytes, *, isymbols: Optional[Table] = None, osymbols: Optional[Table] = None, to: str = "dot") -> str:
     """The graph of a machine as dot reads it, or what dot makes of it, as svg."""
+    isymbols, osymbols = _shown(machine, isymbols, osymbols)
     start, arcs, finals = parts(machine, isymbols=isymbols, osymbols=osymbols)
     epsilons = _epsilon(isymbols), _epsilon(osymbols)
     lines = ["digraph machine {", "  rankdir = LR;", "  node [shape = circle];"]
