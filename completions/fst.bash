@@ -25,8 +25,8 @@ _fst() {
     return
   fi
   case ${COMP_WORDS[1]#fst} in
-    compile) options='--arc_type= --acceptor --keep_state_numbering --isymbols= --osymbols=' ;;
-    print) options='--acceptor --show_weight_one --isymbols= --osymbols=' ;;
+    compile) options='--arc_type= --acceptor --keep_state_numbering --isymbols= --osymbols= --keep_isymbols --keep_osymbols' ;;
+    print) options='--acceptor --show_weight_one --isymbols= --osymbols= --numeric' ;;
     closure) options='--closure_plus' ;;
     project) options='--project_output' ;;
     relabel) options='--relabel_ipairs= --relabel_opairs=' ;;

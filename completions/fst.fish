@@ -21,7 +21,7 @@ set -l queue --queue_type=auto,fifo,lifo,shortest
 __fst_row arcsort 'sorts the arcs of each state' --sort_type=ilabel,olabel
 __fst_row batch 'the best answers of a cascade to each line of a file' --nshortest= --workers= --max_states= --summary
 __fst_row closure 'any number of paths, one after the other' --closure_plus
-__fst_row compile 'a text to a binary file' $types $tables --acceptor --keep_state_numbering
+__fst_row compile 'a text to a binary file' $types $tables --acceptor --keep_state_numbering --keep_isymbols --keep_osymbols
 __fst_row compose 'what the first writes is read by the second' $connect --max_states=
 __fst_row concat 'a path of the first, then one of the second'
 __fst_row connect 'keeps the states on successful paths'
@@ -31,7 +31,7 @@ __fst_row info 'counts and properties'
 __fst_row invert 'swaps input and output'
 __fst_row make 'a cascade and lines by a seed, run as a batch' --seed= --lines= --nshortest= --workers= --max_states=
 __fst_row minimize 'the fewest states' $queue
-__fst_row print 'a binary file to a text' $tables --acceptor --show_weight_one
+__fst_row print 'a binary file to a text' $tables --acceptor --show_weight_one --numeric
 __fst_row project 'one side on both' --project_output
 __fst_row prune 'the paths within a threshold of the best' --weight= $queue
 __fst_row push 'weights toward the start' --push_weights --remove_total_weight $queue

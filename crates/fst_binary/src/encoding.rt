@@ -450,10 +450,7 @@ pub fn encode<W: Weight>(alloc: Global, fst: &Fst<W>) -> Result<Vec<u8>, AllocEr
 
 /// The bytes of a machine and of the symbol tables that it carries. Their exact number is reserved at first, and nothing
 /// fails after that. Takes time by these bytes.
-pub fn encode_tabled<W: Weight>(
-    alloc: Global,
-    tabled: &Tabled<W>,
-) -> Result<Vec<u8>, AllocError>
+pub fn encode_tabled<W: Weight>(alloc: Global, tabled: &Tabled<W>) -> Result<Vec<u8>, AllocError>
     // They are the spelling of the machine and its tables,
     ensures spelled { IfOk result (λ bytes. bytes.items ≡ tabled_spelling W.KIND (tabled_seen W.value tabled.now).machine (tabled_seen W.value tabled.now).sides) }
     // they are read as these again,

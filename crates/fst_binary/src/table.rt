@@ -23,9 +23,7 @@ const MOST_SYMBOLS: u64 = 2_147_483_648;
 fn are_name_bytes(bytes: &[u8]) -> bool
     ensures { result ≡ list_all is_name_byte bytes.now }
 {
-    bytes
-        .iter()
-        .all(|c| *c != b' ' && *c != b'\t' && *c != b'\r' && *c != b'\n')
+    bytes.iter().all(|c| *c != b' ' && *c != b'\t' && *c != b'\r' && *c != b'\n')
 }
 
 /// A name, which stands after its length, and the offset after it.

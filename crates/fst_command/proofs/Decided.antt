@@ -1,14 +1,30 @@
 -- What a command decides of what was read.
-use Rattle.std.proofs.Common.{◌≡◌, ℕ, List, Ok, Err, ap, ◌∙◌, inl, inr}
+use Rattle.std.proofs.Common.{◌≡◌, ℕ, List, Ok, Err, refl, ap, ◌∙◌, inl, inr}
+use Rattle.fst_fields.specs.Reading.{◌>>=◌}
 use Rattle.fst_semiring.specs.declared.arc_type.ArcType.{ArcType}
 use Rattle.fst_words.specs.declared.plan.Plan.{Plan}
 use Rattle.fst_command.specs.Commands.{meaning_for}
-use Rattle.fst_command.specs.Given.{Given, Held, given_at, kind_of}
+use Rattle.fst_semiring.specs.Cost.{Cost}
+use Rattle.fst_machine.specs.Machine.{Machine}
+use Rattle.fst_any.specs.Taken.{machines_as}
+use Rattle.fst_command.specs.Causes.{kinds_differ}
+use Rattle.fst_command.specs.Given.{Given, Held, codex_at, given_at, kind_of, telling}
 use Rattle.fst_command.specs.Meaning.{Declines, Made, Product, Settles, bytes_of, ending_of}
 use Rattle.fst_command.specs.Tabling.{tables_for}
 use Rattle.fst_command.specs.Steps.{Decides, IsWorked}
 use Rattle.fst_command.specs.Told.{Fails}
 use Rattle.fst_command.specs.declared.refusal.Refusal.{Refusal}
+
+-- what was read is not all of one arc type: a machine has another, or a codex
+pub machines_apart : (kind : ArcType) (held : Held) (refusal : Refusal) → Fails refusal (telling (kinds_differ kind) (machines_as kind held.machines)) → Fails refusal (given_at kind held)
+unfolding given_at
+machines_apart kind held refusal (inl memory) = inl memory
+machines_apart kind held refusal (inr (fault, is, tells)) = inr (fault, rw is refl, tells)
+
+pub codex_apart : (kind : ArcType) (held : Held) (ms : List (Machine Cost)) (refusal : Refusal) → telling (kinds_differ kind) (machines_as kind held.machines) ≡ Ok ms → Fails refusal (telling (kinds_differ kind) (codex_at kind held.codex)) → Fails refusal (given_at kind held)
+unfolding given_at
+codex_apart kind held ms refusal taken (inl memory) = inl memory
+codex_apart kind held ms refusal taken (inr (fault, is, tells)) = inr (fault, rw (taken, is) refl, tells)
 
 pub decides_apart : (plan : Plan) (held : Held) (kind : ArcType) (refusal : Refusal) → kind_of plan.options held.machines ≡ kind → Fails refusal (given_at kind held) → Decides plan held (Err refusal)
 decides_apart plan held kind refusal e (inl memory) = inl memory

@@ -49,7 +49,7 @@ module _ (plan : Plan) (files : Files) where
       let made : one.made ≡ two.made = one_making one.made two.made one.makes two.makes in
       let given : one.makes.given ≡ two.makes.given = same_given one.made two.made one.makes two.makes in
       let bytes : bytes_of (tables_for plan one.makes.given.tables) one.made ≡ bytes_of (tables_for plan two.makes.given.tables) two.made =
-          ap (λ (g : Given). bytes_of (tables_for plan g.tables) one.made) given ∙ ap (bytes_of (tables_for plan two.makes.given.tables)) made in
+      ap (λ (g : Given). bytes_of (tables_for plan g.tables) one.made) given ∙ ap (bytes_of (tables_for plan two.makes.given.tables)) made in
       one_naming (outputs_of plan) (bytes_of (tables_for plan two.makes.given.tables) two.made) a b (subst (λ (written : List (List ℕ)). AreNamed (outputs_of plan) written a) bytes one.named) two.named
 
   one_fault : (contents : List (List ℕ)) → One (IsCause plan contents)

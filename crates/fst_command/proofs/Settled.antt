@@ -3,6 +3,11 @@ use Rattle.std.proofs.Common.{◌≡◌, List, map, Result, sym, subst}
 use Rattle.fst_semiring.specs.declared.arc_type.ArcType.{ArcType}
 use Rattle.fst_semiring.specs.Cost.{Cost}
 use Rattle.fst_machine.specs.Machine.{Machine, valued}
+use Rattle.fst_words.specs.declared.plan.Plan.{Plan}
+use Rattle.fst_words.specs.declared.verb.Verb.{Verb}
+use Rattle.fst_words.specs.Plans.{rule_labels}
+use Rattle.fst_command.specs.Commands.{meaning_by, meaning_for}
+use Rattle.fst_command.specs.Given.{Given}
 use Rattle.fst_command.specs.Meaning.{Made, Meaning, Settles}
 use Rattle.fst_command.specs.Seeing.{given_seen, given_with}
 use Rattle.fst_command.specs.declared.tables.Tables.{Tables as DeclaredTables}
@@ -18,3 +23,7 @@ pub settled_with : {W X : Type 0} (meaning : Meaning) (t : DeclaredTables) (kind
     → Settles meaning (record (given_with t kind value g) { machines = map (valued value) ms }) result → Settles meaning (given_with t kind value g) result
 settled_with meaning t kind value g ms result e h =
     subst (λ (xs : List (Machine _)). Settles meaning (record (given_with t kind value g) { machines = map (valued value) xs }) result) (sym e) h
+
+-- the meaning of a plan is that of its command
+pub settles_for : (plan : Plan) (verb : Verb) (given : Given) (result : Result Made Refusal) → plan.command ≡ verb → Settles (meaning_by verb (rule_labels plan) plan.options) given result → Settles (meaning_for plan) given result
+settles_for plan verb given result is h = subst (λ (v : Verb). Settles (meaning_by v (rule_labels plan) plan.options) given result) (sym is) h

@@ -32,6 +32,7 @@ Hands plan told status outputs = (p : Prescribes plan told outputs) × (status �
 -- outputs that are ready are prescribed, under the names of the command
 prescribes-ready : (plan : Plan) (product : Product) (outputs : List Output) (old now : Seen) → IsReady plan product old now → AreNamed (outputs_of plan) product.bytes outputs
     → Hands plan old.filed.told product.status outputs
+unfolding makes-ready
 prescribes-ready plan product outputs old now is named = (
   record {
     made = is.worked.made;

@@ -10,6 +10,8 @@ mod acceptors;
 #[cfg(test)]
 mod batches;
 #[cfg(test)]
+mod carried_names;
+#[cfg(test)]
 mod cascades;
 #[cfg(test)]
 mod codices;

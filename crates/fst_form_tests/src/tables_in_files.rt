@@ -31,12 +31,7 @@ const BC: &[u8] =
 const NONE: &[u8] = b"\x00\x00\x00\x00\x00\x00\x00\x00";
 
 /// A file of this version and with these flags, up to the end of its tables.
-fn front(
-    alloc: Global,
-    version: u8,
-    flags: u8,
-    tables: &[&[u8]],
-) -> Result<Vec<u8>, AllocError> {
+fn front(alloc: Global, version: u8, flags: u8, tables: &[&[u8]]) -> Result<Vec<u8>, AllocError> {
     let mut bytes = change(alloc, HEADER, 26, &[version, 0, 0, 0, flags])?;
     for table in tables {
         bytes.extend_from_slice(table)?;
@@ -45,12 +40,7 @@ fn front(
 }
 
 /// The whole of it.
-fn file(
-    alloc: Global,
-    version: u8,
-    flags: u8,
-    tables: &[&[u8]],
-) -> Result<Vec<u8>, AllocError> {
+fn file(alloc: Global, version: u8, flags: u8, tables: &[&[u8]]) -> Result<Vec<u8>, AllocError> {
     let mut bytes = front(alloc, version, flags, tables)?;
     bytes.extend_from_slice(STATES)?;
     Ok(bytes)
@@ -154,7 +144,10 @@ fn cut_tables_are_short(rt: HostRuntime) -> Result<(), Fail> {
     assert!(rt; fault_of(alloc, whole.as_slice()).is_none());
     for end in 0..whole.len() {
         let cut = whole.as_slice().get(..end).unwrap_or(b"");
-        assert!(rt; fault_of(alloc, cut) == Some((end as u64, Short)), "at {end}");
+        assert!(rt;
+            fault_of(alloc, cut) == Some((end as u64, Short)),
+            "at {end}"
+        );
     }
     Ok(())
 }
@@ -172,19 +165,85 @@ static FAULTS: [(u8, u8, &[u8], u64, BinaryKind); 20] = [
     (3, 1, b"\x01\x00\x00\x80\x00\x00\x00\x00", 66, BadCount),
     (3, 1, b"\xff\xff\xff\xff\xff\xff\xff\xff", 66, BadCount),
     // A name without a byte, and bytes that no name has.
-    (3, 1, b"\x01\x00\x00\x00\x00\x00\x00\x00\x00\x00\x00\x00a\x01\x00\x00\x00", 74, BadSymbols),
-    (3, 1, b"\x01\x00\x00\x00\x00\x00\x00\x00\x01\x00\x00\x00\t\x01\x00\x00\x00", 74, BadSymbols),
-    (3, 1, b"\x01\x00\x00\x00\x00\x00\x00\x00\x01\x00\x00\x00\n\x01\x00\x00\x00", 74, BadSymbols),
-    (3, 1, b"\x01\x00\x00\x00\x00\x00\x00\x00\x01\x00\x00\x00\r\x01\x00\x00\x00", 74, BadSymbols),
-    (3, 1, b"\x01\x00\x00\x00\x00\x00\x00\x00\x01\x00\x00\x00 \x01\x00\x00\x00", 74, BadSymbols),
+    (
+        3,
+        1,
+        b"\x01\x00\x00\x00\x00\x00\x00\x00\x00\x00\x00\x00a\x01\x00\x00\x00",
+        74,
+        BadSymbols,
+    ),
+    (
+        3,
+        1,
+        b"\x01\x00\x00\x00\x00\x00\x00\x00\x01\x00\x00\x00\t\x01\x00\x00\x00",
+        74,
+        BadSymbols,
+    ),
+    (
+        3,
+        1,
+        b"\x01\x00\x00\x00\x00\x00\x00\x00\x01\x00\x00\x00\n\x01\x00\x00\x00",
+        74,
+        BadSymbols,
+    ),
+    (
+        3,
+        1,
+        b"\x01\x00\x00\x00\x00\x00\x00\x00\x01\x00\x00\x00\r\x01\x00\x00\x00",
+        74,
+        BadSymbols,
+    ),
+    (
+        3,
+        1,
+        b"\x01\x00\x00\x00\x00\x00\x00\x00\x01\x00\x00\x00 \x01\x00\x00\x00",
+        74,
+        BadSymbols,
+    ),
     // A number that is no label, a number given twice, and a name given twice, with a number that is new or no label.
-    (3, 1, b"\x01\x00\x00\x00\x00\x00\x00\x00\x01\x00\x00\x00a\x00\x00\x00\x80", 79, BadSymbols),
-    (3, 1, b"\x02\x00\x00\x00\x00\x00\x00\x00\x01\x00\x00\x00a\x01\x00\x00\x00\x01\x00\x00\x00b\x01\x00\x00\x00", 88, BadSymbols),
-    (3, 1, b"\x02\x00\x00\x00\x00\x00\x00\x00\x01\x00\x00\x00a\x01\x00\x00\x00\x01\x00\x00\x00a\x02\x00\x00\x00", 83, BadSymbols),
-    (3, 1, b"\x02\x00\x00\x00\x00\x00\x00\x00\x01\x00\x00\x00a\x01\x00\x00\x00\x01\x00\x00\x00a\x00\x00\x00\x80", 83, BadSymbols),
+    (
+        3,
+        1,
+        b"\x01\x00\x00\x00\x00\x00\x00\x00\x01\x00\x00\x00a\x00\x00\x00\x80",
+        79,
+        BadSymbols,
+    ),
+    (
+        3,
+        1,
+        b"\x02\x00\x00\x00\x00\x00\x00\x00\x01\x00\x00\x00a\x01\x00\x00\x00\x01\x00\x00\x00b\x01\x00\x00\x00",
+        88,
+        BadSymbols,
+    ),
+    (
+        3,
+        1,
+        b"\x02\x00\x00\x00\x00\x00\x00\x00\x01\x00\x00\x00a\x01\x00\x00\x00\x01\x00\x00\x00a\x02\x00\x00\x00",
+        83,
+        BadSymbols,
+    ),
+    (
+        3,
+        1,
+        b"\x02\x00\x00\x00\x00\x00\x00\x00\x01\x00\x00\x00a\x01\x00\x00\x00\x01\x00\x00\x00a\x00\x00\x00\x80",
+        83,
+        BadSymbols,
+    ),
     // The same in the table of the output side.
-    (3, 2, b"\x02\x00\x00\x00\x00\x00\x00\x00\x01\x00\x00\x00a\x01\x00\x00\x00\x01\x00\x00\x00a\x02\x00\x00\x00", 83, BadSymbols),
-    (3, 3, b"\x00\x00\x00\x00\x00\x00\x00\x00\x01\x00\x00\x00\x00\x00\x00\x00\x00\x00\x00\x00", 82, BadSymbols),
+    (
+        3,
+        2,
+        b"\x02\x00\x00\x00\x00\x00\x00\x00\x01\x00\x00\x00a\x01\x00\x00\x00\x01\x00\x00\x00a\x02\x00\x00\x00",
+        83,
+        BadSymbols,
+    ),
+    (
+        3,
+        3,
+        b"\x00\x00\x00\x00\x00\x00\x00\x00\x01\x00\x00\x00\x00\x00\x00\x00\x00\x00\x00\x00",
+        82,
+        BadSymbols,
+    ),
     // A flag whose table is not there: the states are read as one.
     (3, 3, A, 130, Short),
 ];
@@ -192,9 +251,17 @@ static FAULTS: [(u8, u8, &[u8], u64, BinaryKind); 20] = [
 /// Tables that end the file, and the fault with its offset.
 static LAST: [(&[u8], u64, BinaryKind); 3] = [
     // A length of 0 is wrong, whatever follows.
-    (b"\x01\x00\x00\x00\x00\x00\x00\x00\x00\x00\x00\x00", 74, BadSymbols),
+    (
+        b"\x01\x00\x00\x00\x00\x00\x00\x00\x00\x00\x00\x00",
+        74,
+        BadSymbols,
+    ),
     // A name that stands there before is wrong, whether or not its number is whole.
-    (b"\x02\x00\x00\x00\x00\x00\x00\x00\x01\x00\x00\x00a\x01\x00\x00\x00\x01\x00\x00\x00a\x02", 83, BadSymbols),
+    (
+        b"\x02\x00\x00\x00\x00\x00\x00\x00\x01\x00\x00\x00a\x01\x00\x00\x00\x01\x00\x00\x00a\x02",
+        83,
+        BadSymbols,
+    ),
     // Many pairs are told of, and none stands there.
     (b"\x00\x00\x00\x80\x00\x00\x00\x00", 74, Short),
 ];
@@ -205,7 +272,10 @@ fn each_fault_of_a_table(rt: HostRuntime) -> Result<(), Fail> {
     for (version, flags, table, offset, kind) in &FAULTS {
         let bytes = file(alloc, *version, *flags, &[table])?;
         let fault = fault_of(alloc, bytes.as_slice());
-        assert!(rt; fault == Some((*offset, *kind)), "{version} {flags} {table:?}: {fault:?}");
+        assert!(rt;
+            fault == Some((*offset, *kind)),
+            "{version} {flags} {table:?}: {fault:?}"
+        );
     }
     for (table, offset, kind) in &LAST {
         let bytes = front(alloc, 3, 1, &[table])?;

@@ -52,6 +52,9 @@ fn put_options(alloc: Global, out: &mut String, o: &Options) -> Result<(), Fail>
     put_flag(out, "show_weight_one", o.show_weight_one)?;
     put_name(out, "isymbols", &o.isymbols)?;
     put_name(out, "osymbols", &o.osymbols)?;
+    put_flag(out, "keep_isymbols", o.keep_isymbols)?;
+    put_flag(out, "keep_osymbols", o.keep_osymbols)?;
+    put_flag(out, "numeric", o.numeric)?;
     put_flag(out, "closure_plus", o.closure_plus)?;
     put_flag(out, "project_output", o.project_output)?;
     put_name(out, "relabel_ipairs", &o.relabel_ipairs)?;
@@ -129,6 +132,7 @@ fn check_commands(rt: &impl Abort, alloc: Global) -> Result<(), Fail> {
 fn check_options(rt: &impl Abort, alloc: Global) -> Result<(), Fail> {
     check_rows(rt, alloc, OPTIONS_1.as_slice())?;
     check_rows(rt, alloc, OPTIONS_2.as_slice())?;
+    check_rows(rt, alloc, TABLES.as_slice())?;
     check_rows(rt, alloc, NUMBERS.as_slice())
 }
 
@@ -427,6 +431,32 @@ static OPTIONS_2: [(&[&str], &str); 27] = [
     (&["compile", "--"], "compile - -"),
     (&["compile", "", "b"], "compile  b"),
     (&["print", ""], "print  -"),
+];
+
+/// A table that is kept is one that is read, and numbers are shown where no table is.
+static TABLES: [(&[&str], &str); 10] = [
+    (
+        &["compile", "--isymbols=i", "--keep_isymbols"],
+        "compile - - --isymbols=i --keep_isymbols",
+    ),
+    (
+        &[
+            "compile",
+            "--keep_osymbols",
+            "--osymbols=o",
+            "--keep_isymbols",
+            "--isymbols=i",
+        ],
+        "compile - - --isymbols=i --osymbols=o --keep_isymbols --keep_osymbols",
+    ),
+    (&["compile", "--keep_isymbols"], "usage"),
+    (&["compile", "--keep_isymbols", "--osymbols=o"], "usage"),
+    (&["compile", "--isymbols=i", "--keep_osymbols"], "usage"),
+    (&["compile", "--numeric"], "usage"),
+    (&["print", "--numeric", "m"], "print m - --numeric"),
+    (&["print", "--numeric", "--isymbols=i"], "usage"),
+    (&["print", "--osymbols=o", "--numeric"], "usage"),
+    (&["print", "--keep_isymbols", "--isymbols=i"], "usage"),
 ];
 
 static NUMBERS: [(&[&str], &str); 23] = [
