@@ -18,7 +18,8 @@ use Rattle.fst_command.specs.declared.refusal.Refusal.TheVariants as refusals
 use Rattle.fst_words.specs.declared.options.Options.{Options}
 use Rattle.fst_machine.specs.Machine.{valued}
 use Rattle.fst_codex.specs.Table.{valued_table}
-use Rattle.fst_command.specs.Seeing.{given_seen, just}
+use Rattle.fst_command.specs.Seeing.{given_seen, given_with, just}
+use Rattle.fst_command.specs.declared.tables.Tables.{Tables as DeclaredTables}
 use Rattle.fst_command.specs.declared.given.Given.{Given as DeclaredGiven}
 use Rattle.fst_command.proofs.Settled.{settled}
 use Rattle.fst_command.proofs.Refusing.{declines_made}
@@ -67,3 +68,8 @@ settles_decoded o kind value g m table r coded e has h =
           → Settles (coding_meaning true o.encode_weights) (record (given_seen kind value g) { machines = valued value m ∷ []; codex = Some (valued_table value table) }) r
       go (Ok made) s = s
       go (Err refusal) s = s
+
+-- what it settles of what it is given beside the symbol tables, it settles of all of it
+pub coded_with : {W X : Type 0} (decode weights : Bool) (t : DeclaredTables) (kind : ArcType) (value : W → Cost) (g : DeclaredGiven W X) (r : Result Made Refusal) → Settles (coding_meaning decode weights) (given_seen kind value g) r → Settles (coding_meaning decode weights) (given_with t kind value g) r
+coded_with true weights t kind value g r settles = settles
+coded_with false weights t kind value g r settles = settles

@@ -1,13 +1,13 @@
 //! The one choice of a type of weights, and the work that is done with it.
 
-ghost use Rattle.std.specs.Prelude.{◌≡◌, ◌≤◌, IsSome, length, map, true};
+ghost use Rattle.std.specs.Prelude.{◌≡◌, ◌≤◌, IsSome, Ok, length, map, true};
 ghost use Rattle.std.specs.Result.{result_map_both};
 ghost use Rattle.fst_any.specs.Typed.{typed};
 ghost use Rattle.fst_words.specs.Inputs.{has_codex, machine_count};
 ghost use Rattle.fst_words.specs.PlanLaws.{IsWhole};
-ghost use Rattle.fst_command.specs.Given.{kind_of, read_limit};
+ghost use Rattle.fst_command.specs.Given.{Held, given_at, kind_of, read_limit};
 ghost use Rattle.fst_command.specs.Metering.{IsFree, meter_seen};
-ghost use Rattle.fst_command.specs.Seeing.{held_seen, product_seen};
+ghost use Rattle.fst_command.specs.Seeing.{given_with, held_seen, product_seen};
 ghost use Rattle.fst_command.specs.Steps.{Decides, MetersWork};
 
 use crate::commands::made;
@@ -23,6 +23,37 @@ use fst_words::Plan;
 use std::alloc::Global;
 use std::mem::replace;
 use std::thread::Threads;
+
+/// The status and the bytes of what a command makes of what it is given, said of all that may have been read which gives it.
+fn product_as<R: Threads + Sync, W: Kinded + Send + Sync, M: Meter>(
+    rt: &R,
+    alloc: Global,
+    plan: &Plan,
+    room: Vec<u8>,
+    given: Given<W>,
+    tables: &Tables,
+    queues: Queues,
+    meter: &mut M,
+) -> Result<Product, Refusal>
+where
+    W::Wide: Send + Sync,
+    requires whole { IsWhole plan.now }
+    requires machines { length given.machines.items ≡ machine_count plan.now }
+    requires codex { has_codex plan.now ≡ true → IsSome given.codex }
+    requires lines { length given.lines.items ≤ read_limit }
+    requires free { IsFree (meter_seen M.count M.parts_out M.is_part meter.old) }
+    ensures decides { (held : Held) → kind_of plan.now.options held.machines ≡ W.KIND → given_at W.KIND held ≡ Ok (given_with tables.now W.KIND W.value given) → Decides plan.now held (result_map_both product_seen (λ e. e) result) }
+    ensures meter { (held : Held) → kind_of plan.now.options held.machines ≡ W.KIND → given_at W.KIND held ≡ Ok (given_with tables.now W.KIND W.value given) → MetersWork plan.now held (meter_seen M.count M.parts_out M.is_part meter.old) (meter_seen M.count M.parts_out M.is_part meter.new) (result_map_both product_seen (λ e. e) result) }
+{
+    let made = match made(rt, alloc, plan, given, tables, queues, meter) {
+        Ok(made) => made,
+        Err(refusal) => return Err(refusal),
+    };
+    match product_of(alloc, room, made, &tables_for(plan, tables)) {
+        Ok(product) => Ok(product),
+        Err(_) => Err(Refusal::Memory),
+    }
+}
 
 /// The status and the bytes of what a command makes of what was read, whose arc type is that of the weights.
 fn worked_as<R: Threads + Sync, W: Kinded + Send + Sync, M: Meter>(
@@ -46,17 +77,9 @@ where
 {
     let mut held = held;
     let room = replace(&mut held.room, Vec::new(alloc));
-    let (given, tables): (Given<W>, Tables) = match alike(alloc, held) {
-        Ok(alike) => alike,
-        Err(refusal) => return Err(refusal),
-    };
-    let made = match made(rt, alloc, plan, given, &tables, queues, meter) {
-        Ok(made) => made,
-        Err(refusal) => return Err(refusal),
-    };
-    match product_of(alloc, room, made, &tables_for(plan, &tables)) {
-        Ok(product) => Ok(product),
-        Err(_) => Err(Refusal::Memory),
+    match alike::<W>(alloc, held) {
+        Ok((given, tables)) => product_as(rt, alloc, plan, room, given, &tables, queues, meter),
+        Err(refusal) => Err(refusal),
     }
 }
 

@@ -73,7 +73,7 @@ static PASSED_ON: [Row; 42] = [
     Refuse("print r p", 1, b"fst: no symbol for label 2\n"),
     // New labels have no names, and what is no machine is the same with tables and without.
     Makes("relabel m r", b"0\t1\t1\t2\t5\n1\t3\n"),
-    Makes("replace m 7 m 7 r", b"0\t1\t1\t2\t5\n1\t3\n"),
+    Makes("replace m 7 n 8 r", b"0\t1\t1\t2\t5\n1\t3\n"),
     Run("encode --encode_labels m codex r"),
     Run("print r p"),
     Holds("p", b"0\t1\t1\t1\t5\n1\t3\n"),

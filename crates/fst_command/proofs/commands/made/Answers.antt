@@ -7,6 +7,7 @@ use Rattle.fst_words.specs.Inputs.{expands_by}
 use Rattle.fst_words.specs.Plans.{is_replace}
 use Rattle.fst_words.proofs.Counts.{labels_all, rules_some}
 use Rattle.fst_command.specs.Seeing.{given_with, made_seen}
+use Rattle.fst_command.proofs.Coded.{coded_with}
 use Rattle.fst_command.proofs.Meters.{raises_nothing}
 use Rattle.fst_command.proofs.Settled.{settles_for}
 use Rattle.fst_command.proofs.commands.made.Goals as goal
@@ -52,7 +53,12 @@ pub returns-in-Prune-clause-settles : goal.returns-in-Prune-clause-settles
 returns-in-Prune-clause-settles g c = settles_for c.args.plan.now verbs.Prune (given_with c.args.tables.now g.W.Weight.KIND g.W.Weight.value c.args.given) (result_map_both (made_seen g.W.Weight.KIND g.W.Weight.value) (λ e. e) c.pruned.result) c.in-Prune.is c.pruned.ensures
 
 pub returns-in-Encode-clause-settles : goal.returns-in-Encode-clause-settles
-returns-in-Encode-clause-settles g c = settles_for c.args.plan.now verbs.Encode (given_with c.args.tables.now g.W.Weight.KIND g.W.Weight.value c.args.given) (result_map_both (made_seen g.W.Weight.KIND g.W.Weight.value) (λ e. e) c.coded.result) c.in-Encode.is c.coded.ensures
+returns-in-Encode-clause-settles g c =
+    let kind = g.W.Weight.KIND in
+    let value = g.W.Weight.value in
+    let o = c.args.plan.now.options in
+    let made = result_map_both (made_seen kind value) (λ e. e) c.coded.result in
+    settles_for c.args.plan.now verbs.Encode (given_with c.args.tables.now kind value c.args.given) made c.in-Encode.is (coded_with o.decode o.encode_weights c.args.tables.now kind value c.args.given made c.coded.ensures)
 
 pub returns-in-Rmepsilon-clause-settles : goal.returns-in-Rmepsilon-clause-settles
 returns-in-Rmepsilon-clause-settles g c = settles_for c.args.plan.now verbs.Rmepsilon (given_with c.args.tables.now g.W.Weight.KIND g.W.Weight.value c.args.given) (result_map_both (made_seen g.W.Weight.KIND g.W.Weight.value) (λ e. e) c.removed.result) c.in-Rmepsilon.is c.removed.ensures
