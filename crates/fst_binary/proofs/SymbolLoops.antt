@@ -1,6 +1,5 @@
 -- Reading symbol after symbol, as a loop does.
-use Rattle.std.proofs.Common.{◌≡◌, ℕ, zero, suc, ◌+◌, ◌-◌, ◌<◌, ◌≤◌, List, Result, Ok, Err, refl, sym, ◌∙◌, arith}
-use Rattle.fst_fields.specs.Reading.{◌>>=◌}
+use Rattle.std.proofs.Common.{◌≡◌, ℕ, suc, ◌+◌, ◌-◌, ◌<◌, ◌≤◌, List, Result, Ok, Err, refl, sym, ◌∙◌, arith}
 use Rattle.fst_bytes.specs.Stopping.{Stops}
 use Rattle.fst_bytes.specs.declared.fault.Stopped.{Stopped}
 use Rattle.fst_bytes.specs.declared.fault.Stopped.TheVariants.{At, Memory}

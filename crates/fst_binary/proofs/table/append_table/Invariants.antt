@@ -1,6 +1,6 @@
 use Rattle.std.proofs.Common.{◌≡◌, ◌≤◌, ◌++◌, length, drop, vec_capacity}
 use Rattle.std.specs.List.{flat_map}
-use Rattle.fst_binary.specs.Tables.{symbol_fields, table_fields}
+use Rattle.fst_binary.specs.Tables.{symbol_fields}
 use Rattle.fst_binary.proofs.table.append_table.Given as goal
 
 abbrev pub invariant-loop-index : goal.invariant-loop-index

@@ -1,4 +1,4 @@
-use Rattle.std.proofs.Common.{◌≡◌, ◌<◌, length, sym, ◌∙◌, arith}
+use Rattle.std.proofs.Common.{◌<◌, length, sym, ◌∙◌, arith}
 use Rattle.fst_bytes.proofs.Names.{part_takes}
 use Rattle.fst_binary.specs.declared.fault.BinaryKind.TheVariants.{Short}
 use Rattle.fst_binary.proofs.Tables.{are_name_bytes}

@@ -1,4 +1,4 @@
-use Rattle.std.proofs.Common.{[], arith}
+use Rattle.std.proofs.Common.{[]}
 use Rattle.std.proofs.lemmas.Result.{err_from_is_err_and}
 use Rattle.fst_binary.specs.Tables.{with_symbols_at}
 use Rattle.fst_binary.proofs.SymbolLoops.{symbols_are_read, symbols_go_on, symbols_stop}
