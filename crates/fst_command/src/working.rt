@@ -5,7 +5,7 @@ ghost use Rattle.std.specs.Result.{result_map_both};
 ghost use Rattle.fst_any.specs.Typed.{typed};
 ghost use Rattle.fst_words.specs.Inputs.{has_codex, machine_count};
 ghost use Rattle.fst_words.specs.PlanLaws.{IsWhole};
-ghost use Rattle.fst_command.specs.Given.{Held, given_at, kind_of, read_limit};
+ghost use Rattle.fst_command.specs.Given.{Held as HeldSeen, given_at, kind_of, read_limit};
 ghost use Rattle.fst_command.specs.Metering.{IsFree, meter_seen};
 ghost use Rattle.fst_command.specs.Seeing.{given_with, held_seen, product_seen};
 ghost use Rattle.fst_command.specs.Steps.{Decides, MetersWork};
@@ -42,8 +42,8 @@ where
     requires codex { has_codex plan.now ≡ true → IsSome given.codex }
     requires lines { length given.lines.items ≤ read_limit }
     requires free { IsFree (meter_seen M.count M.parts_out M.is_part meter.old) }
-    ensures decides { (held : Held) → kind_of plan.now.options held.machines ≡ W.KIND → given_at W.KIND held ≡ Ok (given_with tables.now W.KIND W.value given) → Decides plan.now held (result_map_both product_seen (λ e. e) result) }
-    ensures meter { (held : Held) → kind_of plan.now.options held.machines ≡ W.KIND → given_at W.KIND held ≡ Ok (given_with tables.now W.KIND W.value given) → MetersWork plan.now held (meter_seen M.count M.parts_out M.is_part meter.old) (meter_seen M.count M.parts_out M.is_part meter.new) (result_map_both product_seen (λ e. e) result) }
+    ensures decides { (held : HeldSeen) → kind_of plan.now.options held.machines ≡ W.KIND → given_at W.KIND held ≡ Ok (given_with tables.now W.KIND W.value given) → Decides plan.now held (result_map_both product_seen (λ e. e) result) }
+    ensures meter { (held : HeldSeen) → kind_of plan.now.options held.machines ≡ W.KIND → given_at W.KIND held ≡ Ok (given_with tables.now W.KIND W.value given) → MetersWork plan.now held (meter_seen M.count M.parts_out M.is_part meter.old) (meter_seen M.count M.parts_out M.is_part meter.new) (result_map_both product_seen (λ e. e) result) }
 {
     let made = match made(rt, alloc, plan, given, tables, queues, meter) {
         Ok(made) => made,

@@ -24,9 +24,3 @@ pub product_as-requires-clause-lines : goal.product_as-requires-clause-lines
 product_as-requires-clause-lines g c lives within =
     let given = given_with c.in-Ok.tables g.W.Weight.KIND g.W.Weight.value c.in-Ok.given in
     subst (λ (lines : List ℕ). length lines ≤ read_limit) (sym (given_lines g.W.Weight.KIND (held_seen c.args.held) given c.in-Ok.ensures)) c.requires.lines
-
-pub returns-in-Ok-clause-decides : goal.returns-in-Ok-clause-decides
-returns-in-Ok-clause-decides g c = c.product_as.ensures.decides (held_seen c.args.held) c.requires.kind c.in-Ok.ensures
-
-pub returns-in-Ok-clause-meter : goal.returns-in-Ok-clause-meter
-returns-in-Ok-clause-meter g c = c.product_as.ensures.meter (held_seen c.args.held) c.requires.kind c.in-Ok.ensures
