@@ -40,6 +40,7 @@ RECIPES = [
     Recipe("--dense", ("gaps",), lambda size: [size, 7]),
     Recipe("--dense", ("wide_gaps",), lambda size: [size, 1000]),
     Recipe("--named", ("table", "named"), lambda size: [NAMES, size]),
+    Recipe("--named", ("wide_table", "wide_named"), lambda size: [size // 10, size]),
     Recipe("--symbols", ("long_table",)),
     Recipe("--chain", ("bare",), lambda size: [1]),
     Recipe("--pairs", ("pairs",), lambda size: [PAIRS]),
@@ -68,6 +69,8 @@ RECIPES = [
     Recipe("--doubles", ("doubles",)),
     Recipe("--long-names", ("inames", "onames", "long_named")),
 ]
+# The tables that machines carry for both sides.
+CARRIED = {"bare": "long_table", "wide_named": "wide_table"}
 RECIPE_OF = {name: recipe for recipe in RECIPES for name in recipe.names}
 # The deterministic machines of others, which OpenFst makes and both programs read as text.
 DETERMINED = {"trie": "words", "network": "confusion"}
@@ -120,6 +123,12 @@ class File:
         if not os.path.exists(path):
             piped([["fstcompile", self.text], ["fstprint", "--acceptor"]], path)
         return path
+
+    @property
+    def carrying(self):
+        """The machine with a table that it carries for both sides."""
+        table = self.inputs.text(CARRIED[self.name])
+        return self.made(".carrying", lambda path: ["compile", f"--isymbols={table}", f"--osymbols={table}", "--keep_isymbols", "--keep_osymbols", self.text, path])
 
     @property
     def encoded(self):
