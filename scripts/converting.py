@@ -328,8 +328,12 @@ class Text:
                 data = file.read()
             lines = self.printed(options, data)
             self.carried = tables_of(data)[0]
+            # Of an acceptor that carries the names of its input labels alone, these are those of both sides.
+            one_label = options.acceptor and not numbers and self.tables[1] is None and self.carried[0] is not None and self.carried[1] is None
+            if one_label:
+                lines, self.carried[1] = self.printed(options, data, "--acceptor"), self.carried[0]
             self.epsilons = [self.epsilon(side) for side in range(2)]
-            self.read(read_lines(self.place, options.input, lines), False)
+            self.read(read_lines(self.place, options.input, lines), one_label)
             return
         if any(self.tables):
             raise Refused(f"{shown_name(options.input)}: tables are for a binary machine, and this is none")
@@ -350,14 +354,14 @@ class Text:
             return Symbols(self.tables[side]).epsilon
         return "0" if self.is_numbered(side) else epsilon_of(self.carried[side])
 
-    def printed(self, options, data):
+    def printed(self, options, data, *flags):
         """The lines of a binary machine, by the program."""
         if options.arc_type not in (None, self.arc_type):
             raise Refused(f"{shown_name(options.input)}: the arc type is {self.arc_type}, and not {options.arc_type}")
         self.place = Place(options.input, "line of fst print")
         words = ["print", *(f"--{side}={table}" for side, table in zip(("isymbols", "osymbols"), self.tables) if table is not None)]
         try:
-            return io.BytesIO(run_program([*words, *(["--numeric"] if self.numbers else []), "-"], data))
+            return io.BytesIO(run_program([*words, *(["--numeric"] if self.numbers else []), *flags, "-"], data))
         except Refused as refusal:
             line = re.sub("^(-|cannot read -):", f"{shown_name(options.input)}:", str(refusal))
             raise Refused(line if ": " in line else f"{shown_name(options.input)}: {line}") from None
