@@ -98,29 +98,69 @@ static BOTH_WAYS: [(u8, &[&[u8]], Option<u64>, Option<u64>); 6] = [
     (3, &[NONE, NONE], Some(0), Some(0)),
 ];
 
+/// How many symbols the tables of a file have.
+fn sizes_of(alloc: Global, bytes: &[u8]) -> Result<(Option<u64>, Option<u64>), BinaryFault> {
+    let tabled = read(alloc, bytes)?;
+    Ok(sizes(&tabled))
+}
+
+/// The bytes of a file, written anew with its tables.
+fn again(alloc: Global, bytes: &[u8]) -> Result<Vec<u8>, Fail> {
+    let tabled = read(alloc, bytes)?;
+    Ok(encode_tabled(alloc, &tabled)?)
+}
+
+/// And without them.
+fn untabled(alloc: Global, bytes: &[u8]) -> Result<Vec<u8>, Fail> {
+    let alone = read_alone(alloc, bytes)?;
+    Ok(encode(alloc, &alone)?)
+}
+
+/// And with the table of the input labels on both sides.
+fn with_one_for_both(alloc: Global, bytes: &[u8]) -> Result<Vec<u8>, Fail> {
+    let tabled = read(alloc, bytes)?;
+    let lent = LentTables {
+        isymbols: tabled.isymbols.as_ref(),
+        osymbols: tabled.isymbols.as_ref(),
+    };
+    let alone = read_alone(alloc, bytes)?;
+    Ok(encode_tabled_into(Vec::new(alloc), alone, &lent)?)
+}
+
 #[test]
 fn tables_both_ways(rt: HostRuntime) -> Result<(), Fail> {
     let alloc = rt.alloc();
-    let plain = file(alloc, 2, 0, &[])?;
     for (flags, tables, input, output) in &BOTH_WAYS {
         let bytes = file(alloc, 3, *flags, tables)?;
-        let tabled = read(alloc, bytes.as_slice())?;
-        assert!(rt; sizes(&tabled) == (*input, *output), "flags {flags}");
-        let again = encode_tabled(alloc, &tabled)?;
-        assert_eq!(rt; again.as_slice(), bytes.as_slice());
-        assert_eq!(rt; again.capacity(), bytes.len());
-        // The machine alone is what the file has behind the tables.
-        let alone = read_alone(alloc, bytes.as_slice())?;
-        let untabled = encode(alloc, &alone)?;
-        assert_eq!(rt; untabled.as_slice(), plain.as_slice());
-        // One table may be lent for both sides.
-        let shared = LentTables {
-            isymbols: tabled.isymbols.as_ref(),
-            osymbols: tabled.isymbols.as_ref(),
-        };
-        let both = encode_tabled_into(Vec::new(alloc), alone, &shared)?;
-        let twice = read(alloc, both.as_slice())?;
-        assert!(rt; sizes(&twice) == (*input, *input), "flags {flags}");
+        let found = sizes_of(alloc, bytes.as_slice())?;
+        assert!(rt; found == (*input, *output), "flags {flags}");
+        let written = again(alloc, bytes.as_slice())?;
+        assert_eq!(rt; written.as_slice(), bytes.as_slice());
+        assert_eq!(rt; written.capacity(), bytes.len());
+    }
+    Ok(())
+}
+
+#[test]
+fn machines_stand_behind_tables(rt: HostRuntime) -> Result<(), Fail> {
+    let alloc = rt.alloc();
+    let plain = file(alloc, 2, 0, &[])?;
+    for (flags, tables, _, _) in &BOTH_WAYS {
+        let bytes = file(alloc, 3, *flags, tables)?;
+        let written = untabled(alloc, bytes.as_slice())?;
+        assert_eq!(rt; written.as_slice(), plain.as_slice());
+    }
+    Ok(())
+}
+
+#[test]
+fn one_table_is_lent_for_both_sides(rt: HostRuntime) -> Result<(), Fail> {
+    let alloc = rt.alloc();
+    for (flags, tables, input, _) in &BOTH_WAYS {
+        let bytes = file(alloc, 3, *flags, tables)?;
+        let twice = with_one_for_both(alloc, bytes.as_slice())?;
+        let found = sizes_of(alloc, twice.as_slice())?;
+        assert!(rt; found == (*input, *input), "flags {flags}");
     }
     Ok(())
 }
