@@ -153,6 +153,15 @@ def run_program(words, data):
     return done.stdout
 
 
+def run_on(name, words, data):
+    """What the program writes, given the bytes of this file as standard input: its line, with the name, is the refusal."""
+    try:
+        return run_program([*words, "-"], data)
+    except Refused as refusal:
+        line = re.sub("^(-|cannot read -):", f"{shown_name(name)}:", str(refusal))
+        raise Refused(line if ": " in line else f"{shown_name(name)}: {line}") from None
+
+
 def write_draft(path, data):
     """Writes a file beside the path, with the rights that the path has or would get, and gives its name."""
     mask = os.umask(0)
@@ -360,11 +369,7 @@ class Text:
             raise Refused(f"{shown_name(options.input)}: the arc type is {self.arc_type}, and not {options.arc_type}")
         self.place = Place(options.input, "line of fst print")
         words = ["print", *(f"--{side}={table}" for side, table in zip(("isymbols", "osymbols"), self.tables) if table is not None)]
-        try:
-            return io.BytesIO(run_program([*words, *(["--numeric"] if self.numbers else []), *flags, "-"], data))
-        except Refused as refusal:
-            line = re.sub("^(-|cannot read -):", f"{shown_name(options.input)}:", str(refusal))
-            raise Refused(line if ": " in line else f"{shown_name(options.input)}: {line}") from None
+        return io.BytesIO(run_on(options.input, [*words, *(["--numeric"] if self.numbers else []), *flags], data))
 
     def refuse_numbers(self):
         """A text that was printed without tables has numbers for labels, and 0 is no name then."""
