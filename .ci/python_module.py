@@ -37,6 +37,22 @@ class Texts(unittest.TestCase):
         machine = fst.compile([(0, 1, "\u00a0\u2028", "\udcff")], {1: None}, isymbols=table, osymbols=table)
         self.assertEqual(fst.parts(machine, isymbols=table, osymbols=table).arcs, [(0, 1, "\u00a0\u2028", "\udcff", None)])
 
+    def test_tables_that_a_machine_carries(self):
+        machine = fst.compile([(0, 1, "a", "b", 5)], {1: 3}, isymbols=TABLE, osymbols={"b": 2}, keep_isymbols=True, keep_osymbols=True)
+        self.assertEqual(fst.symbols(machine), (TABLE, {"b": 2}))
+        self.assertEqual(fst.symbols(fst.invert(machine)), ({"b": 2}, TABLE))
+        self.assertEqual(fst.symbols(fst.compile(ONE_ARC)), (None, None))
+        self.assertEqual(fst.print(machine), "0\t1\ta\tb\t5\n1\t3\n")
+        self.assertEqual(fst.print(machine, numeric=True), "0\t1\t1\t2\t5\n1\t3\n")
+        self.assertEqual(fst.parts(machine), (0, [(0, 1, "a", "b", 5)], {1: 3}))
+        self.assertEqual(fst.parts(machine, isymbols={"z": 1}).arcs, [(0, 1, "z", "b", 5)])
+        self.assertEqual(list(fst.strings(fst.invert(machine))), [(8, "b", "a")])
+        self.assertIn('"a:b/5"', fst.draw(machine))
+        with self.assertRaises(fst.Refusal):
+            fst.compile(ONE_ARC, keep_isymbols=True)
+        with self.assertRaises(fst.Refusal):
+            fst.symbols(machine[:80])
+
     def test_wrong_input(self):
         for cause, status, work in [
             ("fst: text: line 1: unknown symbol", 1, lambda: fst.compile("0 1 c b\n", isymbols=TABLE)),
