@@ -6,6 +6,7 @@
 
 mod comparing;
 mod equivalent_fault;
+mod search;
 mod verdict;
 
 pub use comparing::equivalent;
