@@ -6,3 +6,10 @@ pub mod Separation
 pub mod Searching
 pub mod Pairs
 pub mod Slots
+pub mod Bounds
+pub mod Putting
+pub mod Ways
+pub mod WordBounds
+pub mod SoughtWords
+pub mod SoughtOn
+pub mod SoughtReads

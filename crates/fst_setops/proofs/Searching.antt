@@ -16,7 +16,7 @@ has_at [] x h = absurd h
 has_at (y ∷ xs) x (inl e) = (0, ap Some e)
 has_at (y ∷ xs) x (inr h) = let r = has_at xs x h in (suc r.0, r.1)
 
-at_has : {X : Type 0} (xs : List X) (i : ℕ) (x : X) → slice_get xs i ≡ Some x → Has xs x
+pub at_has : {X : Type 0} (xs : List X) (i : ℕ) (x : X) → slice_get xs i ≡ Some x → Has xs x
 at_has [] i x e = absurd (cc)
 at_has (y ∷ xs) zero x e = inl (same_Some y x e)
 at_has (y ∷ xs) (suc i) x e = inr (at_has xs i x e)
@@ -145,18 +145,16 @@ module _ {N M : Type 0} (kind : ArcType) (a : Graph N) (b : Graph M) where
     pub search_covered : (l : ℕ) → label ≤ l → ((k : ℕ) → label ≤ k → k < l → IsNowhere (pair_of kind a b (u ++ k ∷ []))) → IsCovered kind a b words (u ++ l ∷ []) → IsSearching kind a b words taken (l + 1)
     search_covered l low nowhere covered = search_on l low nowhere words s.begins s.ascend (λ w h. made_more l low w (s.made w h)) (λ i v h at. inl at) (λ w c. c) covered
 
-    -- the word with this label is put after the others
-    pub search_put : (l : ℕ) → label ≤ l → ((k : ℕ) → label ≤ k → k < l → IsNowhere (pair_of kind a b (u ++ k ∷ []))) → IsSearching kind a b (words ++ (u ++ l ∷ []) ∷ []) taken (l + 1)
-    search_put l low nowhere =
-        search_on l low nowhere (words ++ w ∷ []) (has_left words (w ∷ []) [] s.begins) (ascend_more words w s.ascend later) (λ v h. by_has v (has_split words w v h)) same (λ v c. covered_more words w v c)
-        (inl (record { word = w; has = has_last words w; before = inl refl; pair = refl; ratio = refl }))
+    -- the word with this label comes after those there are
+    pub search_later : (l : ℕ) → label ≤ l → (v : List ℕ) → Has words v → IsSooner v (u ++ l ∷ [])
+    search_later l low v h = by_made (s.made v h)
       where
         w : List ℕ
         w = u ++ l ∷ []
 
-        by_made : (v : List ℕ) → ([] ≡ v) ⊎ IsMade kind a b words taken label v → IsSooner v w
-        by_made v (inl e) = inl (let f : length v ≡ 0 = ap length (sym e) in omega (arith, f, length-append u (l ∷ [])))
-        by_made v (inr m) = by_behind m.behind
+        by_made : ([] ≡ v) ⊎ IsMade kind a b words taken label v → IsSooner v w
+        by_made (inl e) = inl (let f : length v ≡ 0 = ap length (sym e) in omega (arith, f, length-append u (l ∷ [])))
+        by_made (inr m) = by_behind m.behind
           where
             by_behind : IsBehind taken label m.place m.last → IsSooner v w
             by_behind (inl h) = subst (λ z. IsSooner z w) m.is (sooner_push m.word u m.last l (ascend_at words m.place taken m.word u s.ascend h m.there here))
@@ -165,8 +163,14 @@ module _ {N M : Type 0} (kind : ArcType) (a : Graph N) (b : Graph M) where
                 let k = h.1 in
                 subst (λ z. IsSooner z w) (subst (λ z. z ++ m.last ∷ [] ≡ v) (sym e) m.is) (sooner_last u m.last l (omega (arith, k, low)))
 
-        later : (v : List ℕ) → Has words v → IsSooner v w
-        later v h = by_made v (s.made v h)
+    -- the word with this label is put after the others
+    pub search_put : (l : ℕ) → label ≤ l → ((k : ℕ) → label ≤ k → k < l → IsNowhere (pair_of kind a b (u ++ k ∷ []))) → IsSearching kind a b (words ++ (u ++ l ∷ []) ∷ []) taken (l + 1)
+    search_put l low nowhere =
+        search_on l low nowhere (words ++ w ∷ []) (has_left words (w ∷ []) [] s.begins) (ascend_more words w s.ascend (λ v h. search_later l low v h)) (λ v h. by_has v (has_split words w v h)) same (λ v c. covered_more words w v c)
+        (inl (record { word = w; has = has_last words w; before = inl refl; pair = refl; ratio = refl }))
+      where
+        w : List ℕ
+        w = u ++ l ∷ []
 
         made_left : (v : List ℕ) → ([] ≡ v) ⊎ IsMade kind a b words taken (l + 1) v → ([] ≡ v) ⊎ IsMade kind a b (words ++ w ∷ []) taken (l + 1) v
         made_left v (inl e) = inl e

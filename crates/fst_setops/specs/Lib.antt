@@ -5,3 +5,8 @@ pub mod Led
 pub mod Closing
 pub mod Kept
 pub mod Found
+pub mod PairNumbers
+pub mod Ways
+pub mod Sought
+pub mod Followed
+pub mod Acceptors

@@ -9,6 +9,7 @@ use Rattle.fst_machine.specs.Machine.{Arc, Machine}
 use Rattle.fst_trim.specs.FirstArcs.{HasTwoLabels, Repeats, IsFirstArc}
 use Rattle.fst_trim.specs.FirstArcs as arcs
 use Rattle.fst_trim.specs.WordWeights.{SameWords}
+use Rattle.fst_setops.specs.Kept.{most_number}
 use Rattle.fst_setops.specs.Separating.{HasMorePairs, IsSeparating}
 use Rattle.fst_setops.specs.declared.equivalent_fault.EquivalentFault.{EquivalentFault}
 use Rattle.fst_setops.specs.declared.equivalent_fault.EquivalentFault.TheVariants.{NotAcceptor, NotDeterministic, NotCancelling, StateLimit, Memory}
@@ -19,10 +20,6 @@ use Rattle.fst_setops.specs.declared.verdict.Verdict.TheVariants.{Equivalent, Se
 abbrev pub IsSaid : {V X N M : Type 0} → ArcType → (X → Cost) → Graph N → Graph M → Verdict V X → Type 0
 IsSaid kind value g h Equivalent = SameWords kind g h
 IsSaid kind value g h (Separated word first second) = IsSeparating kind g h word (value first) (value second)
-
--- 2 to the 84
-abbrev pub most_number : ℕ
-most_number = 19342813113834066795298816
 
 -- the numbers of the weights have at most this absolute value
 abbrev pub HasRange : {V X : Type 0} → (X → Cost) → Verdict V X → Type 0

@@ -6,8 +6,13 @@
 
 mod comparing;
 mod equivalent_fault;
+mod following;
+mod pair_key;
+mod ready;
 mod search;
+mod spelling;
 mod verdict;
+mod way;
 
 pub use comparing::equivalent;
 pub use equivalent_fault::EquivalentFault;
