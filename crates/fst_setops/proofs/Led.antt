@@ -1,7 +1,6 @@
 -- Where words lead, and that this is what paths say.
 use Rattle.std.proofs.Common.{◌≡◌, ◌≢◌, ◌⊎◌, inl, inr, ◌↔◌, ℕ, zero, suc, Bool, true, false, List, [], ◌∷◌, ◌++◌, Option, None, Some, cond, slice_get, refl, sym, ap, ap₂, ◌∙◌, subst}
 use Rattle.std.proofs.Common.{nat_eq}
-use Rattle.std.proofs.lemmas.Bool.{eq-eqb, eqb-true}
 use Rattle.std.proofs.lemmas.Option.{same_Some}
 use Rattle.fst_semiring.specs.Cost.{Cost, infinite}
 use Rattle.fst_semiring.specs.declared.arc_type.ArcType.{ArcType}
@@ -16,14 +15,9 @@ use Rattle.fst_setops.proofs.Ratios.{times_not_zero, zero_or_not}
 use Rattle.fst_trim.specs.WordWeights.{IsSingle}
 use Rattle.fst_trim.specs.Weighed.{IsWeighted}
 use Rattle.fst_trim.specs.WordWeights.{IsWordWeight, Weighs, WordWeighs}
-use Rattle.fst_setops.specs.Led.{next_by, begin_of, final_of, gained, led, place_of, product_of, step, step_weight, weight_by, weight_of}
-
-label_cases : (x l : ℕ) → ((x ≡ l) × (nat_eq x l ≡ true)) ⊎ ((x ≡ l → ⊥) × (nat_eq x l ≡ false))
-label_cases x l = by_test (nat_eq x l) refl
-  where
-    by_test : (t : Bool) → nat_eq x l ≡ t → ((x ≡ l) × (nat_eq x l ≡ true)) ⊎ ((x ≡ l → ⊥) × (nat_eq x l ≡ false))
-    by_test true e = inl (eqb-true x l e, e)
-    by_test false e = inr ((λ same. let f : true ≡ false = sym (eq-eqb x l same) ∙ e in absurd (cc)), e)
+use Rattle.fst_setops.specs.Difference.{next_by}
+use Rattle.fst_setops.proofs.Second.{label_cases}
+use Rattle.fst_setops.specs.Led.{begin_of, final_of, gained, led, place_of, product_of, step, step_weight, weight_by, weight_of}
 
 -- the first arc with a label, or none
 pub record Looked {N : Type 0} (label : ℕ) (arcs : List (Arc Cost N)) : Type 0 where

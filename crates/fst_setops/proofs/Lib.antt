@@ -13,3 +13,5 @@ pub mod WordBounds
 pub mod SoughtWords
 pub mod SoughtOn
 pub mod SoughtReads
+pub mod SoughtTaking
+pub mod SoughtBegins

@@ -23,12 +23,7 @@ use Rattle.fst_setops.proofs.Led.{none_led, place_more, product_more}
 use Rattle.fst_setops.proofs.Pairs.{pair_is}
 use Rattle.fst_setops.proofs.Searching.{at_has, search_covered, search_later, search_next, search_put}
 use Rattle.fst_setops.proofs.Slots.{words_first}
-use Rattle.fst_setops.proofs.SoughtWords.{words_push, words_size}
-
--- the last of a list
-at_append_last : {X : Type 0} (xs : List X) (x : X) → slice_get (xs ++ x ∷ []) (length xs) ≡ Some x
-at_append_last [] x = refl
-at_append_last (y ∷ xs) x = at_append_last xs x
+use Rattle.fst_setops.proofs.SoughtWords.{at_append_last, words_push, words_size}
 
 -- an arc leads somewhere
 no_end : {W : Type 0} (o : Option (Arc W ℕ)) → end_of o ≡ None → o ≡ None
@@ -105,7 +100,7 @@ module _ {V W : Type 0} (kind : ArcType) (value : V → Cost) (weight : W → Co
 
   module _ (new : List (Pair ℕ ℕ)) (added : List Slot) (grown : List (Node V)) (f : IsFollowed kind value weight most pairs nodes node taken label one other new grown) (sound : AreSound kind value most new added grown) where
     -- what was there is there still
-    still : (k : ℕ) (p : Pair ℕ ℕ) → slice_get pairs k ≡ Some p → slice_get new k ≡ Some p
+    pub still : (k : ℕ) (p : Pair ℕ ℕ) → slice_get pairs k ≡ Some p → slice_get new k ≡ Some p
     still k p at = by_put f.put
       where
         by_put : ArePut most (ends one other) pairs new → slice_get new k ≡ Some p

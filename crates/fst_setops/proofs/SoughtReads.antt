@@ -5,9 +5,9 @@ use Rattle.std.proofs.lemmas.Option.{same_Some, slice_get-get_or, slice_get_with
 use Rattle.fst_semiring.specs.Cost.{Cost}
 use Rattle.fst_semiring.specs.Semiring.{Within, times}
 use Rattle.fst_semiring.specs.declared.arc_type.ArcType.{ArcType}
-use Rattle.fst_machine.specs.Graph.{graph_of}
+use Rattle.fst_machine.specs.Graph.{Graph, graph_of}
 use Rattle.fst_machine.specs.Machine.{Machine, valued}
-use Rattle.fst_setops.specs.Acceptors.{IsPrepared}
+use Rattle.fst_setops.specs.Prepared.{IsPrepared}
 use Rattle.fst_setops.specs.Closing.{Differ, first_of, pair_of, second_of}
 use Rattle.fst_setops.specs.Kept.{AreWithin, Node, most_number, most_product, most_words}
 use Rattle.fst_setops.specs.Led.{final_of, place_of, product_of, weight_of}
@@ -15,6 +15,10 @@ use Rattle.fst_setops.specs.Separating.{Pair}
 use Rattle.fst_setops.specs.Sought.{AreWeights, AreWords, HasWord, IsNoted, words_of}
 use Rattle.fst_setops.proofs.Bounds.{number_more}
 use Rattle.fst_setops.proofs.WordBounds.{place_inside, product_within}
+
+-- the pair of a node is that of its word
+pub node_pair : {V : Type 0} (kind : ArcType) (value : V → Cost) (g h : Graph ℕ) (pairs : List (Pair ℕ ℕ)) (nodes : List (Node V)) (place : ℕ) (n : Node V) (w : HasWord kind value g h pairs nodes place n) (p : Pair ℕ ℕ) → slice_get pairs n.pair ≡ Some p → p ≡ pair_of kind g h w.word
+node_pair kind value g h pairs nodes place n w p of = same_Some p (pair_of kind g h w.word) (sym of ∙ w.is.pair)
 
 module _ {V W : Type 0} (kind : ArcType) (value : V → Cost) (weight : W → Cost) (a b : Machine W) (first : IsPrepared kind weight a) (second : IsPrepared kind weight b) (pairs : List (Pair ℕ ℕ)) (nodes : List (Node V)) (words : AreWords kind value (graph_of (valued weight a)) (graph_of (valued weight b)) pairs nodes) (few : length nodes ≤ most_words) where
   -- the word of a node that was read
@@ -35,8 +39,8 @@ module _ {V W : Type 0} (kind : ArcType) (value : V → Cost) (weight : W → Co
     second_within = subst (Within most_product) (sym w.is.second) (product_within kind (graph_of (valued weight b)) second.weighed.ranged w.word short)
 
     module _ (p : Pair ℕ ℕ) (of : slice_get pairs n.pair ≡ Some p) where
-      pub read_pair : p ≡ pair_of kind (graph_of (valued weight a)) (graph_of (valued weight b)) w.word
-      read_pair = same_Some p (pair_of kind (graph_of (valued weight a)) (graph_of (valued weight b)) w.word) (sym of ∙ w.is.pair)
+      read_pair : p ≡ pair_of kind (graph_of (valued weight a)) (graph_of (valued weight b)) w.word
+      read_pair = node_pair kind value (graph_of (valued weight a)) (graph_of (valued weight b)) pairs nodes place n w p of
 
       pub first_inside : IfSome p.first (λ s. s < length a.states)
       first_inside = subst (λ (q : Pair ℕ ℕ). IfSome q.first (λ s. s < length a.states)) (sym read_pair) (place_inside weight a first.weighed.machine kind w.word)

@@ -7,7 +7,8 @@ use Rattle.fst_machine.specs.Graph.{Graph}
 use Rattle.fst_machine.specs.Machine.{Arc, valued_arc}
 use Rattle.fst_machine.proofs.Arcs.{at_mapped, mapped_at}
 use Rattle.fst_trim.specs.WordWeights.{IsSingle}
-use Rattle.fst_setops.specs.Led.{next_by, step, step_weight, weight_by}
+use Rattle.fst_setops.specs.Difference.{next_by}
+use Rattle.fst_setops.specs.Led.{step, step_weight, weight_by}
 use Rattle.fst_setops.specs.Separating.{Pair}
 use Rattle.fst_setops.specs.Ways.{AscendsStrictly, IsCut, IsHead, IsStep, IsWay, IsWayOn, arc_weight, arcs_of, end_of, past}
 use Rattle.fst_setops.proofs.Led.{Looked, NoneLooked, look}

@@ -16,7 +16,8 @@ use Rattle.fst_machine.proofs.Walking.{graph_arcs}
 use Rattle.fst_trim.specs.Weighed.{IsRanged}
 use Rattle.fst_trim.proofs.Rearranged.{read_inside}
 use Rattle.fst_setops.specs.Kept.{most_product, most_words}
-use Rattle.fst_setops.specs.Led.{begin_of, gained, led, next_by, place_of, product_of, step, step_weight, weight_by}
+use Rattle.fst_setops.specs.Difference.{next_by}
+use Rattle.fst_setops.specs.Led.{begin_of, gained, led, place_of, product_of, step, step_weight, weight_by}
 use Rattle.fst_setops.proofs.Led.{Looked, NoneLooked, look}
 
 module _ {V : Type 0} (value : V → Cost) (m : Machine V) (h : IsMachine value m) where

@@ -9,4 +9,4 @@ pub mod PairNumbers
 pub mod Ways
 pub mod Sought
 pub mod Followed
-pub mod Acceptors
+pub mod Prepared

@@ -1,9 +1,10 @@
 -- A search for words that separate: what it keeps, and what this says.
-use Rattle.std.specs.Prelude.{◌≡◌, ℕ, ◌<◌, ◌≤◌, ◌+◌, List, [], ◌∷◌, ◌++◌, Option, None, Some, get_or, length, slice_get}
+use Rattle.std.specs.Prelude.{◌≡◌, ℕ, ◌<◌, ◌≤◌, ◌+◌, List, [], ◌∷◌, ◌++◌, Option, None, Some, get_or, length, map, slice_get}
 use Rattle.fst_semiring.specs.Cost.{Cost}
 use Rattle.fst_semiring.specs.declared.arc_type.ArcType.{ArcType}
 use Rattle.fst_machine.specs.BreadthFirst.{Apart, Has}
 use Rattle.fst_machine.specs.Graph.{Graph}
+use Rattle.fst_machine.specs.Machine.{Arc, valued_arc}
 use Rattle.fst_setops.specs.Closing.{Differ, IsNowhere, IsSearching, first_of, pair_of, second_of}
 use Rattle.fst_setops.specs.Followed.{AreSound}
 use Rattle.fst_setops.specs.Kept.{Node, Slot}
@@ -54,12 +55,17 @@ module _ {V : Type 0} (kind : ArcType) (value : V → Cost) (g h : Graph ℕ) wh
     pub nowhere : (n : Pair ℕ ℕ) → Has pairs n → IsNowhere n → (g.start ≡ None) × (h.start ≡ None)
     pub words : AreWords pairs nodes
 
-  -- The word in this place is being taken; the labels before the two places in the arcs of its states are behind it.
-  pub record IsTaking (most : ℕ) (pairs : List (Pair ℕ ℕ)) (slots : List Slot) (nodes : List (Node V)) (taken : ℕ) (n : Pair ℕ ℕ) (x y : ℕ) : Type 0 where
+  -- The word of this node is being taken, whose states have these arcs: the labels of those before two places are behind it.
+  pub record IsTaking {W : Type 0} (weight : W → Cost) (most : ℕ) (pairs : List (Pair ℕ ℕ)) (slots : List Slot) (nodes : List (Node V)) (taken : ℕ) (node : Node V) (firsts seconds : List (Arc W ℕ)) (x y : ℕ) : Type 0 where
     pub label : ℕ
+    pub pair : Pair ℕ ℕ
+    pub there : slice_get nodes taken ≡ Some node
+    pub of : slice_get pairs node.pair ≡ Some pair
     pub sought : IsSought most pairs slots nodes taken label
-    pub first : IsCut (arcs_of g n.first) x label
-    pub second : IsCut (arcs_of h n.second) y label
+    pub first_arcs : map (valued_arc weight) firsts ≡ arcs_of g pair.first
+    pub second_arcs : map (valued_arc weight) seconds ≡ arcs_of h pair.second
+    pub first : IsCut (arcs_of g pair.first) x label
+    pub second : IsCut (arcs_of h pair.second) y label
 
   -- the weights of the word in a place
   abbrev pub AreWeights : List (List ℕ) → ℕ → V → V → Type 0
@@ -71,6 +77,10 @@ module _ {V : Type 0} (kind : ArcType) (value : V → Cost) (g h : Graph ℕ) wh
     pub sought : IsSought most pairs slots nodes taken 0
     pub all : length nodes ≤ taken
     pub noted : IsNoted kind g h (words_of nodes) taken place
+
+-- each node but the first stands behind its parent
+abbrev pub AreParents : {V : Type 0} → List (Node V) → Type 0
+AreParents {V} nodes = (i : ℕ) (n : Node V) → slice_get nodes i ≡ Some n → 0 < i → n.parent < i
 
 -- the later nodes are the earlier ones with others behind
 abbrev pub AreBefore : {V : Type 0} → List (Node V) → List (Node V) → Type 0

@@ -4,12 +4,13 @@ ghost use Rattle.std.specs.Prelude.{◌≡◌, ◌↔◌, ◌<◌, ◌≤◌, If
 ghost use Rattle.fst_machine.specs.Graph.{graph_of};
 ghost use Rattle.fst_machine.specs.Machine.{most_states, valued};
 ghost use Rattle.fst_trim.specs.WordWeights.{IsSingle, SameWords};
-ghost use Rattle.fst_setops.specs.Verdicts.{HasRange, IsExactly, IsSaid, RefusesComparison};
+ghost use Rattle.fst_setops.specs.Answers.{IsExactly};
+ghost use Rattle.fst_setops.specs.Verdicts.{HasRange, IsSaid, RefusesComparison};
 ghost use Rattle.fst_setops.specs.declared.equivalent_fault.EquivalentFault.TheVariants as faults;
 ghost use Rattle.fst_setops.specs.declared.verdict.Verdict.TheVariants as verdicts;
 
 use crate::equivalent_fault::EquivalentFault;
-use crate::following::{Search, begin, take_words, weights_at};
+use crate::seeking::{Search, begin, take_words, weights_at};
 use crate::ready::make_ready;
 use crate::spelling::spell;
 use crate::verdict::Verdict;

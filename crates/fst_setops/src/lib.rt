@@ -6,7 +6,7 @@
 
 mod comparing;
 mod equivalent_fault;
-mod following;
+mod seeking;
 mod pair_key;
 mod ready;
 mod search;

@@ -1,6 +1,6 @@
 //! The arcs of two states by their labels.
 
-ghost use Rattle.std.specs.Prelude.{◌≡◌, ◌≤◌, ◌<◌, length, slice_get, MatchOption};
+ghost use Rattle.std.specs.Prelude.{◌≡◌, ◌≤◌, ◌<◌, length, slice_get, IfSome, MatchOption};
 ghost use Rattle.fst_setops.specs.Ways.{IsWay, past};
 
 use fst_machine::FstArc;
@@ -55,13 +55,22 @@ pub(crate) fn next_way<W: Copy>(
     }
 }
 
-/// The place behind an arc that was taken.
-pub(crate) fn past<W: Copy>(place: usize, arc: Option<FstArc<W>>) -> usize
-    requires { place < 18446744073709551615 }
+/// The place behind an arc that was taken from a place.
+pub(crate) fn past<W: Copy>(
+    arcs: &[FstArc<W>],
+    place: usize,
+    arc: Option<FstArc<W>>,
+) -> usize
+    requires { IfSome arc (λ a. place < length arcs.now) }
     ensures { result ≡ past place arc }
 {
     match arc {
-        Some(_) => place + 1,
+        Some(_) => {
+            if place < arcs.len() {
+                return place + 1;
+            }
+            place
+        }
         None => place,
     }
 }

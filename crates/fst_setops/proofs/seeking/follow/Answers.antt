@@ -6,7 +6,7 @@ use Rattle.fst_setops.specs.Kept as kept
 use Rattle.fst_setops.specs.Ways.{arc_weight}
 use Rattle.fst_setops.specs.Separating.{Pair}
 use Rattle.fst_setops.proofs.Putting.{not_listed, pair_put, word_found}
-use Rattle.fst_setops.proofs.following.follow.Goals as goal
+use Rattle.fst_setops.proofs.seeking.follow.Goals as goal
 
 pub returns-in_default-clause-followed : goal.returns-in_default-clause-followed
 returns-in_default-clause-followed g c =

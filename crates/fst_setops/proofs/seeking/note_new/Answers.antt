@@ -2,7 +2,7 @@ use Rattle.std.proofs.Common.{◌≡◌, ◌<◌, ◌≤◌, ℕ, true, false, t
 use Rattle.std.proofs.lemmas.Option.{slice_get-get_or}
 use Rattle.fst_trim.proofs.Rearranged.{read_inside}
 use Rattle.fst_setops.proofs.SoughtReads.{none_noted, one_noted}
-use Rattle.fst_setops.proofs.following.note_new.Goals as goal
+use Rattle.fst_setops.proofs.seeking.note_new.Goals as goal
 
 pub returns-then-is_same : goal.returns-then-is_same
 returns-then-is_same g c =

@@ -4,7 +4,7 @@ ghost use Rattle.std.specs.Prelude.{◌≡◌, ◌<◌, ◌≤◌, ◌⊎◌, �
 ghost use Rattle.fst_semiring.specs.Semiring.{IsWide, Within, cancels, times};
 ghost use Rattle.fst_machine.specs.Graph.{graph_of};
 ghost use Rattle.fst_machine.specs.Machine.{most_states, valued, valued_arc};
-ghost use Rattle.fst_setops.specs.Acceptors.{IsPrepared};
+ghost use Rattle.fst_setops.specs.Prepared.{IsPrepared};
 ghost use Rattle.fst_setops.specs.Followed.{AreSound, IsFollowedOr};
 ghost use Rattle.fst_setops.specs.Kept.{AreWithin, most_number, most_product, most_words};
 ghost use Rattle.fst_setops.specs.Led.{begin_of, final_of, weight_of};
@@ -111,7 +111,7 @@ fn take_word<W: Weight>(
     requires place { place < length search.old.nodes.items }
     requires sought { IsSought W.KIND W.wide_value (graph_of (valued W.value a.now)) (graph_of (valued W.value b.now)) limit search.old.pairs search.old.slots.items search.old.nodes.items place 0 }
     ensures goes { IfOk result (λ more. more ≡ true → IsSought W.KIND W.wide_value (graph_of (valued W.value a.now)) (graph_of (valued W.value b.now)) limit search.new.pairs search.new.slots.items search.new.nodes.items (place + 1) 0) }
-    ensures kept { OnOk result (AreBefore search.old.nodes.items search.new.nodes.items) }
+    ensures kept { IfOk result (λ more. more ≡ true → AreBefore search.old.nodes.items search.new.nodes.items) }
     ensures stops { IfOk result (λ more. more ≡ false → HasMorePairs (graph_of (valued W.value a.now)) (graph_of (valued W.value b.now)) limit) }
 {
     let node = search.nodes[place];
@@ -124,8 +124,8 @@ fn take_word<W: Weight>(
         if !follow(search, node, place, way, limit)? {
             return Ok(false);
         }
-        x = past(x, way.first);
-        y = past(y, way.second);
+        x = past(firsts, x, way.first);
+        y = past(seconds, y, way.second);
     }
     Ok(true)
 }

@@ -7,7 +7,7 @@ use Rattle.fst_setops.specs.Kept.{most_product}
 use Rattle.fst_setops.specs.Led.{final_of}
 use Rattle.fst_setops.specs.Separating.{Pair}
 use Rattle.fst_setops.proofs.SoughtReads.{first_inside, first_within, read_low, read_weights, read_word, second_inside, second_within}
-use Rattle.fst_setops.proofs.following.weights_at.Goals as goal
+use Rattle.fst_setops.proofs.seeking.weights_at.Goals as goal
 
 pub overflow_cast-node-inside : goal.overflow_cast-node-inside
 overflow_cast-node-inside g c =
