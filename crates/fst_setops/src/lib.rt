@@ -8,9 +8,14 @@
 //! the theorems in this form.
 #![tactic(auto)]
 
+mod acceptors;
 mod fault;
+mod following;
 mod intersecting;
+mod key;
+pub mod laws;
 mod subtracting;
+mod unweighted;
 
 pub use fault::{DifferenceFault, IntersectFault};
 pub use intersecting::intersect;
