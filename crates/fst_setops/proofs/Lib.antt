@@ -15,3 +15,15 @@ pub mod SoughtOn
 pub mod SoughtReads
 pub mod SoughtTaking
 pub mod SoughtBegins
+pub mod Machines
+mod Second
+mod Leading
+pub mod Lifting
+pub mod Numbered
+pub mod Through
+pub mod Remaining
+pub mod SameString
+mod Resorted
+mod Unweighing
+pub mod OneAnswer
+mod Answering

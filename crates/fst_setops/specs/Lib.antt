@@ -10,3 +10,12 @@ pub mod Ways
 pub mod Sought
 pub mod Followed
 pub mod Prepared
+pub mod Faults
+pub mod Unweighted
+pub mod Named
+pub mod Difference
+pub mod Following
+pub mod Good
+pub mod Subtracting
+pub mod Intersecting
+pub mod Answers
