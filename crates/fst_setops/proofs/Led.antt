@@ -176,18 +176,35 @@ module _ {N : Type 0} (kind : ArcType) (g : Graph N) where
             weight = ap₂ (λ s w. gained kind g s (times kind c w) x) k.next k.weight ∙ (rest.weight ∙ times_assoc kind c k.arc.weight (product kind (letters rest.path)));
           }
 
-  module _ (single : IsSingle g) (values : IsWeighted kind g) where
+  module _ (single : IsSingle g) where
+    -- where a word that has a weight leads, and with which product
+    weighs_at : (x : List ℕ) (w : Cost) (h : WordWeighs kind g x w) → (place_of kind g x ≡ Some h.weighs.last) × (product_of kind g x ≡ product kind (letters h.weighs.path))
+    weighs_at x w h =
+        let p = h.weighs in
+        let along = path_led single p.path h.first p.last (one_of kind) p.leads in (
+          ap (λ s. led g s x) h.starts ∙ (ap (led g (Some h.first)) p.word ∙ along.0),
+          ap (λ (s : Option N). gained kind g s (begin_of kind s) x) h.starts ∙ (ap (gained kind g (Some h.first) (one_of kind)) p.word ∙ (along.1 ∙ one_times kind (product kind (letters p.path)))),
+        )
+
     -- the weight of a word that has one
+    weighs_is : (x : List ℕ) (w : Cost) → WordWeighs kind g x w → w ≡ weight_of kind g x
+    weighs_is x w h = let at = weighs_at x w h in h.weighs.weight ∙ ap₂ (times kind) (sym at.1) (ap (final_of g) (sym at.0))
+
+    -- a word has one weight
+    pub one_weight : (x : List ℕ) (v w : Cost) → IsWordWeight kind g x v → IsWordWeight kind g x w → v ≡ w
+    one_weight x v w (inl h) (inl k) = weighs_is x v h ∙ sym (weighs_is x w k)
+    one_weight x v w (inl h) (inr none) = absurd (none.0 v h)
+    one_weight x v w (inr none) (inl k) = absurd (none.0 w k)
+    one_weight x v w (inr none) (inr other) = none.1 ∙ sym other.1
+
+  module _ (single : IsSingle g) (values : IsWeighted kind g) where
+    -- which is not Zero
     weighs_led : (x : List ℕ) (w : Cost) → WordWeighs kind g x w → (w ≡ weight_of kind g x) × (w ≢ infinite)
     weighs_led x w h =
         let p = h.weighs in
-        let along = path_led single p.path h.first p.last (one_of kind) p.leads in
-        let here : led g (Some h.first) x ≡ Some p.last = ap (led g (Some h.first)) p.word ∙ along.0 in
-        let at : place_of kind g x ≡ Some p.last = ap (λ s. led g s x) h.starts ∙ here in
-        let gain : product_of kind g x ≡ product kind (letters p.path) =
-            ap (λ (s : Option N). gained kind g s (begin_of kind s) x) h.starts ∙ (ap (gained kind g (Some h.first) (one_of kind)) p.word ∙ (along.1 ∙ one_times kind (product kind (letters p.path)))) in
+        let at = (weighs_at single x w h).0 in
         let sound = word_sound values x in
-        let is : w ≡ weight_of kind g x = p.weight ∙ ap₂ (times kind) (sym gain) (ap (final_of g) (sym at)) in
+        let is : w ≡ weight_of kind g x = weighs_is single x w h in
         (is, (λ e. times_not_zero kind (product_of kind g x) (final_of g (place_of kind g x)) (sound.some p.last at) (λ f. p.final (ap (final_of g) (sym at) ∙ f)) (sym is ∙ e)))
 
     led_weighs : (x : List ℕ) → weight_of kind g x ≢ infinite → WordWeighs kind g x (weight_of kind g x)

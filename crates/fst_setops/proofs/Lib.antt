@@ -15,6 +15,11 @@ pub mod SoughtOn
 pub mod SoughtReads
 pub mod SoughtTaking
 pub mod SoughtBegins
+pub mod SoughtNoted
+pub mod Readied
+pub mod Telling
+pub mod Transferring
+pub mod OneComparison
 pub mod Machines
 mod Second
 mod Leading

@@ -10,6 +10,7 @@ pub mod Ways
 pub mod Sought
 pub mod Followed
 pub mod Prepared
+pub mod Readied
 pub mod Faults
 pub mod Unweighted
 pub mod Named

@@ -44,6 +44,10 @@ IsRepeated a b true state place = arcs.IsDeterministic a × IsFirst Repeats b st
 abbrev pub AreDeterministic : Machine Cost → Machine Cost → Type 0
 AreDeterministic a b = AreAcceptors a b × arcs.IsDeterministic a × arcs.IsDeterministic b
 
+-- both are deterministic acceptors, and factors of the arc type cancel
+abbrev pub AreComparable : ArcType → Machine Cost → Machine Cost → Type 0
+AreComparable kind a b = AreDeterministic a b × (cancels kind ≡ true)
+
 -- The fault stands against a comparison of these machines, and no fault before it does: this is the first arc with two
 -- labels; or there is none, and this is the first arc with the label of an earlier one; or there is none, and factors of
 -- the arc type do not cancel; or they do, and words lead to more pairs than the limit.
@@ -51,5 +55,5 @@ abbrev pub RefusesComparison : ArcType → Machine Cost → Machine Cost → ℕ
 RefusesComparison kind a b most (NotAcceptor second state place) = IsSplit a b second state place
 RefusesComparison kind a b most (NotDeterministic second state place) = AreAcceptors a b × IsRepeated a b second state place
 RefusesComparison kind a b most NotCancelling = AreDeterministic a b × (cancels kind ≡ false)
-RefusesComparison kind a b most (StateLimit limit) = AreDeterministic a b × (cancels kind ≡ true) × (limit ≡ most) × HasMoreConnectedPairs a b most
+RefusesComparison kind a b most (StateLimit limit) = AreComparable kind a b × (limit ≡ most) × HasMoreConnectedPairs a b most
 RefusesComparison kind a b most Memory = ⊥

@@ -1,84 +1,76 @@
 //! Whether two deterministic acceptors give each word the same weight.
 
-ghost use Rattle.std.specs.Prelude.{◌≡◌, ◌↔◌, ◌<◌, ◌≤◌, IfOk, OnOk};
+ghost use Rattle.std.specs.Prelude.{◌≡◌, ◌↔◌, ◌<◌, ◌≤◌, ℕ, true, None, IfOk, IfSome, MatchOption, OnOk};
+ghost use Rattle.fst_semiring.specs.Semiring.{cancels};
 ghost use Rattle.fst_machine.specs.Graph.{graph_of};
 ghost use Rattle.fst_machine.specs.Machine.{most_states, valued};
 ghost use Rattle.fst_trim.specs.WordWeights.{IsSingle, SameWords};
 ghost use Rattle.fst_setops.specs.Answers.{IsExactly};
-ghost use Rattle.fst_setops.specs.Verdicts.{HasRange, IsSaid, RefusesComparison};
+ghost use Rattle.fst_setops.specs.Prepared.{IsPrepared};
+ghost use Rattle.fst_setops.specs.Separating.{HasMorePairs};
+ghost use Rattle.fst_setops.specs.Sought.{IsEnded};
+ghost use Rattle.fst_setops.specs.Verdicts.{AreComparable, HasMoreConnectedPairs, HasRange, IsSaid, RefusesComparison};
+ghost use Rattle.fst_setops.specs.Ways.{AscendsStrictly};
 ghost use Rattle.fst_setops.specs.declared.equivalent_fault.EquivalentFault.TheVariants as faults;
 ghost use Rattle.fst_setops.specs.declared.verdict.Verdict.TheVariants as verdicts;
 
+use crate::acceptors::split_at;
 use crate::equivalent_fault::EquivalentFault;
-use crate::seeking::{Search, begin, take_words, weights_at};
 use crate::ready::make_ready;
+use crate::seeking::{Search, begin, take_words, weights_at};
 use crate::spelling::spell;
 use crate::verdict::Verdict;
-use fst_machine::{Fst, Step};
+use fst_machine::Fst;
 use fst_semiring::Weight;
-use fst_trim::{not_acceptor_at, not_deterministic_at, weigh};
+use fst_trim::{not_deterministic_at, weigh};
 use std::alloc::{AllocError, Global};
 
-/// The first arc of one of two machines with two different labels.
-fn split_at<W: Weight>(a: &Fst<W>, b: &Fst<W>) -> Option<EquivalentFault> {
-    if let Some(Step { state, place }) = not_acceptor_at(a) {
+/// Why two machines may not be compared.
+fn not_comparable<W: Weight>(alloc: Global, a: &Fst<W>, b: &Fst<W>) -> Option<EquivalentFault>
+    ensures { MatchOption result (AreComparable W.KIND (valued W.value a.now) (valued W.value b.now)) (λ fault. (most : ℕ) → RefusesComparison W.KIND (valued W.value a.now) (valued W.value b.now) most fault) }
+{
+    if let Some(split) = split_at(a, b) {
         return Some(EquivalentFault::NotAcceptor {
-            second: false,
-            state,
-            place,
+            second: split.second,
+            state: split.state,
+            place: split.place,
         });
     }
-    match not_acceptor_at(b) {
-        Some(Step { state, place }) => Some(EquivalentFault::NotAcceptor {
-            second: true,
-            state,
-            place,
-        }),
-        None => None,
-    }
-}
-
-/// The first arc of one of two machines with the label of an earlier one of its state.
-fn repeated_at<W: Weight>(alloc: Global, a: &Fst<W>, b: &Fst<W>) -> Option<EquivalentFault> {
-    if let Some(Step { state, place }) = not_deterministic_at(alloc, a) {
+    if let Some(step) = not_deterministic_at(alloc, a) {
         return Some(EquivalentFault::NotDeterministic {
             second: false,
-            state,
-            place,
+            state: step.state,
+            place: step.place,
         });
     }
-    match not_deterministic_at(alloc, b) {
-        Some(Step { state, place }) => Some(EquivalentFault::NotDeterministic {
+    if let Some(step) = not_deterministic_at(alloc, b) {
+        return Some(EquivalentFault::NotDeterministic {
             second: true,
-            state,
-            place,
-        }),
-        None => None,
+            state: step.state,
+            place: step.place,
+        });
     }
+    if W::CANCELS {
+        return None;
+    }
+    Some(EquivalentFault::NotCancelling)
 }
 
-/// Why two machines may not be compared.
-fn not_comparable<W: Weight>(alloc: Global, a: &Fst<W>, b: &Fst<W>) -> Option<EquivalentFault> {
-    if let Some(fault) = split_at(a, b) {
-        return Some(fault);
-    }
-    if let Some(fault) = repeated_at(alloc, a, b) {
-        return Some(fault);
-    }
-    if !W::CANCELS {
-        return Some(EquivalentFault::NotCancelling);
-    }
-    None
-}
-
-/// The verdict, where a word was noted.
+/// The verdict of a search that has ended: that of the word noted, if one is.
 fn verdict_of<W: Weight>(
     alloc: Global,
     search: &Search<W>,
     a: &Fst<W>,
     b: &Fst<W>,
     noted: Option<usize>,
-) -> Result<Verdict<W>, AllocError> {
+) -> Result<Verdict<W>, AllocError>
+    requires first { IsPrepared W.KIND W.value a.now }
+    requires second { IsPrepared W.KIND W.value b.now }
+    requires cancel { cancels W.KIND ≡ true }
+    requires ended { IsEnded W.KIND W.wide_value (graph_of (valued W.value a.now)) (graph_of (valued W.value b.now)) most_states search.now.pairs search.now.slots.items search.now.nodes.items noted }
+    ensures said { IfOk result (IsSaid W.KIND W.wide_value (graph_of (valued W.value a.now)) (graph_of (valued W.value b.now))) }
+    ensures range { IfOk result (HasRange W.wide_value) }
+{
     let Some(place) = noted else {
         return Ok(Verdict::Equivalent);
     };
@@ -91,30 +83,48 @@ fn verdict_of<W: Weight>(
     })
 }
 
-/// Compares two machines that are connected and in order.
+/// Compares two machines that are connected and in order; or tells that words lead to more pairs than the limit.
 fn compare_ready<W: Weight>(
     alloc: Global,
     a: &Fst<W>,
     b: &Fst<W>,
     max_states: u32,
-) -> Result<Result<Verdict<W>, EquivalentFault>, AllocError> {
+) -> Result<Option<Verdict<W>>, AllocError>
+    requires some { 0 < max_states }
+    requires few { max_states ≤ most_states }
+    requires first { (p : ℕ) → AscendsStrictly ((graph_of (valued W.value a.now)).arcs p) }
+    requires second { (p : ℕ) → AscendsStrictly ((graph_of (valued W.value b.now)).arcs p) }
+    requires cancel { cancels W.KIND ≡ true }
+    ensures said { IfOk result (λ o. IfSome o (IsSaid W.KIND W.wide_value (graph_of (valued W.value a.now)) (graph_of (valued W.value b.now)))) }
+    ensures range { IfOk result (λ o. IfSome o (HasRange W.wide_value)) }
+    ensures fits { IfOk result (λ o. IfSome o (λ v. HasMorePairs (graph_of (valued W.value a.now)) (graph_of (valued W.value b.now)) max_states → ⊥)) }
+    ensures stops { IfOk result (λ o. o ≡ None → HasMorePairs (graph_of (valued W.value a.now)) (graph_of (valued W.value b.now)) max_states) }
+{
     weigh(a);
     weigh(b);
     let mut search = begin(alloc, a, b, max_states)?;
     let Some(noted) = take_words(&mut search, a, b, max_states)? else {
-        return Ok(Err(EquivalentFault::StateLimit { limit: max_states }));
+        return Ok(None);
     };
     let verdict = verdict_of(alloc, &search, a, b, noted)?;
-    Ok(Ok(verdict))
+    Ok(Some(verdict))
 }
 
-/// Compares two deterministic acceptors whose factors cancel.
+/// Compares two deterministic acceptors whose factors cancel; or tells that words lead to more pairs than the limit.
 fn compare<W: Weight>(
     alloc: Global,
     a: &Fst<W>,
     b: &Fst<W>,
     max_states: u32,
-) -> Result<Result<Verdict<W>, EquivalentFault>, AllocError> {
+) -> Result<Option<Verdict<W>>, AllocError>
+    requires some { 0 < max_states }
+    requires few { max_states ≤ most_states }
+    requires comparable { AreComparable W.KIND (valued W.value a.now) (valued W.value b.now) }
+    ensures said { IfOk result (λ o. IfSome o (IsSaid W.KIND W.wide_value (graph_of (valued W.value a.now)) (graph_of (valued W.value b.now)))) }
+    ensures range { IfOk result (λ o. IfSome o (HasRange W.wide_value)) }
+    ensures fits { IfOk result (λ o. IfSome o (λ v. HasMoreConnectedPairs (valued W.value a.now) (valued W.value b.now) max_states → ⊥)) }
+    ensures stops { IfOk result (λ o. o ≡ None → HasMoreConnectedPairs (valued W.value a.now) (valued W.value b.now) max_states) }
+{
     let first = make_ready(alloc, a)?;
     let second = make_ready(alloc, b)?;
     compare_ready(alloc, first.fst(), second.fst(), max_states)
@@ -151,7 +161,8 @@ pub fn equivalent<W: Weight>(
         return Err(fault);
     }
     match compare(alloc, a, b, max_states) {
-        Ok(compared) => compared,
+        Ok(Some(verdict)) => Ok(verdict),
+        Ok(None) => Err(EquivalentFault::StateLimit { limit: max_states }),
         // A lack of memory becomes a fault here alone.
         Err(_) => Err(EquivalentFault::Memory),
     }

@@ -1,12 +1,19 @@
 //! Acceptors made ready to be followed side by side.
 
+ghost use Rattle.std.specs.Prelude.{IfOk};
+ghost use Rattle.fst_machine.specs.Machine.{valued};
+ghost use Rattle.fst_trim.specs.Handed.{machine_of};
+ghost use Rattle.fst_setops.specs.Readied.{IsOrderedAs, IsReadied};
+
 use fst_machine::Fst;
 use fst_semiring::Weight;
 use fst_trim::{Handed, Side, arcsort, connect_kept, into_arcsorted, is_sorted};
 use std::alloc::{AllocError, Global};
 
 /// A machine with the arcs of each state by their labels.
-fn in_order<'a, W: Weight>(alloc: Global, a: Handed<'a, W>) -> Result<Handed<'a, W>, AllocError> {
+fn in_order<'a, W: Weight>(alloc: Global, a: Handed<'a, W>) -> Result<Handed<'a, W>, AllocError>
+    ensures { IfOk result (λ c. IsOrderedAs (valued W.value (machine_of a.entry)) (valued W.value (machine_of c))) }
+{
     if is_sorted(a.fst(), Side::Input) {
         return Ok(a);
     }
@@ -20,7 +27,9 @@ fn in_order<'a, W: Weight>(alloc: Global, a: Handed<'a, W>) -> Result<Handed<'a,
 pub(crate) fn make_ready<'a, W: Weight>(
     alloc: Global,
     a: &'a Fst<W>,
-) -> Result<Handed<'a, W>, AllocError> {
+) -> Result<Handed<'a, W>, AllocError>
+    ensures { IfOk result (λ c. IsReadied (valued W.value a.now) (valued W.value (machine_of c))) }
+{
     let connected = connect_kept(alloc, Handed::Lent(a))?;
     in_order(alloc, connected.machine)
 }
