@@ -15,11 +15,10 @@ pub returns-in-Some-not_deterministic_at-2 : goal.returns-in-Some-not_determinis
 returns-in-Some-not_deterministic_at-2 g c most =
     let value = g.W.Weight.value in
     let a = c.args.a.now in
-    let b = c.args.b.now in (
-      c.in_default.ensures,
-      first_meets Repeats Repeats a (valued value a) (repeats-valued value a) None c.in_default-not_deterministic_at.ensures,
-      first_meets Repeats Repeats b (valued value b) (repeats-valued value b) (Some c.in-Some-not_deterministic_at-2.step) c.in-Some-not_deterministic_at-2.ensures,
-    )
+    let b = c.args.b.now in
+    let first = first_meets Repeats Repeats a (valued value a) (repeats-valued value a) None c.in_default-not_deterministic_at.ensures in
+    let second = first_meets Repeats Repeats b (valued value b) (repeats-valued value b) (Some c.in-Some-not_deterministic_at-2.step) c.in-Some-not_deterministic_at-2.ensures in
+    (c.in_default.ensures, (first, second))
 
 pub returns-then-CANCELS : goal.returns-then-CANCELS
 returns-then-CANCELS g c =
