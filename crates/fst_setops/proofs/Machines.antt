@@ -35,7 +35,7 @@ module _ (m : Machine Cost) where
       by_labels (inr other) = let s = arc_state p k a at in absurd (none p k (meets _ p k s.0 s.1 (record { arc = a; there = s.2; differ = other })))
 
   -- two arcs of a deterministic machine with one label stand in one place
-  repeated : IsDeterministic m → (p i j : ℕ) (a b : Arc Cost ℕ) → i < j → slice_get ((graph_of m).arcs p) i ≡ Some a → slice_get ((graph_of m).arcs p) j ≡ Some b → a.ilabel ≡ b.ilabel → ⊥
+  pub repeated : IsDeterministic m → (p i j : ℕ) (a b : Arc Cost ℕ) → i < j → slice_get ((graph_of m).arcs p) i ≡ Some a → slice_get ((graph_of m).arcs p) j ≡ Some b → a.ilabel ≡ b.ilabel → ⊥
   repeated none p i j a b low one two same =
       let s = arc_state p i a one in
       let t = arc_state p j b two in

@@ -24,7 +24,7 @@ use Rattle.fst_setops.specs.declared.fault.IntersectFault.{IntersectFault}
 use Rattle.fst_setops.specs.declared.fault.IntersectFault.TheVariants as intersections
 
 -- the first arc with a property is one
-one_first : {F : Type 0} (P : List (Arc Cost ℕ) → ℕ → Type 0) (m : Machine Cost) (f : ℕ → ℕ → F) (s p t q : ℕ) → IsFirst P m s p → IsFirst P m t q → f s p ≡ f t q
+pub one_first : {F : Type 0} (P : List (Arc Cost ℕ) → ℕ → Type 0) (m : Machine Cost) (f : ℕ → ℕ → F) (s p t q : ℕ) → IsFirst P m s p → IsFirst P m t q → f s p ≡ f t q
 one_first {F} P m f s p t q one two = by_step (one_first_arc P m (Some (step s p)) (Some (step t q)) one two)
   where
     step : ℕ → ℕ → Step
@@ -40,7 +40,7 @@ module _ (a b : Machine Cost) where
   unsplit true s p split both = both.1 s p split.1.0
 
   -- and there is one first
-  one_split : {F : Type 0} (f : Bool → ℕ → ℕ → F) (c d : Bool) (s p t q : ℕ) → IsSplit a b c s p → IsSplit a b d t q → f c s p ≡ f d t q
+  pub one_split : {F : Type 0} (f : Bool → ℕ → ℕ → F) (c d : Bool) (s p t q : ℕ) → IsSplit a b c s p → IsSplit a b d t q → f c s p ≡ f d t q
   one_split f false false s p t q one two = one_first HasTwoLabels a (f false) s p t q one two
   one_split f false true s p t q one two = absurd (two.0 s p one.0)
   one_split f true false s p t q one two = absurd (one.0 t q two.0)

@@ -1,3 +1,16 @@
+pub mod Separating
+pub mod EquivalentFaults
+pub mod Verdicts
+pub mod Led
+pub mod Closing
+pub mod Kept
+pub mod Found
+pub mod PairNumbers
+pub mod Ways
+pub mod Sought
+pub mod Followed
+pub mod Prepared
+pub mod Readied
 pub mod Faults
 pub mod Unweighted
 pub mod Named
