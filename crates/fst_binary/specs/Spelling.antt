@@ -35,13 +35,15 @@ count_fields m = signed (start_number m.start) ++ long (length m.states) ++ long
 -- written
 abbrev pub header_fields : ArcType → Sides → Option ℕ → ℕ → ℕ → List ℕ
 header_fields kind s start states arcs =
-    type_fields kind ++ word (version_of s.isymbols s.osymbols) ++ word (flags_of s.isymbols s.osymbols) ++ long 3 ++ (signed (start_number start) ++ long states ++ long arcs) ++ side_fields s.isymbols ++ side_fields s.osymbols
+    type_fields kind ++ word (version_of s.isymbols s.osymbols) ++ word (flags_of s.isymbols s.osymbols) ++ long 3
+    ++ (signed (start_number start) ++ long states ++ long arcs) ++ side_fields s.isymbols ++ side_fields s.osymbols
 
 -- A machine and its tables with these eight bytes as its properties: its types, the version and the flags, its counts, the
 -- tables that are there, its states.
 abbrev pub tabled_with : List ℕ → ArcType → Machine Cost → Sides → List ℕ
 tabled_with properties kind m s =
-    type_fields kind ++ word (version_of s.isymbols s.osymbols) ++ word (flags_of s.isymbols s.osymbols) ++ properties ++ count_fields m ++ (side_fields s.isymbols ++ (side_fields s.osymbols ++ flat_map (state_fields kind) m.states))
+    type_fields kind ++ word (version_of s.isymbols s.osymbols) ++ word (flags_of s.isymbols s.osymbols) ++ properties
+    ++ count_fields m ++ (side_fields s.isymbols ++ (side_fields s.osymbols ++ flat_map (state_fields kind) m.states))
 
 -- a machine and its tables with the properties 3, as it is written
 abbrev pub tabled_spelling : ArcType → Machine Cost → Sides → List ℕ

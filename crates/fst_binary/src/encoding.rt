@@ -464,25 +464,11 @@ pub fn encode_tabled<W: Weight>(alloc: Global, tabled: &Tabled<W>) -> Result<Vec
     write_tabled(alloc, tabled)
 }
 
-/// The bytes of a machine that is given away, made where the content of a room stood, which is thrown away. A room that
-/// suffices is used as it is, and then no memory is asked for, and nothing fails. One that does not grows to the exact
-/// number of bytes, as an empty one does, and a machine of 1,048,576 arcs or more gives back the room of its arcs as
-/// `encode_given` says. No room is given back: bytes where a much longer content stood keep all of it.
-pub fn encode_into<W: Weight>(room: Vec<u8>, fst: Fst<W>) -> Result<Vec<u8>, AllocError>
-    // Whatever stood in the room, the bytes are those of `encode`.
-    ensures spelled { IfOk result (λ bytes. bytes.items ≡ spelling W.KIND (valued W.value fst)) }
-    ensures again { IfOk result (λ bytes. machine_of_bytes W.KIND bytes.items ≡ Ok (valued W.value fst)) }
-    ensures named { IfOk result (λ bytes. Contains known W.KIND → arc_type_of_bytes bytes.items ≡ Ok W.KIND) }
-    // The room is kept, and a room that suffices never fails.
-    ensures kept { IfOk result (λ bytes. vec_capacity room ≤ vec_capacity bytes) }
-    ensures succeeds { length (spelling W.KIND (valued W.value fst)) ≤ vec_capacity room → IsOk result }
-    ensures fits { HasSpelling W.KIND (valued W.value fst) }
-{
-    write_given(room, fst, &LentTables::none())
-}
-
-/// The bytes of a machine that is given away and of symbol tables that are lent, made where the content of a room stood, as
-/// `encode_into` makes them.
+/// The bytes of a machine that is given away and of symbol tables that are lent, written over the content of a room, which
+/// is thrown away. A room that suffices is used as it is: then no memory is asked for, and nothing fails. One that does not
+/// grows to the exact number of bytes. Where it grows, and the machine has 1,048,576 arcs or more whose states have none
+/// apart from those of the others, their room is given back in about four parts as they are written. So a machine and its
+/// bytes are not held whole beside each other. No room of the bytes is given back. Takes time by these bytes.
 pub fn encode_tabled_into<W: Weight>(
     room: Vec<u8>,
     fst: Fst<W>,
@@ -501,24 +487,8 @@ pub fn encode_tabled_into<W: Weight>(
     write_given(room, fst, tables)
 }
 
-/// The bytes of a machine in two lists that is given away, made where the content of a room stood, which is thrown away. A
-/// room that suffices is used as it is, and then no memory is asked for, and nothing fails; one that does not grows to the
-/// exact number of bytes. The first list is freed when it is written, before the second is. No room is given back.
-pub fn encode_joined<W: Weight>(room: Vec<u8>, joined: Joined<W>) -> Result<Vec<u8>, AllocError>
-    // Whatever stood in the room, the bytes are those of the machine whose states stand in one list.
-    ensures spelled { IfOk result (λ bytes. bytes.items ≡ spelling W.KIND (valued W.value joined)) }
-    ensures again { IfOk result (λ bytes. machine_of_bytes W.KIND bytes.items ≡ Ok (valued W.value joined)) }
-    ensures named { IfOk result (λ bytes. Contains known W.KIND → arc_type_of_bytes bytes.items ≡ Ok W.KIND) }
-    // The room is kept, and a room that suffices never fails.
-    ensures kept { IfOk result (λ bytes. vec_capacity room ≤ vec_capacity bytes) }
-    ensures succeeds { length (spelling W.KIND (valued W.value joined)) ≤ vec_capacity room → IsOk result }
-    ensures fits { HasSpelling W.KIND (valued W.value joined) }
-{
-    write_joined(room, joined, &LentTables::none())
-}
-
-/// The bytes of a machine in two lists that is given away and of symbol tables that are lent, made where the content of a
-/// room stood, as `encode_joined` makes them.
+/// The bytes of a machine in two lists that is given away and of symbol tables that are lent, written over the content of a
+/// room as `encode_tabled_into` writes them. The first list is freed when it is written, before the second is.
 pub fn encode_tabled_joined<W: Weight>(
     room: Vec<u8>,
     joined: Joined<W>,
@@ -535,17 +505,4 @@ pub fn encode_tabled_joined<W: Weight>(
     ensures sides { HasSides tables.now }
 {
     write_joined(room, joined, tables)
-}
-
-/// The bytes of a machine that is given away. Where it has 1,048,576 arcs or more, and none of its states has arcs
-/// apart from those of the others, their room is given back in about four parts of as many states as they are written,
-/// so that a machine whose arcs are spread over its states and its bytes do not stand beside each other whole. Nothing
-/// fails after the bytes were reserved.
-pub fn encode_given<W: Weight>(alloc: Global, fst: Fst<W>) -> Result<Vec<u8>, AllocError>
-    ensures spelled { IfOk result (λ bytes. bytes.items ≡ spelling W.KIND (valued W.value fst)) }
-    ensures again { IfOk result (λ bytes. machine_of_bytes W.KIND bytes.items ≡ Ok (valued W.value fst)) }
-    ensures named { IfOk result (λ bytes. Contains known W.KIND → arc_type_of_bytes bytes.items ≡ Ok W.KIND) }
-    ensures fits { HasSpelling W.KIND (valued W.value fst) }
-{
-    encode_into(Vec::new(alloc), fst)
 }

@@ -16,10 +16,7 @@ mod table;
 mod tabled;
 
 pub use decoding::{decode, decode_tabled};
-pub use encoding::{
-    encode, encode_given, encode_into, encode_joined, encode_tabled, encode_tabled_into,
-    encode_tabled_joined,
-};
+pub use encoding::{encode, encode_tabled, encode_tabled_into, encode_tabled_joined};
 pub use fault::{BinaryFault, BinaryKind};
 pub use fst_bytes::{WeightFieldFault, push_weight_field, read_weight_field, weight_length};
 pub use header::arc_type;

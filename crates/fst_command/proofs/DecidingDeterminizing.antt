@@ -8,7 +8,8 @@ use Rattle.fst_trim.specs.FirstArcs as arcs
 use Rattle.fst_trim.proofs.Valued.{valued_costs}
 use Rattle.fst_walk.proofs.OneAnswer.{one_named, one_stop}
 use Rattle.fst_determinize.specs.Answers.{Refuses, cause_of}
-use Rattle.fst_determinize.specs.Ways.{IsWeighted, subsets}
+use Rattle.fst_trim.specs.Weighed.{IsWeighted}
+use Rattle.fst_determinize.specs.Ways.{subsets}
 use Rattle.fst_determinize.specs.declared.fault.DeterminizeFault.{DeterminizeFault}
 use Rattle.fst_determinize.specs.declared.fault.DeterminizeFault.TheVariants.{NotAcceptor, StateLimit, TooManyArcs, Overflow, Memory}
 use Rattle.fst_determinize.proofs.Answering.{cause_back, unfit_exact}

@@ -9,7 +9,8 @@ use Rattle.fst_determinize.specs.Answers.{Refuses}
 use Rattle.fst_determinize.specs.Faults.{determinize_text}
 use Rattle.fst_determinize.specs.Subsets.{Member}
 use Rattle.fst_determinize.specs.Theorem.{AreSubsets, IsDeterminized}
-use Rattle.fst_determinize.specs.Ways.{IsWeighted, subsets}
+use Rattle.fst_trim.specs.Weighed.{IsWeighted}
+use Rattle.fst_determinize.specs.Ways.{subsets}
 use Rattle.fst_determinize.specs.declared.fault.DeterminizeFault.{DeterminizeFault}
 use Rattle.fst_walk.specs.Answers.{IsNamed}
 use Rattle.fst_words.specs.declared.options.Options.{Options}

@@ -8,7 +8,8 @@ use Rattle.fst_machine.specs.Graph.{graph_of}
 use Rattle.fst_machine.specs.Machine.{Machine}
 use Rattle.fst_minimize.specs.Faults.{minimize_text}
 use Rattle.fst_minimize.specs.Minimized.{IsMinimizeFault, IsMinimized}
-use Rattle.fst_minimize.specs.Words.{IsMinimal, SameWords}
+use Rattle.fst_trim.specs.WordWeights.{SameWords}
+use Rattle.fst_minimize.specs.Fewest.{IsMinimal}
 use Rattle.fst_minimize.specs.declared.fault.MinimizeFault.{MinimizeFault}
 use Rattle.fst_minimize.specs.declared.fault.MinimizeFault.TheVariants.{Memory}
 use Rattle.fst_command.specs.Causes.{unmade}

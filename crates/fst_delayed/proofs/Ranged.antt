@@ -17,10 +17,6 @@ use Rattle.fst_compose.specs.Good.{composed_good}
 use Rattle.fst_compose.specs.Names.{Name}
 use Rattle.fst_delayed.specs.Graphs.{HasSmallArcs, IsRanged}
 
--- what holds of those before one, and of it
-pub all_more : {X : Type 0} (P : X → Type 0) (xs : List X) (i : ℕ) (x : X) → i < length xs → x ≡ get_or xs i x → All P (take i xs) → P x → All P (take (i + 1) xs)
-all_more P xs i x low is all one = subst (All P) (sym (take_more xs i x low ∙ ap (λ y. take i xs ++ y ∷ []) (sym is))) (All-push P (take i xs) x all one)
-
 module _ {V : Type 0} (value : V → Cost) (m : Machine V) where
   -- the arcs of a state, as the graph has them
   pub ranged_at : (p : ℕ) (arcs : List (Arc V ℕ)) → option_map (λ s. s.arcs) (slice_get m.states p) ≡ Some arcs → All (λ a. InRange (value a.weight)) arcs → All (λ a. InRange a.weight) ((graph_of (valued value m)).arcs p)

@@ -17,7 +17,8 @@ use Rattle.fst_walk.specs.Answers as walked
 use Rattle.fst_walk.specs.declared.fault.WalkFault.{WalkFault}
 use Rattle.fst_walk.specs.declared.fault.WalkFault.TheVariants as walk
 use Rattle.fst_determinize.specs.Answers.{IsExact, Refuses, cause_of}
-use Rattle.fst_determinize.specs.Ways.{IsAcceptor, IsWeighted, subsets}
+use Rattle.fst_trim.specs.Weighed.{IsWeighted}
+use Rattle.fst_determinize.specs.Ways.{IsAcceptor, subsets}
 use Rattle.fst_determinize.specs.declared.fault.DeterminizeFault.{DeterminizeFault}
 use Rattle.fst_determinize.specs.declared.fault.DeterminizeFault.TheVariants.{NotAcceptor, StateLimit, TooManyArcs, Overflow, Memory}
 use Rattle.fst_determinize.proofs.Theorem.{more_back, more_there}

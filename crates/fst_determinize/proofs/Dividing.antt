@@ -11,12 +11,6 @@ use Rattle.fst_semiring.proofs.Dividing.{quotient_undone}
 use Rattle.fst_semiring.proofs.Laws.{pair_eq, times_keeps, times_one}
 use Rattle.fst_semiring.proofs.Order.{plus_unless}
 
-pub zero_kind : (kind : ArcType) → IsCost kind infinite
-zero_kind Boolean = tt
-zero_kind Tropical = tt
-zero_kind MinMax = tt
-zero_kind Lexicographic = tt
-
 difference_shared : (c v w : Cost) → c ≢ best → c ≢ infinite → v ≢ best → v ≢ infinite → difference_of (sum_of c w) (sum_of c v) ≡ difference_of w v
 difference_shared infinite v w nc ic nv iv = absurd (ic refl)
 difference_shared best v w nc ic nv iv = absurd (nc refl)

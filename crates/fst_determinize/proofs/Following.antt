@@ -18,7 +18,8 @@ use Rattle.fst_machine.proofs.Elements.{Has_at}
 use Rattle.fst_machine.proofs.Least.{least_one}
 use Rattle.fst_machine.proofs.PathParts.{IsPath-split}
 use Rattle.fst_determinize.specs.Subsets.{HasSubset, IsSubset, Member, Spells, SpellsSome}
-use Rattle.fst_determinize.specs.Ways.{IsWeighted, Way, arc_by, arcs_by, having, start_members, subsets, way_by, ways}
+use Rattle.fst_trim.specs.Weighed.{IsWeighted}
+use Rattle.fst_determinize.specs.Ways.{Way, arc_by, arcs_by, having, start_members, subsets, way_by, ways}
 use Rattle.fst_determinize.proofs.Dividing.{one_quotient}
 use Rattle.fst_determinize.proofs.Members.{Has_ways, one_subset}
 use Rattle.fst_determinize.proofs.Spelling.{spells_nothing, spells_start, spells_weighs, word_first, word_split}

@@ -17,7 +17,7 @@ use Rattle.fst_determinize.specs.Ways.{best_by, final_by, members_of, way_by, wa
 use Rattle.fst_determinize.proofs.Elements.{Has_map}
 use Rattle.fst_determinize.proofs.Forms.{best_push}
 use Rattle.fst_determinize.proofs.Grouped.{Has_grouped}
-use Rattle.fst_determinize.proofs.Machines.{graph_final}
+use Rattle.fst_trim.proofs.Weighed.{graph_final}
 use Rattle.fst_determinize.proofs.Runs.{Has_All}
 use Rattle.fst_determinize.specs.Ways.{Way, having, member_by}
 use Rattle.fst_determinize.specs.Kept.{way_as}

@@ -7,7 +7,6 @@ pub mod Spelling
 pub mod Members
 pub mod Stepping
 pub mod Following
-pub mod Words
 pub mod Soonest
 pub mod Weights
 pub mod Theorem

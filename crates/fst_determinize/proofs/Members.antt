@@ -13,7 +13,8 @@ use Rattle.fst_machine.specs.Machine.{Arc}
 use Rattle.fst_machine.proofs.Elements.{Has_at, at_Has}
 use Rattle.fst_machine.proofs.Weights.{one_least}
 use Rattle.fst_determinize.specs.Subsets.{IsSubset, Member, Spells, SpellsSome}
-use Rattle.fst_determinize.specs.Ways.{IsWeighted, Way, member_ways, way_by, ways}
+use Rattle.fst_trim.specs.Weighed.{IsWeighted}
+use Rattle.fst_determinize.specs.Ways.{Way, member_ways, way_by, ways}
 use Rattle.fst_determinize.proofs.Ascending.{ascending_same}
 use Rattle.fst_determinize.proofs.Best.{least_reached, least_some}
 use Rattle.fst_determinize.proofs.Elements.{Has_flat_map, Has_map, flat_map_Has, map_Has}

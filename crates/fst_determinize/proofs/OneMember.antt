@@ -14,7 +14,8 @@ use Rattle.fst_machine.proofs.Walking.{graph_arcs}
 use Rattle.fst_determinize.specs.Kept.{HeldAs, member_as, members_as}
 use Rattle.fst_determinize.specs.Subsets.{AscendsBy, Member}
 use Rattle.fst_determinize.specs.Ways.{Way, arc_by, arcs_by, member_ways, single_arc, subsets, way_by, ways}
-use Rattle.fst_determinize.specs.Weighed.{AreMembers, IsWeighed}
+use Rattle.fst_trim.specs.Weighed.{IsWeighed}
+use Rattle.fst_determinize.specs.Weighed.{AreMembers}
 use Rattle.fst_determinize.proofs.Elements.{Has_flat_map, Has_map, map_Has}
 use Rattle.fst_determinize.proofs.Grouped.{grouped_split}
 use Rattle.fst_determinize.proofs.Machines.{ways_good}

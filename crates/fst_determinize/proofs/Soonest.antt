@@ -14,9 +14,9 @@ use Rattle.fst_machine.proofs.Elements.{Apart_at, Has_at, at_Has}
 use Rattle.fst_machine.proofs.PathParts.{IsPath-append, same_transition}
 use Rattle.fst_machine.proofs.Walks.{walked_from_start}
 use Rattle.fst_determinize.specs.Subsets.{AscendsBy}
-use Rattle.fst_determinize.specs.Theorem.{IsSooner}
+use Rattle.fst_trim.specs.WordOrder.{IsSooner}
 use Rattle.fst_determinize.proofs.Spelling.{word-push}
-use Rattle.fst_determinize.proofs.Words.{empty_first, sooner_last, sooner_push}
+use Rattle.fst_trim.proofs.WordOrder.{empty_first, sooner_last, sooner_push}
 
 -- of two elements of an ascending list the earlier has the lesser key
 ascends_at : {X : Type 0} (key : X → ℕ) (xs : List X) (i j : ℕ) (x y : X) → AscendsBy key xs → slice_get xs i ≡ Some x → slice_get xs j ≡ Some y → i < j → key x < key y

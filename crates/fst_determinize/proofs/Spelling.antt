@@ -13,7 +13,7 @@ use Rattle.fst_machine.specs.Paths.{IsPath, Transition, letters}
 use Rattle.fst_machine.proofs.Letters.{label_word-append, letters-append, product-append}
 use Rattle.fst_machine.proofs.PathParts.{IsPath-append, IsPath-split}
 use Rattle.fst_determinize.specs.Subsets.{Spells}
-use Rattle.fst_determinize.specs.Ways.{IsWeighted}
+use Rattle.fst_trim.specs.Weighed.{IsWeighted}
 
 module _ {N : Type 0} where
   -- a path is cut where its label word is

@@ -13,9 +13,11 @@ use Rattle.fst_machine.specs.Graph.{Graph}
 use Rattle.fst_machine.specs.Machine.{Arc}
 use Rattle.fst_machine.proofs.Elements.{at_Has}
 use Rattle.fst_determinize.specs.Subsets.{HasSubset, IsSubset, Member, Spells, SpellsSome}
-use Rattle.fst_determinize.specs.Ways.{IsWeighted, Way, arc_by, arcs_by, best_of, having, member_by, members_of, ways}
+use Rattle.fst_trim.specs.Weighed.{IsWeighted}
+use Rattle.fst_determinize.specs.Ways.{Way, arc_by, arcs_by, best_of, having, member_by, members_of, ways}
 use Rattle.fst_determinize.proofs.Best.{Weighs, best_holds, best_least, best_no_worse, least_through}
-use Rattle.fst_determinize.proofs.Dividing.{quotient_kept, quotient_shared, times_worsens, zero_kind}
+use Rattle.fst_trim.proofs.Weighed.{zero_kind}
+use Rattle.fst_determinize.proofs.Dividing.{quotient_kept, quotient_shared, times_worsens}
 use Rattle.fst_determinize.proofs.Grouped.{Has_grouped, Has_having, grouped_Has, grouped_ascends, having_Has}
 use Rattle.fst_determinize.proofs.Members.{Has_ways, member_stands, residual_kind, ways_Has}
 use Rattle.fst_determinize.proofs.Spelling.{spells_back, spells_on, spells_weighs}

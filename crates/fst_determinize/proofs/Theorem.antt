@@ -22,8 +22,10 @@ use Rattle.fst_machine.proofs.Weights.{same_weight}
 use Rattle.fst_walk.specs.Answers.{ReachesMore}
 use Rattle.fst_walk.specs.Names.{IsNear}
 use Rattle.fst_determinize.specs.Subsets.{AscendsBy, HasSubset, IsSubset, Member}
-use Rattle.fst_determinize.specs.Theorem.{AreSubsets, HasMoreSubsets, IsDeterminized, IsLeastWord, IsSooner}
-use Rattle.fst_determinize.specs.Ways.{IsAcceptor, IsWeighted, arc_by, subsets, ways}
+use Rattle.fst_trim.specs.WordOrder.{IsSooner}
+use Rattle.fst_determinize.specs.Theorem.{AreSubsets, HasMoreSubsets, IsDeterminized, IsLeastWord}
+use Rattle.fst_trim.specs.Weighed.{IsWeighted}
+use Rattle.fst_determinize.specs.Ways.{IsAcceptor, arc_by, subsets, ways}
 use Rattle.fst_determinize.proofs.Elements.{Has_map}
 use Rattle.fst_determinize.proofs.Following.{follow_start, reach_subset}
 use Rattle.fst_determinize.proofs.Grouped.{grouped_ascends}
@@ -31,7 +33,7 @@ use Rattle.fst_determinize.proofs.Weights.{same_weights}
 use Rattle.fst_determinize.proofs.Members.{member_stands, one_subset}
 use Rattle.fst_determinize.proofs.Soonest.{Leads, Soonest, one_way, soonest}
 use Rattle.fst_determinize.proofs.Spelling.{spells_within, word_length}
-use Rattle.fst_determinize.proofs.Words.{sooner_once}
+use Rattle.fst_trim.proofs.WordOrder.{sooner_once}
 
 -- an ascending list was ascending before it was mapped
 ascends_before : {X Y : Type 0} (f : X → Y) (key : X → ℕ) (tag : Y → ℕ) → ((x : X) → tag (f x) ≡ key x) → (xs : List X) → AscendsBy tag (map f xs) → AscendsBy key xs

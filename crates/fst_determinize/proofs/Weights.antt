@@ -12,7 +12,8 @@ use Rattle.fst_machine.specs.Paths.{IsPath, Transition, letters}
 use Rattle.fst_machine.specs.Relation.{IsWeight, Rel}
 use Rattle.fst_machine.proofs.Elements.{at_Has}
 use Rattle.fst_determinize.specs.Subsets.{Member, Spells}
-use Rattle.fst_determinize.specs.Ways.{IsAcceptor, IsWeighted, arc_by, arcs_by, final_by, subsets, ways}
+use Rattle.fst_trim.specs.Weighed.{IsWeighted}
+use Rattle.fst_determinize.specs.Ways.{IsAcceptor, arc_by, arcs_by, final_by, subsets, ways}
 use Rattle.fst_determinize.proofs.Best.{Weighs, best_least, best_no_worse, least_reached}
 use Rattle.fst_determinize.proofs.Following.{follow_start, reach_word}
 use Rattle.fst_determinize.proofs.Grouped.{grouped_Has}

@@ -8,7 +8,8 @@ use Rattle.fst_machine.specs.Graph.{Graph, graph_of}
 use Rattle.fst_machine.specs.Machine.{Arc, Machine}
 use Rattle.fst_walk.specs.Answers.{IsNamed, ReachesMore}
 use Rattle.fst_determinize.specs.Subsets.{IsSubset, Member}
-use Rattle.fst_determinize.specs.Ways.{IsAcceptor, IsWeighted, start_members, subsets}
+use Rattle.fst_trim.specs.Weighed.{IsWeighted}
+use Rattle.fst_determinize.specs.Ways.{IsAcceptor, start_members, subsets}
 use Rattle.fst_determinize.specs.Theorem.{AreSubsets, HasMoreSubsets, IsDeterminized}
 
 -- A word has at most one subset, the empty word that of the start, and each arc of a word's subset leads to that of the

@@ -1,5 +1,5 @@
 -- What determinization gives. (Mohri 2009, weighted determinization.)
-use Rattle.std.specs.Prelude.{◌≡◌, ◌⊎◌, ◌↔◌, ◌<◌, ℕ, List, [], ◌∷◌, Some, length, slice_get}
+use Rattle.std.specs.Prelude.{◌≡◌, ◌⊎◌, ◌↔◌, ◌<◌, ℕ, List, Some, length, slice_get}
 use Rattle.fst_semiring.specs.Cost.{Cost}
 use Rattle.fst_semiring.specs.declared.arc_type.ArcType.{ArcType}
 use Rattle.fst_machine.specs.BreadthFirst.{Apart, Has}
@@ -7,17 +7,8 @@ use Rattle.fst_machine.specs.Graph.{Graph}
 use Rattle.fst_machine.specs.Letters.{label_word}
 use Rattle.fst_machine.specs.Paths.{Transition, letters}
 use Rattle.fst_machine.specs.Relation.{IsSuccessful, IsWeight}
+use Rattle.fst_trim.specs.WordOrder.{IsSooner}
 use Rattle.fst_determinize.specs.Subsets.{HasSubset, Member}
-
--- the first word is less at the first place where two words of one length differ
-abbrev pub IsLesser : List ℕ → List ℕ → Type 0
-IsLesser [] y = ⊥
-IsLesser (a ∷ x) [] = ⊥
-IsLesser (a ∷ x) (b ∷ y) = (a < b) ⊎ ((a ≡ b) × IsLesser x y)
-
--- the first word is shorter, or as long and less
-abbrev pub IsSooner : List ℕ → List ℕ → Type 0
-IsSooner x y = (length x < length y) ⊎ ((length x ≡ length y) × IsLesser x y)
 
 module _ (kind : ArcType) (g : Graph ℕ) where
   -- the word has this subset, and each other word that has it comes later

@@ -90,11 +90,6 @@ module _ (kind : ArcType) where
   abbrev pub subsets : Graph ℕ → Graph (List Member)
   subsets g = record { start = option_map start_members g.start; arcs = λ members. arcs_by (ways kind g members); final = final_by g }
 
--- the weights of a graph are of the arc type, and no arc weighs Zero
-pub record IsWeighted (kind : ArcType) (g : Graph ℕ) : Type 0 where
-  pub arcs : (p k : ℕ) (a : Arc Cost ℕ) → slice_get (g.arcs p) k ≡ Some a → IsCost kind a.weight × (a.weight ≢ infinite)
-  pub final : (p : ℕ) → IsCost kind (g.final p)
-
 -- both labels of each arc are the same
 abbrev pub IsAcceptor : {N : Type 0} → Graph N → Type 0
 IsAcceptor {N} g = (p : N) (k : ℕ) (a : Arc Cost N) → slice_get (g.arcs p) k ≡ Some a → a.ilabel ≡ a.olabel

@@ -1,36 +1,21 @@
--- What is known of a machine that can be determinized, and of a subset of its states.
+-- What is known of a subset of the states of a machine.
 use Rattle.std.specs.Prelude.{◌≡◌, ◌≢◌, ◌<◌, ℕ, List, Some, slice_get, length}
 use Rattle.fst_semiring.specs.Cost.{Cost, infinite}
-use Rattle.fst_semiring.specs.Semiring.{InRange, IsCost}
 use Rattle.fst_semiring.specs.declared.arc_type.ArcType.{ArcType}
 use Rattle.fst_machine.specs.BreadthFirst.{Has}
 use Rattle.fst_machine.specs.Graph.{Graph, graph_of}
-use Rattle.fst_machine.specs.Machine.{Arc, IsMachine, Machine, most_states, valued}
+use Rattle.fst_machine.specs.Machine.{Arc, Machine, most_states, valued}
+use Rattle.fst_trim.specs.Weighed.{IsWeighed}
 use Rattle.fst_walk.specs.Names.{IsGoodArc, IsNear}
 use Rattle.fst_determinize.specs.Kept.{IsModest}
 use Rattle.fst_determinize.specs.Subsets.{IsSubset, Member}
-use Rattle.fst_determinize.specs.Ways.{IsWeighted, subsets}
-
--- the weights of the graph's arcs are in range
-abbrev pub IsRanged : Graph ℕ → Type 0
-IsRanged g = (p k : ℕ) (a : Arc Cost ℕ) → slice_get (g.arcs p) k ≡ Some a → InRange a.weight
-
--- A machine with the limits of each, whose weights are of the arc type and in range.
-pub record IsWeighed {V : Type 0} (kind : ArcType) (value : V → Cost) (m : Machine V) : Type 0 where
-  pub machine : IsMachine value m
-  pub weighted : IsWeighted kind (graph_of (valued value m))
-  pub ranged : IsRanged (graph_of (valued value m))
+use Rattle.fst_determinize.specs.Ways.{subsets}
 
 -- Members that are states of so many, with residuals that are not Zero and can be computed with.
 pub record AreMembers (states : ℕ) (members : List Member) : Type 0 where
   pub state : (m : Member) → Has members m → m.state < states
   pub modest : (m : Member) → Has members m → IsModest m.residual
   pub not_zero : (m : Member) → Has members m → m.residual ≢ infinite
-
--- The same of one state.
-pub record IsWeighedAt (kind : ArcType) (g : Graph ℕ) (p : ℕ) : Type 0 where
-  pub arcs : (k : ℕ) (a : Arc Cost ℕ) → slice_get (g.arcs p) k ≡ Some a → IsCost kind a.weight × InRange a.weight
-  pub final : IsCost kind (g.final p)
 
 -- The arcs of subsets that the start reaches have labels in range and weights that are not Zero.
 abbrev pub HasGoodArcs : ArcType → Graph ℕ → Type 0

@@ -7,7 +7,8 @@ ghost use Rattle.fst_walk.specs.Answers.{IsExactly, IsNamed};
 ghost use Rattle.fst_walk.specs.Names.{key_arc};
 ghost use Rattle.fst_determinize.specs.Kept.{members_as};
 ghost use Rattle.fst_determinize.specs.Ways.{final_by, subsets};
-ghost use Rattle.fst_determinize.specs.Weighed.{AreMembers, HasGoodArcs, IsWeighed};
+ghost use Rattle.fst_trim.specs.Weighed.{IsWeighed};
+ghost use Rattle.fst_determinize.specs.Weighed.{AreMembers, HasGoodArcs};
 
 use crate::fault::ArcFault;
 use crate::making::put_arcs;

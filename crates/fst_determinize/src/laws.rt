@@ -6,7 +6,7 @@ ghost use Rattle.fst_semiring.specs.Cost.{Cost};
 ghost use Rattle.fst_semiring.specs.declared.arc_type.ArcType.{ArcType};
 ghost use Rattle.fst_machine.specs.Graph.{Graph};
 ghost use Rattle.fst_machine.specs.Machine.{Machine};
-ghost use Rattle.fst_determinize.specs.Ways.{IsWeighted};
+ghost use Rattle.fst_trim.specs.Weighed.{IsWeighted};
 ghost use Rattle.fst_determinize.specs.Weighed.{MemberLaw};
 ghost use Rattle.fst_determinize.specs.SubsetLaws.{DeterminizationLaws, SubsetLaws};
 

@@ -2,7 +2,7 @@
 //! (Mohri 2009, weighted determinization; OpenFst manual, "Determinize".)
 //!
 //! `determinize` makes the machine of an acceptor; `start_subset`, `subset_arcs` and `subset_final` take subsets on
-//! demand, of a machine that `weigh` has gone over. Residuals are kept in the form of weights, and in the wide form
+//! demand, of a machine that `fst_trim::weigh` has gone over. Residuals are kept in the form of weights, and in the wide form
 //! where one does not fit.
 //!
 //! The definitions stand in `specs`, over graphs of plain values: the weighted subset of a word, the graph of subsets
@@ -20,11 +20,9 @@ mod residual;
 mod single;
 mod subset;
 mod way;
-mod weighing;
 
 pub use determined::{Determined, Subsets, determinize};
 pub use fault::DeterminizeFault;
 pub use on_demand::{Subset, SubsetArc, start_subset, subset_arcs, subset_final};
 pub use residual::{Broad, Kept, Narrow, Residual};
 pub use subset::{Held, SubsetOf};
-pub use weighing::weigh;

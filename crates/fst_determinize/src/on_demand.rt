@@ -5,7 +5,8 @@ ghost use Rattle.fst_machine.specs.Graph.{graph_of};
 ghost use Rattle.fst_machine.specs.Machine.{valued};
 ghost use Rattle.fst_walk.specs.Names.{key_arc};
 ghost use Rattle.fst_determinize.specs.Ways.{final_by, subsets};
-ghost use Rattle.fst_determinize.specs.Weighed.{AreMembers, IsWeighed};
+ghost use Rattle.fst_trim.specs.Weighed.{IsWeighed};
+ghost use Rattle.fst_determinize.specs.Weighed.{AreMembers};
 
 use crate::determinizing::{first_subset, last_weight, no_ways, put_subset_arcs};
 use crate::residual::Broad;

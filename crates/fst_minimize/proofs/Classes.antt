@@ -10,7 +10,8 @@ use Rattle.fst_machine.specs.Graph.{Graph, graph_of, renamed}
 use Rattle.fst_machine.specs.Letters.{letter_of}
 use Rattle.fst_machine.specs.Relation.{Rel}
 use Rattle.fst_machine.proofs.Arcs.{mapped_at, mapped_some, at_mapped}
-use Rattle.fst_minimize.specs.Behaviour.{Alike, IsSingle, GoesOn, Follows, IsStable}
+use Rattle.fst_trim.specs.WordWeights.{IsSingle}
+use Rattle.fst_minimize.specs.Behaviour.{Alike, GoesOn, Follows, IsStable}
 use Rattle.fst_minimize.specs.Classes.{HasClasses}
 use Rattle.fst_minimize.specs.Laws.{IsClosed, ClassLaws}
 use Rattle.fst_minimize.proofs.Stable.{alike_final, alike_there, alike_sym, stable_alike, alike_says}

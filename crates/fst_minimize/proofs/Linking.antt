@@ -11,7 +11,8 @@ use Rattle.fst_machine.specs.Graph.{Graph, graph_of, nexts}
 use Rattle.fst_machine.proofs.Arcs.{at_mapped, mapped_at}
 use Rattle.fst_machine.proofs.Cycles.{state_below}
 use Rattle.fst_machine.proofs.Elements.{Apart_at}
-use Rattle.fst_minimize.specs.Behaviour.{Alike, IsSingle, GoesOn, Follows}
+use Rattle.fst_trim.specs.WordWeights.{IsSingle}
+use Rattle.fst_minimize.specs.Behaviour.{Alike, GoesOn, Follows}
 use Rattle.fst_minimize.specs.Refining.{spelling, IsRefined}
 use Rattle.fst_minimize.specs.Saying.{IsByLabel, SaysArcs, weight_key}
 use Rattle.fst_minimize.specs.Numbered.{number_in, RowsBelow, AreRows, TellsBehaviour}

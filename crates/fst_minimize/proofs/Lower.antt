@@ -13,8 +13,9 @@ use Rattle.fst_machine.specs.Graph.{Graph}
 use Rattle.fst_machine.specs.Letters.{letter_of}
 use Rattle.fst_machine.specs.Distance.{IsFinalDistance}
 use Rattle.fst_distance.proofs.Potential.{times_not_zero, zero_or_not}
-use Rattle.fst_minimize.specs.Behaviour.{Alike, IsSingle, Follows}
-use Rattle.fst_minimize.specs.Words.{Weighs, WordWeighs, HasKind}
+use Rattle.fst_trim.specs.Weighed.{IsWeighted}
+use Rattle.fst_trim.specs.WordWeights.{IsSingle, Weighs, WordWeighs}
+use Rattle.fst_minimize.specs.Behaviour.{Alike, Follows}
 use Rattle.fst_minimize.proofs.Stable.{stable_alike}
 use Rattle.fst_minimize.proofs.Spelling.{Goes, starts_with, arc_before, word_ends, ends_word, joins, goes_on, Goes_kind, one_word, no_better, swapped}
 
@@ -27,7 +28,7 @@ pub record TotalTimes {N M : Type 0} (kind : ArcType) (total : Cost) (g : Graph 
 -- and labels on an arc are equal.
 pub record IsPushedGraph {N : Type 0} (kind : ArcType) (g : Graph N) (D : N → Type 0) : Type 0 where
   pub single : IsSingle g
-  pub values : HasKind kind g
+  pub values : IsWeighted kind g
   pub within : (p : N) (k : ℕ) (a : Arc Cost N) → D p → slice_get (g.arcs p) k ≡ Some a → D a.next
   pub one : (p : N) → D p → IsFinalDistance kind g p (one_of kind)
   pub acceptor : (p : N) (k : ℕ) (a : Arc Cost N) → slice_get (g.arcs p) k ≡ Some a → a.olabel ≡ a.ilabel
@@ -124,7 +125,7 @@ module _ {N : Type 0} (kind : ArcType) (g : Graph N) (D : N → Type 0) (cancel 
       let s = starts_with kind g q a.ilabel z (times kind a.weight w) ((t.2 (a.ilabel ∷ z) (times kind a.weight w)).0 (arc_before kind g p k a z w one weighs)) in
       let same : s.arc ≡ b = h.single q s.place j s.arc b s.has two (s.label ∙ sym label) in
       let as_a : s.arc.weight ≡ a.weight = ap (λ (c : Arc Cost N). c.weight) same ∙ sym weight in
-      let kind_a = h.values.arc p k a one in
+      let kind_a = h.values.arcs p k a one in
       let e : w ≡ s.rest = times_cancels kind a.weight w s.rest cancel kind_a.0 kind_a.1 (s.weight ∙ ap (λ v. times kind v s.rest) as_a) in
       subst (λ v. Weighs kind g b.next z v) (sym e) (subst (λ (c : Arc Cost N). Weighs kind g c.next z s.rest) same s.weighs)
 
@@ -155,7 +156,7 @@ module _ {N : Type 0} (kind : ArcType) (g : Graph N) (D : N → Type 0) (cancel 
   })
 
   module _ {M : Type 0} (o : Graph M) (total : Cost) (s : N) (t : M) (start : g.start ≡ Some s) (begin : o.start ≡ Some t)
-      (single : IsSingle o) (values : HasKind kind o) (tied : TotalTimes kind total g o) where
+      (single : IsSingle o) (values : IsWeighted kind o) (tied : TotalTimes kind total g o) where
     -- a word from the start has the total Times its weight in the other graph, and the other way round
     word_there : (x : List ℕ) (w : Cost) → Weighs kind g s x w → Weighs kind o t x (times kind total w)
     word_there x w weighs =

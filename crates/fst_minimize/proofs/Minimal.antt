@@ -13,9 +13,10 @@ use Rattle.fst_machine.specs.Letters.{label_word, product}
 use Rattle.fst_machine.specs.Paths.{Transition, IsPath, letters}
 use Rattle.fst_machine.proofs.Cycles.{state_below}
 use Rattle.fst_distance.proofs.Potential.{times_not_zero}
-use Rattle.fst_minimize.specs.Behaviour.{Alike, IsSingle, GoesOn}
+use Rattle.fst_trim.specs.Weighed.{IsWeighted}
+use Rattle.fst_trim.specs.WordWeights.{IsSingle, Weighs, WordWeighs, IsWordWeight, SameWords}
+use Rattle.fst_minimize.specs.Behaviour.{Alike, GoesOn}
 use Rattle.fst_minimize.specs.Classes.{HasClasses}
-use Rattle.fst_minimize.specs.Words.{Weighs, WordWeighs, IsWordWeight, HasKind, SameWords}
 use Rattle.fst_minimize.specs.Laws.{IsNormal, totalled, totalled_state, MinimalLaw}
 use Rattle.fst_minimize.proofs.Classes.{class_alike, start_there, start_back}
 use Rattle.fst_minimize.proofs.Spelling.{Goes, starts_with, Weighs_kind, joins, swapped}
@@ -141,7 +142,7 @@ module _ (kind : ArcType) (total : Cost) (m c : Machine Cost) (h : HasClasses m 
     acceptor = normal.acceptor;
   }
 
-  module _ (other : Machine Cost) (single : IsSingle (graph_of other)) (values : HasKind kind (graph_of other)) (words : SameWords kind (graph_of (totalled kind total c)) (graph_of other)) where
+  module _ (other : Machine Cost) (single : IsSingle (graph_of other)) (values : IsWeighted kind (graph_of other)) (words : SameWords kind (graph_of (totalled kind total c)) (graph_of other)) where
     not_infinite : (x : List ℕ) (w : Cost) → WordWeighs kind (graph_of m) x w → times kind total w ≢ infinite
     not_infinite x w r = times_not_zero kind total w some (Weighs_kind kind (graph_of m) normal.values r.first x w r.weighs).1
 

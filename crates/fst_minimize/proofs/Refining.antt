@@ -5,7 +5,8 @@ use Rattle.fst_machine.specs.Machine.{Arc}
 use Rattle.fst_machine.specs.Graph.{Graph}
 use Rattle.fst_machine.specs.Letters.{Letter, letter_of}
 use Rattle.fst_machine.proofs.Elements.{at_Has}
-use Rattle.fst_minimize.specs.Behaviour.{Alike, IsSingle, GoesOn, Follows, IsStable}
+use Rattle.fst_trim.specs.WordWeights.{IsSingle}
+use Rattle.fst_minimize.specs.Behaviour.{Alike, GoesOn, Follows, IsStable}
 use Rattle.fst_minimize.specs.Refining.{LabelsAscend, spelling, row, IsRefined, IsRound}
 use Rattle.fst_minimize.proofs.Stable.{alike_stable, stable_alike}
 

@@ -7,8 +7,6 @@ use Rattle.fst_machine.specs.Machine.{Machine}
 use Rattle.fst_machine.specs.Graph.{Graph, graph_of}
 use Rattle.fst_machine.specs.Letters.{label_word, product}
 use Rattle.fst_machine.specs.Paths.{Transition, letters}
-use Rattle.fst_machine.specs.Serving.{Serves}
-use Rattle.fst_machine.proofs.Serving.{served_path}
 use Rattle.fst_machine.proofs.Connected.{connected_serves, machine_serves}
 use Rattle.fst_distance.specs.Pushing.{IsPushed, value_at}
 use Rattle.fst_distance.specs.PushLaws.{NoArcIsZero}
@@ -16,29 +14,10 @@ use Rattle.fst_distance.proofs.PushedMachine.{potential, Below}
 use Rattle.fst_distance.proofs.PushedPaths.{pushed_path, path_there, path_back, finish_undone, final_there, final_back}
 use Rattle.fst_minimize.specs.Classes.{HasClasses}
 use Rattle.fst_minimize.specs.Laws.{IsNormal, totalled}
-use Rattle.fst_minimize.specs.Words.{WordWeighs, IsWordWeight, SameWords}
+use Rattle.fst_trim.specs.WordWeights.{WordWeighs, IsWordWeight, SameWords}
+use Rattle.fst_trim.proofs.WordWeights.{served_word}
 use Rattle.fst_minimize.proofs.Classes.{start_back}
 use Rattle.fst_minimize.proofs.Minimal.{totalled_words}
-
--- where arcs serve for arcs, words have the same weights
-served_word : {N M : Type 0} (kind : ArcType) (R : N → M → Type 0) (g : Graph N) (h : Graph M) → Serves R g h → (x : List ℕ) (w : Cost) → WordWeighs kind g x w → WordWeighs kind h x w
-served_word kind R g h s x w r =
-    let p = r.weighs in
-    let start = s.start r.first r.starts (record { last = p.last; path = p.path; leads = p.leads; final = p.final }) in
-    let o = served_path R g h s r.first p.last start.0 p.path p.final start.2 p.leads in
-    let same : h.final o.1 ≡ g.final p.last = s.final p.last o.1 o.4 in
-    record {
-      first = start.0;
-      starts = start.1;
-      weighs = record {
-        path = o.0;
-        last = o.1;
-        leads = o.2;
-        final = (λ e. p.final (sym same ∙ e));
-        word = p.word ∙ ap label_word (sym o.3);
-        weight = p.weight ∙ ap₂ (λ ls v. times kind (product kind ls) v) (sym o.3) (sym same);
-      };
-    }
 
 -- pushing changes no label
 pushed_word : {N : Type 0} (kind : ArcType) (d : N → Cost) (path : List (Transition N)) → label_word (letters (pushed_path kind d path)) ≡ label_word (letters path)

@@ -13,8 +13,8 @@ use Rattle.fst_machine.specs.Distance.{IsFinalDistance}
 use Rattle.fst_machine.proofs.Letters.{label_word-append, product-append, letters-append}
 use Rattle.fst_machine.proofs.PathParts.{IsPath-append}
 use Rattle.fst_distance.proofs.Potential.{times_not_zero}
-use Rattle.fst_minimize.specs.Behaviour.{IsSingle}
-use Rattle.fst_minimize.specs.Words.{Weighs, HasKind}
+use Rattle.fst_trim.specs.Weighed.{IsWeighted}
+use Rattle.fst_trim.specs.WordWeights.{IsSingle, Weighs}
 
 -- the outer of two factors put inside
 pub swapped : (kind : ArcType) (c d v : Cost) → times kind d (times kind c v) ≡ times kind c (times kind d v)
@@ -106,19 +106,19 @@ module _ {N : Type 0} (kind : ArcType) (g : Graph N) where
       (on.0, on.1, on.2 ∙ ap (λ v. times kind v on.0) (sym there.weight))
 
   -- a path has a product of the arc type that is not Zero, and so has a word
-  pub path_kind : HasKind kind g → (path : List (Transition N)) (p q : N) → IsPath g p path q → IsCost kind (product kind (letters path)) × (product kind (letters path) ≢ infinite)
+  pub path_kind : IsWeighted kind g → (path : List (Transition N)) (p q : N) → IsPath g p path q → IsCost kind (product kind (letters path)) × (product kind (letters path) ≢ infinite)
   path_kind of_kind [] p q here = (IsCost-one kind, (λ e. one_not_zero kind e))
   path_kind of_kind (t ∷ path) p q leads =
-      let here = of_kind.arc p t.place t.arc leads.0.1 in
+      let here = of_kind.arcs p t.place t.arc leads.0.1 in
       let rest = path_kind of_kind path t.arc.next q leads.1 in
       (IsCost-times kind t.arc.weight (product kind (letters path)) here.0 rest.0, times_not_zero kind t.arc.weight (product kind (letters path)) here.1 rest.1)
 
-  pub Goes_kind : HasKind kind g → (p q : N) (x : List ℕ) (a : Cost) → Goes p x a q → IsCost kind a × (a ≢ infinite)
+  pub Goes_kind : IsWeighted kind g → (p q : N) (x : List ℕ) (a : Cost) → Goes p x a q → IsCost kind a × (a ≢ infinite)
   Goes_kind of_kind p q x a there =
       let k = path_kind of_kind there.path p q there.leads in
       subst (λ v. IsCost kind v × (v ≢ infinite)) (sym there.weight) k
 
-  pub Weighs_kind : HasKind kind g → (p : N) (x : List ℕ) (w : Cost) → Weighs kind g p x w → IsCost kind w × (w ≢ infinite)
+  pub Weighs_kind : IsWeighted kind g → (p : N) (x : List ℕ) (w : Cost) → Weighs kind g p x w → IsCost kind w × (w ≢ infinite)
   Weighs_kind of_kind p x w h =
       let k = path_kind of_kind h.path p h.last h.leads in
       let whole : IsCost kind (times kind (product kind (letters h.path)) (g.final h.last)) × (times kind (product kind (letters h.path)) (g.final h.last) ≢ infinite) =

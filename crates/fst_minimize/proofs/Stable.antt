@@ -10,7 +10,8 @@ use Rattle.fst_machine.specs.Letters.{Letter, letter_of, input, output, product}
 use Rattle.fst_machine.specs.Paths.{Transition, IsPath, letters}
 use Rattle.fst_machine.specs.Relation.{RelFrom}
 use Rattle.fst_distance.proofs.Potential.{zero_or_not}
-use Rattle.fst_minimize.specs.Behaviour.{Behaves, Alike, IsSingle, GoesOn, Follows, IsStable}
+use Rattle.fst_trim.specs.WordWeights.{IsSingle}
+use Rattle.fst_minimize.specs.Behaviour.{Behaves, Alike, GoesOn, Follows, IsStable}
 use Rattle.fst_minimize.specs.Laws.{StableLaw, BehaviourLaws}
 
 -- what each arc of a tied name has beside it, each path has

@@ -17,12 +17,13 @@ use Rattle.fst_distance.specs.Pushing.{IsPushed, value_at}
 use Rattle.fst_distance.specs.PushLaws.{NoArcIsZero}
 use Rattle.fst_distance.proofs.PushedMachine.{potential, pushed_one, pushed_next, pushed_start, pushed_trim, pushed_some, pushed_acceptor, pushed_once}
 use Rattle.fst_distance.proofs.View.{valued_at}
-use Rattle.fst_minimize.specs.Behaviour.{IsSingle}
+use Rattle.fst_trim.specs.Weighed.{IsWeighted}
+use Rattle.fst_trim.specs.WordWeights.{IsSingle}
 use Rattle.fst_minimize.specs.Classes.{HasClasses}
 use Rattle.fst_minimize.specs.Described.{OfKind, OncePlacedAll}
 use Rattle.fst_minimize.specs.Laws.{IsClosed, IsNormal, totalled, totalled_state}
 use Rattle.fst_minimize.specs.Ready.{IsReady}
-use Rattle.fst_minimize.specs.Words.{HasKind, IsMinimal}
+use Rattle.fst_minimize.specs.Fewest.{IsMinimal}
 use Rattle.fst_minimize.proofs.Minimal.{minimal_law}
 
 -- the arc of a machine behind an arc of its values
@@ -81,9 +82,9 @@ module _ (kind : ArcType) (m r : Machine Cost) (total : Cost) (h : IsPushed kind
   }
 
   module _ (kinds : (p : ℕ) → p < length r.states → OfKind kind (graph_of r) p) where
-    values : HasKind kind (graph_of r)
+    values : IsWeighted kind (graph_of r)
     values = record {
-      arc = λ p k a has. (all_at (λ (b : Arc Cost ℕ). IsCost kind b.weight) ((graph_of r).arcs p) k a has (kinds p (state_below r p k a has)).0, pushed_some kind m r total h some p k a has);
+      arcs = λ p k a has. (all_at (λ (b : Arc Cost ℕ). IsCost kind b.weight) ((graph_of r).arcs p) k a has (kinds p (state_below r p k a has)).0, pushed_some kind m r total h some p k a has);
       final = λ p. by p (cases_lt p (length r.states));
     }
       where

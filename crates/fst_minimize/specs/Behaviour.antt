@@ -22,10 +22,6 @@ pub record Behaves {N : Type 0} (g : Graph N) (p : N) (ls : List Letter) (w : Co
 abbrev pub Alike : {N M : Type 0} → Graph N → Graph M → N → M → Type 0
 Alike g h p q = (ls : List Letter) (w : Cost) → Behaves g p ls w ↔ Behaves h q ls w
 
--- arcs of one name with one input label are one arc
-abbrev pub IsSingle : {N : Type 0} → Graph N → Type 0
-IsSingle {N} g = (p : N) (i j : ℕ) (a b : Arc Cost N) → slice_get (g.arcs p) i ≡ Some a → slice_get (g.arcs p) j ≡ Some b → a.ilabel ≡ b.ilabel → a ≡ b
-
 -- each arc leads to a name from which a path goes on to a final one
 abbrev pub GoesOn : {N : Type 0} → Graph N → Type 0
 GoesOn {N} g = (p : N) (k : ℕ) (a : Arc Cost N) → slice_get (g.arcs p) k ≡ Some a → IsCoaccessible g a.next

@@ -8,9 +8,11 @@ use Rattle.fst_machine.specs.Graph.{Graph, graph_of}
 use Rattle.fst_machine.specs.Relation.{RelFrom, Rel}
 use Rattle.fst_machine.specs.Connected.{IsTrim}
 use Rattle.fst_machine.specs.Distance.{IsFinalDistance}
-use Rattle.fst_minimize.specs.Behaviour.{Alike, IsSingle, GoesOn, IsStable}
+use Rattle.fst_trim.specs.Weighed.{IsWeighted}
+use Rattle.fst_trim.specs.WordWeights.{IsSingle}
+use Rattle.fst_minimize.specs.Behaviour.{Alike, GoesOn, IsStable}
 use Rattle.fst_minimize.specs.Classes.{HasClasses}
-use Rattle.fst_minimize.specs.Words.{HasKind, IsMinimal}
+use Rattle.fst_minimize.specs.Fewest.{IsMinimal}
 
 -- Names tied by a stable tie have the same behaviour.
 abbrev pub StableLaw : {N M : Type 0} → Graph N → Graph M → (N → M → Type 0) → Type 0
@@ -40,7 +42,7 @@ pub record IsNormal (kind : ArcType) (m : Machine Cost) : Type 0 where
   pub trim : IsTrim m
   pub single : IsSingle (graph_of m)
   pub acceptor : (p k : ℕ) (a : Arc Cost ℕ) → slice_get ((graph_of m).arcs p) k ≡ Some a → a.olabel ≡ a.ilabel
-  pub values : HasKind kind (graph_of m)
+  pub values : IsWeighted kind (graph_of m)
   pub one : (p : ℕ) → p < length m.states → IsFinalDistance kind (graph_of m) p (one_of kind)
 
 -- the machine with each final weight multiplied by a total

@@ -1,6 +1,6 @@
 pub mod Behaviour
 pub mod Classes
-pub mod Words
+pub mod Fewest
 pub mod Laws
 pub mod Pairs
 pub mod Numbered

@@ -1,7 +1,8 @@
 -- Rows numbered in the order in which they first came.
 use Rattle.std.specs.Prelude.{◌≡◌, ℕ, ◌<◌, ◌≤◌, Bool, true, false, List, [], ◌∷◌, ◌++◌, Some, Option, All, length, get_or, map, slice_get}
 use Rattle.fst_machine.specs.Graph.{Graph, nexts}
-use Rattle.fst_minimize.specs.Behaviour.{Alike, IsSingle, GoesOn}
+use Rattle.fst_trim.specs.WordWeights.{IsSingle}
+use Rattle.fst_minimize.specs.Behaviour.{Alike, GoesOn}
 use Rattle.fst_minimize.specs.Refining.{LabelsAscend}
 use Rattle.fst_minimize.specs.Pairs.{Spells, packed}
 

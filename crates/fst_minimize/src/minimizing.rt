@@ -8,7 +8,8 @@ ghost use Rattle.fst_machine.specs.Narrowing.{IsInRange};
 ghost use Rattle.fst_trim.specs.FirstArcs.{IsAcceptor, IsDeterministic};
 ghost use Rattle.fst_search.specs.Distances.{NoneImproves};
 ghost use Rattle.fst_minimize.specs.Minimized.{IsMinimizeFault, IsMinimized};
-ghost use Rattle.fst_minimize.specs.Words.{IsMinimal, SameWords};
+ghost use Rattle.fst_trim.specs.WordWeights.{SameWords};
+ghost use Rattle.fst_minimize.specs.Fewest.{IsMinimal};
 
 use crate::fault::MinimizeFault;
 use crate::making::{make, number_classes};

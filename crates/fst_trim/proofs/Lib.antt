@@ -19,3 +19,6 @@ pub mod Placing
 pub mod LinkLists
 pub mod OneAnswer
 pub mod Halving
+pub mod WordWeights
+pub mod WordOrder
+pub mod Weighed

@@ -12,3 +12,6 @@ pub mod KeptPaths
 pub mod Handed
 pub mod Sorting
 pub mod Targets
+pub mod WordWeights
+pub mod WordOrder
+pub mod Weighed

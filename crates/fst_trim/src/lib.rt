@@ -21,6 +21,7 @@ mod sources;
 mod summary;
 mod targets;
 mod useful;
+mod weighing;
 
 pub use as_machine::AsMachine;
 pub use connected::{Connected, Handed, connect, connect_kept, connect_walked, into_connected};
@@ -34,3 +35,4 @@ pub use sorted::{is_sorted, stands_by};
 pub use sorting::{arcsort, into_arcsorted, sort_arcs};
 pub use summary::Info;
 pub use useful::accessible;
+pub use weighing::weigh;

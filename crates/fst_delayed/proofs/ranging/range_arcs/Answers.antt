@@ -3,7 +3,7 @@ use Rattle.std.specs.List.{All}
 use Rattle.std.proofs.lemmas.List.{take_all}
 use Rattle.fst_semiring.specs.Semiring.{InRange}
 use Rattle.fst_machine.specs.Machine.{Arc}
-use Rattle.fst_delayed.proofs.Ranged.{all_more}
+use Rattle.fst_trim.proofs.Weighed.{all_more}
 use Rattle.fst_delayed.proofs.ranging.range_arcs.Goals as goal
 
 pub loop-arc-preserved : goal.loop-arc-preserved

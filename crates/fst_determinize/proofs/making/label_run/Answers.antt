@@ -3,7 +3,7 @@ use Rattle.fst_semiring.specs.Cost.{plus}
 use Rattle.fst_determinize.specs.Kept.{WayAs, way_as}
 use Rattle.fst_determinize.specs.Ways.{Way}
 use Rattle.fst_determinize.proofs.Forms.{at_low, best_more}
-use Rattle.fst_determinize.proofs.Machines.{all_more}
+use Rattle.fst_trim.proofs.Weighed.{all_more}
 use Rattle.fst_determinize.proofs.making.label_run.Goals as goal
 
 pub loop-way-preserved : goal.loop-way-preserved

@@ -7,7 +7,8 @@ use Rattle.fst_distance.proofs.Picked.{machine_some}
 use Rattle.fst_minimize.specs.Classes.{class_machine}
 use Rattle.fst_machine.specs.Narrowing.{IsCause}
 use Rattle.fst_minimize.specs.Laws.{totalled}
-use Rattle.fst_minimize.specs.Words.{IsMinimal, SameWords}
+use Rattle.fst_trim.specs.WordWeights.{SameWords}
+use Rattle.fst_minimize.specs.Fewest.{IsMinimal}
 use Rattle.fst_minimize.proofs.Made.{has_classes}
 use Rattle.fst_minimize.proofs.Whole.{raw_acceptor, raw_once, normal, pushed_ready, pushed_minimal}
 use Rattle.fst_minimize.proofs.SameWords.{same_words}

@@ -1,7 +1,7 @@
 -- The order of words.
 use Rattle.std.proofs.Common.{◌≡◌, ◌⊎◌, inl, inr, ℕ, ◌<◌, List, [], ◌∷◌, ◌++◌, refl, arith}
 use Rattle.std.proofs.lemmas.List.{length-append}
-use Rattle.fst_determinize.specs.Theorem.{IsLesser, IsSooner}
+use Rattle.fst_trim.specs.WordOrder.{IsLesser, IsSooner}
 
 never_lesser : (x : List ℕ) → IsLesser x x → ⊥
 never_lesser [] h = h

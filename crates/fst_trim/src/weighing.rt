@@ -2,7 +2,7 @@
 
 ghost use Rattle.std.specs.Prelude.{All};
 ghost use Rattle.fst_semiring.specs.Semiring.{InRange, IsCost};
-ghost use Rattle.fst_determinize.specs.Weighed.{IsWeighed};
+ghost use Rattle.fst_trim.specs.Weighed.{IsWeighed};
 
 use fst_machine::{Fst, FstArc};
 use fst_semiring::Weight;

@@ -1,6 +1,6 @@
 use Rattle.std.proofs.Common.{below_more, arith}
-use Rattle.fst_determinize.proofs.Machines.{weighed_all, weighed_at}
-use Rattle.fst_determinize.proofs.weighing.weigh.Goals as goal
+use Rattle.fst_trim.proofs.Weighed.{weighed_all, weighed_at}
+use Rattle.fst_trim.proofs.weighing.weigh.Goals as goal
 
 pub loop-state-preserved : goal.loop-state-preserved
 loop-state-preserved g c =

@@ -4,8 +4,8 @@ use Rattle.std.proofs.lemmas.List.{take_all}
 use Rattle.fst_semiring.specs.Semiring.{InRange, IsCost}
 use Rattle.fst_machine.specs.Machine.{Arc}
 use Rattle.std.proofs.Common.{ℕ}
-use Rattle.fst_determinize.proofs.Machines.{all_more}
-use Rattle.fst_determinize.proofs.weighing.weigh_arcs.Goals as goal
+use Rattle.fst_trim.proofs.Weighed.{all_more}
+use Rattle.fst_trim.proofs.weighing.weigh_arcs.Goals as goal
 
 pub loop-arc-preserved : goal.loop-arc-preserved
 loop-arc-preserved g c =

@@ -1,7 +1,7 @@
 use Rattle.std.proofs.Common.{take}
 use Rattle.std.specs.List.{All}
 use Rattle.fst_semiring.specs.Semiring.{InRange, IsCost}
-use Rattle.fst_determinize.proofs.weighing.weigh_arcs.Given as goal
+use Rattle.fst_trim.proofs.weighing.weigh_arcs.Given as goal
 
 abbrev pub invariant-loop-arc : goal.invariant-loop-arc
 invariant-loop-arc g l = record {
