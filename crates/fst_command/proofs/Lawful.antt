@@ -131,7 +131,7 @@ lawful verbs.Difference labels o given = record {
   makes = of_two _ (λ a b. a_machine given.kind _ (one_difference o given.kind a b)) given.machines;
 }
 lawful verbs.Equivalent labels o given = record {
-  stopped = one_for_two _ (λ a b. one_told _ _ (one_uncompared given.kind (state_limit o) a b)) given.machines;
+  stopped = one_for_two _ (λ a b. one_told _ _ (one_uncompared given.kind a b (state_limit o))) given.machines;
   makes = of_two _ (λ a b. a_comparison given.kind a b) given.machines;
 }
 lawful verbs.Batch labels o given = record {

@@ -12,7 +12,7 @@ use Rattle.fst_machine.specs.Machine.{Machine}
 use Rattle.fst_trim.specs.WordWeights.{IsSingle, SameWords}
 use Rattle.fst_setops.specs.EquivalentFaults.{equivalent_text}
 use Rattle.fst_setops.specs.Separating.{IsSeparating}
-use Rattle.fst_setops.specs.Verdicts.{Refuses}
+use Rattle.fst_setops.specs.Verdicts.{RefusesComparison}
 use Rattle.fst_setops.specs.declared.equivalent_fault.EquivalentFault.{EquivalentFault}
 use Rattle.fst_words.specs.declared.options.Options.{Options}
 use Rattle.fst_command.specs.Causes.{unmade}
@@ -56,13 +56,9 @@ module _ (kind : ArcType) (a b : Machine Cost) (made : Made) where
     pub second : IsSingle (graph_of b)
     pub says : (SameWords kind (graph_of a) (graph_of b) × (made ≡ text same_text)) ⊎ IsSeparation
 
--- what stands against it
-abbrev pub IsIncomparable : ArcType → ℕ → Machine Cost → Machine Cost → EquivalentFault → Type 0
-IsIncomparable kind limit a b why = Refuses kind (λ w. w) a b limit why
-
 abbrev pub equivalent_meaning : Options → Meaning
 equivalent_meaning o = record {
   stops = λ given fault. for_two given.machines (λ a b.
-      (why : EquivalentFault) × IsIncomparable given.kind (state_limit o) a b why × (fault ≡ unmade (equivalent_text why)));
+      (why : EquivalentFault) × RefusesComparison given.kind a b (state_limit o) why × (fault ≡ unmade (equivalent_text why)));
   makes = λ given made. for_two given.machines (λ a b. IsCompared given.kind a b made);
 }
