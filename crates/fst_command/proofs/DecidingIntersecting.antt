@@ -19,10 +19,10 @@ use Rattle.fst_command.proofs.DecidingComposing.{one_composed}
 module _ (o : Options) (kind : ArcType) (a b : Machine Cost) where
   pub is_intersection : (whole made : Machine Cost) (n : HasNames (composed kind (graph_of a) (graph_of b)) whole) → IsComposition kind (graph_of a) (graph_of b) n.names whole
       → ((x z : List ℕ) (w : Cost) → Rel kind (graph_of whole) x z w ↔ Intersects kind (graph_of a) (graph_of b) x z w)
-      → IsLeft (connects o) whole made → ((x z : List ℕ) (w : Cost) → Rel kind (graph_of made) x z w ↔ Rel kind (graph_of whole) x z w) → IsIntersection o kind a b made
+      → IsLeft (connects o) whole made → ((x z : List ℕ) (w : Cost) → Rel kind (graph_of whole) x z w ↔ Rel kind (graph_of made) x z w) → IsIntersection o kind a b made
   is_intersection whole made n composes says left same = record {
     composed = composed-left o kind a b whole made n.names n.named composes left;
-    denotes = λ x z w. (λ r. (says x z w).0 ((same x z w).0 r), λ r. (same x z w).1 ((says x z w).1 r));
+    denotes = λ x z w. (λ r. (says x z w).0 ((same x z w).1 r), λ r. (same x z w).0 ((says x z w).1 r));
   }
 
   pub one_intersected : One (IsIntersection o kind a b)

@@ -21,13 +21,13 @@ use Rattle.fst_command.specs.Subtracting.{IsDifference, IsGiven}
 module _ (o : Options) (kind : ArcType) (a b : Machine Cost) where
   pub is_difference : (whole made : Machine Cost) (n : HasNames (difference (graph_of a) (graph_of b)) whole) → Subtracts kind (graph_of a) (graph_of b) (graph_of whole) (NumberedParts n.names)
       → ((x z : List ℕ) (w : Cost) → Rel kind (graph_of whole) x z w ↔ Remains kind (graph_of a) (graph_of b) x z w)
-      → IsLeft (connects o) whole made → ((x z : List ℕ) (w : Cost) → Rel kind (graph_of made) x z w ↔ Rel kind (graph_of whole) x z w) → IsDifference o kind a b made
+      → IsLeft (connects o) whole made → ((x z : List ℕ) (w : Cost) → Rel kind (graph_of whole) x z w ↔ Rel kind (graph_of made) x z w) → IsDifference o kind a b made
   is_difference whole made n subtracts says left same = record {
     names = n.names;
     whole = whole;
     named = n.named;
     given = by (connects o) left;
-    denotes = λ x z w. (λ r. (says x z w).0 ((same x z w).0 r), λ r. (same x z w).1 ((says x z w).1 r));
+    denotes = λ x z w. (λ r. (says x z w).0 ((same x z w).1 r), λ r. (same x z w).0 ((says x z w).1 r));
   }
     where
       by : (connected : Bool) → IsLeft connected whole made → IsGiven kind a b n.names whole connected made
