@@ -13,9 +13,11 @@ use Rattle.fst_trim.specs.WordWeights.{IsSingle, IsWordWeight, SameWords, Weighs
 use Rattle.fst_trim.proofs.WordOrder.{sooner_once}
 use Rattle.fst_minimize.proofs.Spelling.{starts_with, word_ends}
 use Rattle.fst_setops.specs.Separating.{IsSeparating, Separates}
-use Rattle.fst_setops.specs.Verdicts.{IsRepeated, RefusesComparison}
+use Rattle.fst_setops.specs.Verdicts.{IsRepeated, IsSaid, RefusesComparison}
 use Rattle.fst_setops.specs.declared.equivalent_fault.EquivalentFault.{EquivalentFault}
 use Rattle.fst_setops.specs.declared.equivalent_fault.EquivalentFault.TheVariants.{NotAcceptor, NotDeterministic, NotCancelling, StateLimit, Memory}
+use Rattle.fst_setops.specs.declared.verdict.Verdict.{Verdict}
+use Rattle.fst_setops.specs.declared.verdict.Verdict.TheVariants.{Equivalent, Separated}
 use Rattle.fst_command.specs.Comparing.{IsCompared, IsSeparation, same_text, separation_text}
 use Rattle.fst_command.specs.Meaning.{Made, bytes_of, separation, text}
 use Rattle.fst_command.specs.OneOutcome.{One}
@@ -93,11 +95,33 @@ module _ (kind : ArcType) (a b : Machine Cost) where
   pub a_comparison : IsOneMade 1 (IsCompared kind a b)
   a_comparison = record { one = one_compared; count = compared_count }
 
+-- what is said of the two machines is what is told
+module _ {V X : Type 0} (kind : ArcType) (value : X → Cost) (a b : Machine Cost) (single : IsSingle (graph_of a) × IsSingle (graph_of b)) (bytes : List ℕ) where
+  pub told_same : (v : Verdict V X) → v ≡ Equivalent → IsSaid kind value (graph_of a) (graph_of b) v → bytes ≡ same_text → IsCompared kind a b (text bytes)
+  told_same v e said is = record {
+    first = single.0;
+    second = single.1;
+    says = inl (subst (λ (v : Verdict V X). IsSaid kind value (graph_of a) (graph_of b) v) e said, ap text is);
+  }
+
+  pub told_apart : (v : Verdict V X) (word : List ℕ) (s t : X) → v ≡ Separated word s t → IsSaid kind value (graph_of a) (graph_of b) v → bytes ≡ separation_text kind (value s) (value t) word → IsCompared kind a b (separation bytes)
+  told_apart v word s t e said is = record {
+    first = single.0;
+    second = single.1;
+    says = inr (record {
+      word = word;
+      first_weight = value s;
+      second_weight = value t;
+      separating = subst (λ (v : Verdict V X). IsSaid kind value (graph_of a) (graph_of b) v) e said;
+      is = ap separation is;
+    });
+  }
+
 -- ---- what stands against it
 
 module _ (kind : ArcType) (a b : Machine Cost) (most : ℕ) where
   not_both : (c : Bool) → c ≡ true → c ≡ false → ⊥
-  not_both c yes no = cc
+  not_both c holds fails = cc
 
   -- two deterministic machines have no arc with the label of an earlier one
   not_repeated : (second : Bool) (s p : ℕ) → IsRepeated a b second s p → IsDeterministic a → IsDeterministic b → ⊥
