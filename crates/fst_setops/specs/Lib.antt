@@ -2,6 +2,8 @@ pub mod Faults
 pub mod Unweighted
 pub mod Named
 pub mod Difference
+pub mod Following
+pub mod Good
 pub mod Subtracting
 pub mod Intersecting
 pub mod Answers

@@ -11,11 +11,16 @@
 //! the theorems in this form.
 #![tactic(auto)]
 
+mod acceptors;
 mod comparing;
 mod equivalent_fault;
 mod fault;
+mod following;
 mod intersecting;
+mod key;
+pub mod laws;
 mod subtracting;
+mod unweighted;
 mod verdict;
 
 pub use comparing::equivalent;
