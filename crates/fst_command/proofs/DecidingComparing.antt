@@ -15,7 +15,6 @@ use Rattle.fst_minimize.proofs.Spelling.{starts_with, word_ends}
 use Rattle.fst_setops.proofs.OneAnswer.{one_first, one_split, unsplit}
 use Rattle.fst_setops.specs.Separating.{IsSeparating, Separates}
 use Rattle.fst_setops.specs.Verdicts.{IsRepeated, IsSaid, RefusesComparison}
-use Rattle.fst_setops.specs.declared.equivalent_fault.EquivalentFault.{EquivalentFault}
 use Rattle.fst_setops.specs.declared.equivalent_fault.EquivalentFault.TheVariants.{NotAcceptor, NotDeterministic, NotCancelling, StateLimit, Memory}
 use Rattle.fst_setops.specs.declared.verdict.Verdict.{Verdict}
 use Rattle.fst_setops.specs.declared.verdict.Verdict.TheVariants.{Equivalent, Separated}

@@ -281,7 +281,14 @@ static COMMANDS_2: [(&[&str], &str); 33] = [
     (&["fstprune", "--weight=", "m"], "prune m - --weight="),
     (&["prune", "--weight", "-1"], "usage"),
     (
-        &["intersect", "a", "--connect=false", "b", "--max_states", "7"],
+        &[
+            "intersect",
+            "a",
+            "--connect=false",
+            "b",
+            "--max_states",
+            "7",
+        ],
         "intersect a b - --connect=false --max_states=7",
     ),
     (
