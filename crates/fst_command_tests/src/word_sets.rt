@@ -32,7 +32,7 @@ static INTERSECTED: [Row; 20] = [
     Makes("intersect a b r", b""),
     Makes(
         "intersect --connect=false a b r",
-        b"0\t1\t1\t1\n0\t2\t2\t2\n",
+        b"0\t1\t1\t1\n0\t2\t2\t2\n1\tInfinity\n2\tInfinity\n",
     ),
     // The order of the causes.
     Machine("t", "tropical", b"0 1 1 2\n0 1 1 1\n1\n"),
@@ -69,7 +69,7 @@ static SUBTRACTED: [Row; 29] = [
     Makes("difference a b r", b"0\t1\t2\t2\n1\t2\t3\t3\t2\n2\n"),
     Makes(
         "fstdifference --connect=false a b r",
-        b"0\t1\t1\t1\n0\t2\t2\t2\n1\t3\t3\t3\t5\n2\t4\t3\t3\t2\n4\n",
+        b"0\t1\t1\t1\n0\t2\t2\t2\n1\t3\t3\t3\t5\n2\t4\t3\t3\t2\n3\tInfinity\n4\n",
     ),
     Machine("w", "tropical", b"0 1 1 1 4\n1\n"),
     Refuse("difference a w o", 1, b"fst: not unweighted at state 0\n"),
@@ -84,7 +84,7 @@ static SUBTRACTED: [Row; 29] = [
     ),
     Makes(
         "difference --connect=false --max_states=3 a b r",
-        b"0\t1\t0\t0\n1\t2\t1\t1\n",
+        b"0\t1\t0\t0\n1\t2\t1\t1\n2\tInfinity\n",
     ),
     // A second machine without states takes nothing.
     Machine("e", "tropical", b""),
