@@ -96,7 +96,7 @@ static SUBTRACTED: [Row; 29] = [
     ),
     Machine("a", "tropical", b"0 1 1 1 2\n0 1 1 1 3\n1\n"),
     Makes("difference a e r", b"0\t1\t1\t1\t2\n0\t1\t1\t1\t3\n1\n"),
-    Makes("difference e a r", b""),
+    Makes("difference e b r", b""),
     // The order of the causes.
     Machine("d", "tropical", b"0 1 0 0\n0 1 0 0 4\n1\n"),
     Refuse(
