@@ -1,3 +1,15 @@
+pub mod Separating
+pub mod EquivalentFaults
+pub mod Verdicts
+pub mod Led
+pub mod Closing
+pub mod Kept
+pub mod Found
+pub mod PairNumbers
+pub mod Ways
+pub mod Sought
+pub mod Followed
+pub mod Prepared
 pub mod Faults
 pub mod Unweighted
 pub mod Named
@@ -7,6 +19,3 @@ pub mod Good
 pub mod Subtracting
 pub mod Intersecting
 pub mod Answers
-pub mod Separating
-pub mod EquivalentFaults
-pub mod Verdicts
