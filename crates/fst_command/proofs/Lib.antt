@@ -22,6 +22,9 @@ mod DecidingBatching
 mod DecidingSizes
 mod DecidingCoding
 mod DecidingComposing
+mod DecidingIntersecting
+mod DecidingSubtracting
+mod DecidingComparing
 mod DecidingDeterminizing
 mod DecidingListing
 mod DecidingRemoving

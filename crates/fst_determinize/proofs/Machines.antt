@@ -46,7 +46,7 @@ module _ (m : Machine Cost) (h : IsMachine (λ (v : Cost). v) m) where
   -- paths stay among its states
   pub path_inside : (path : List (Transition ℕ)) (p q : ℕ) → IsPath (graph_of m) p path q → p < length m.states → q < length m.states
   path_inside [] p q here low = subst (λ (z : ℕ). z < length m.states) here low
-  path_inside (t ∷ path) p q leads low = path_inside path t.arc.next q leads.1 (machine_arc p t.place t.arc leads.0.1).next
+  path_inside (t ∷ path) p q leads low = path_inside path t.arc.next q leads.1 (machine_arc m h p t.place t.arc leads.0.1).next
 
   pub start_below : (p : ℕ) → m.start ≡ Some p → p < length m.states
   start_below p e = in_some m.start p h.start e

@@ -1,5 +1,5 @@
 -- Where a label leads among arcs, by the place of the first arc with it.
-use Rattle.std.proofs.Common.{◌≡◌, ◌≢◌, ◌⊎◌, inl, inr, ℕ, ◌<◌, ◌≤◌, zero, suc, true, false, List, [], ◌∷◌, Option, None, Some, cond, map, nat_eq, slice_get, refl, sym, ap, ◌∙◌, subst, arith}
+use Rattle.std.proofs.Common.{◌≡◌, ◌≢◌, ◌⊎◌, inl, inr, ℕ, ◌<◌, ◌≤◌, zero, suc, List, [], ◌∷◌, Option, None, Some, map, slice_get, refl, sym, ap, ◌∙◌, subst, arith}
 use Rattle.std.specs.Option.{option_map}
 use Rattle.std.proofs.lemmas.Bool.{cases_lt}
 use Rattle.std.proofs.lemmas.Option.{get_or_from_slice_get, same_Some, slice_get_within}
@@ -12,35 +12,21 @@ use Rattle.fst_trim.specs.Runs.{IsRun}
 use Rattle.fst_trim.specs.declared.side.Side.TheVariants.{Input}
 use Rattle.fst_setops.specs.Difference.{Rest, followed, next_by, rest_arc, rest_at, subtraction}
 use Rattle.fst_setops.specs.Following.{led_on}
-use Rattle.fst_setops.proofs.Second.{label_cases}
+use Rattle.fst_setops.proofs.Second.{next_by_other, next_by_same}
 
 module _ {M : Type 0} (label : ℕ) where
-  skip : (a : Arc Cost M) (arcs : List (Arc Cost M)) → a.ilabel ≢ label → next_by label (a ∷ arcs) ≡ next_by label arcs
-  skip a arcs other = by_label (label_cases a.ilabel label)
-    where
-      by_label : ((a.ilabel ≡ label) × (nat_eq a.ilabel label ≡ true)) ⊎ ((a.ilabel ≡ label → ⊥) × (nat_eq a.ilabel label ≡ false)) → next_by label (a ∷ arcs) ≡ next_by label arcs
-      by_label (inl same) = absurd (other same.0)
-      by_label (inr not) = ap (λ t. cond t (Some a.next) (next_by label arcs)) not.1
-
-  take_it : (a : Arc Cost M) (arcs : List (Arc Cost M)) → a.ilabel ≡ label → next_by label (a ∷ arcs) ≡ Some a.next
-  take_it a arcs is = by_label (label_cases a.ilabel label)
-    where
-      by_label : ((a.ilabel ≡ label) × (nat_eq a.ilabel label ≡ true)) ⊎ ((a.ilabel ≡ label → ⊥) × (nat_eq a.ilabel label ≡ false)) → next_by label (a ∷ arcs) ≡ Some a.next
-      by_label (inl same) = ap (λ t. cond t (Some a.next) (next_by label arcs)) same.1
-      by_label (inr not) = absurd (not.0 is)
-
   -- the first arc with the label stands in this place
   next_by_first : (arcs : List (Arc Cost M)) (first : ℕ) (a : Arc Cost M) → slice_get arcs first ≡ Some a → a.ilabel ≡ label → ((k : ℕ) (b : Arc Cost M) → k < first → slice_get arcs k ≡ Some b → b.ilabel ≢ label) → next_by label arcs ≡ Some a.next
   next_by_first [] first a there here before = absurd (cc)
   next_by_first (b ∷ arcs) zero a there here before =
       let same : b ≡ a = same_Some b a there in
-      take_it b arcs (ap (λ (x : Arc Cost M). x.ilabel) same ∙ here) ∙ ap (λ (x : Arc Cost M). Some x.next) same
-  next_by_first (b ∷ arcs) (suc first) a there here before = skip b arcs (before 0 b (omega arith) refl) ∙ next_by_first arcs first a there here (λ k x low at. before (suc k) x (omega (arith, low)) at)
+      next_by_same label b arcs (ap (λ (x : Arc Cost M). x.ilabel) same ∙ here) ∙ ap (λ (x : Arc Cost M). Some x.next) same
+  next_by_first (b ∷ arcs) (suc first) a there here before = next_by_other label b arcs (before 0 b (omega arith) refl) ∙ next_by_first arcs first a there here (λ k x low at. before (suc k) x (omega (arith, low)) at)
 
   -- no arc has it
   next_by_none : (arcs : List (Arc Cost M)) → ((k : ℕ) (b : Arc Cost M) → slice_get arcs k ≡ Some b → b.ilabel ≢ label) → next_by label arcs ≡ None
   next_by_none [] none = refl
-  next_by_none (b ∷ arcs) none = skip b arcs (none 0 b refl) ∙ next_by_none arcs (λ k x at. none (suc k) x at)
+  next_by_none (b ∷ arcs) none = next_by_other label b arcs (none 0 b refl) ∙ next_by_none arcs (λ k x at. none (suc k) x at)
 
 -- behind a label that is not 0
 led_next : {M : Type 0} (s : Option M) (arcs : List (Arc Cost M)) (label : ℕ) → label ≢ 0 → led_on s arcs label ≡ next_by label arcs

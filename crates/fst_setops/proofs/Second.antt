@@ -1,7 +1,6 @@
 -- Where what was read leads the second machine.
-use Rattle.std.proofs.Common.{◌≡◌, ◌⊎◌, inl, inr, ℕ, zero, suc, Bool, true, false, List, [], ◌∷◌, Option, None, Some, cond, slice_get, refl, sym, ap, ◌∙◌, subst}
-use Rattle.std.proofs.Common.{nat_eq}
-use Rattle.std.proofs.lemmas.Bool.{eq-eqb, eqb-true}
+use Rattle.std.proofs.Common.{◌≡◌, ◌≢◌, ◌⊎◌, inl, inr, ℕ, zero, suc, List, [], ◌∷◌, Option, None, Some, cond, slice_get, refl, sym, ap, ◌∙◌, subst}
+use Rattle.std.proofs.lemmas.Bool.{cases_eq, eq-eqb, ne_eqb}
 use Rattle.std.proofs.lemmas.Option.{same_Some}
 use Rattle.fst_semiring.specs.Cost.{Cost}
 use Rattle.fst_machine.specs.Machine.{Arc}
@@ -11,41 +10,39 @@ use Rattle.fst_machine.specs.Paths.{Transition, IsPath, letters}
 use Rattle.fst_trim.specs.WordWeights.{IsSingle}
 use Rattle.fst_setops.specs.Difference.{followed, next_by, IsEpsilonFree}
 
--- the test of a label tells
-pub label_cases : (x l : ℕ) → ((x ≡ l) × (nat_eq x l ≡ true)) ⊎ ((x ≡ l → ⊥) × (nat_eq x l ≡ false))
-label_cases x l = by_test (nat_eq x l) refl
-  where
-    by_test : (t : Bool) → nat_eq x l ≡ t → ((x ≡ l) × (nat_eq x l ≡ true)) ⊎ ((x ≡ l → ⊥) × (nat_eq x l ≡ false))
-    by_test true e = inl (eqb-true x l e, e)
-    by_test false e = inr ((λ same. let f : true ≡ false = sym (eq-eqb x l same) ∙ e in absurd (cc)), e)
-
 module _ {M : Type 0} where
+  -- an arc with another label is passed over
+  pub next_by_other : (label : ℕ) (a : Arc Cost M) (arcs : List (Arc Cost M)) → a.ilabel ≢ label → next_by label (a ∷ arcs) ≡ next_by label arcs
+  next_by_other label a arcs other = ap (λ t. cond t (Some a.next) (next_by label arcs)) (ne_eqb a.ilabel label other)
+
+  -- and one with the label is taken
+  pub next_by_same : (label : ℕ) (a : Arc Cost M) (arcs : List (Arc Cost M)) → a.ilabel ≡ label → next_by label (a ∷ arcs) ≡ Some a.next
+  next_by_same label a arcs same = ap (λ t. cond t (Some a.next) (next_by label arcs)) (eq-eqb a.ilabel label same)
+
   -- a place that is found is that of an arc with the label
   pub next_arc : (label : ℕ) (arcs : List (Arc Cost M)) (r : M) → next_by label arcs ≡ Some r → (k : ℕ) × (a : Arc Cost M) × (slice_get arcs k ≡ Some a) × (a.ilabel ≡ label) × (a.next ≡ r)
   next_arc label [] r e = absurd (cc)
-  next_arc label (a ∷ arcs) r e = by_label (next_arc label arcs r) (label_cases a.ilabel label)
+  next_arc label (a ∷ arcs) r e = by_label (next_arc label arcs r) (cases_eq a.ilabel label)
     where
       by_label : (next_by label arcs ≡ Some r → (k : ℕ) × (b : Arc Cost M) × (slice_get arcs k ≡ Some b) × (b.ilabel ≡ label) × (b.next ≡ r))
-          → ((a.ilabel ≡ label) × (nat_eq a.ilabel label ≡ true)) ⊎ ((a.ilabel ≡ label → ⊥) × (nat_eq a.ilabel label ≡ false)) → (k : ℕ) × (b : Arc Cost M) × (slice_get (a ∷ arcs) k ≡ Some b) × (b.ilabel ≡ label) × (b.next ≡ r)
-      by_label more (inl same) = (0, a, refl, same.0, same_Some a.next r (ap (λ t. cond t (Some a.next) (next_by label arcs)) (sym same.1) ∙ e))
-      by_label more (inr other) =
-          let rest = more (ap (λ t. cond t (Some a.next) (next_by label arcs)) (sym other.1) ∙ e) in
-          (suc rest.0, rest.1, rest.2, rest.3, rest.4)
+          → (a.ilabel ≡ label) ⊎ (a.ilabel ≢ label) → (k : ℕ) × (b : Arc Cost M) × (slice_get (a ∷ arcs) k ≡ Some b) × (b.ilabel ≡ label) × (b.next ≡ r)
+      by_label more (inl same) = (0, a, refl, same, same_Some a.next r (sym (next_by_same label a arcs same) ∙ e))
+      by_label more (inr other) = let rest = more (sym (next_by_other label a arcs other) ∙ e) in (suc rest.0, rest.1, rest.2, rest.3, rest.4)
 
   -- an arc with the label is found, where no other has it
   pub arc_next : (label : ℕ) (arcs : List (Arc Cost M)) (k : ℕ) (a : Arc Cost M) → slice_get arcs k ≡ Some a → a.ilabel ≡ label
       → (b : Arc Cost M) × (j : ℕ) × (slice_get arcs j ≡ Some b) × (b.ilabel ≡ label) × (next_by label arcs ≡ Some b.next)
   arc_next label [] k a has e = absurd (cc)
-  arc_next label (c ∷ arcs) k a has e = by_label (λ k has. arc_next label arcs k a has e) (label_cases c.ilabel label) k has
+  arc_next label (c ∷ arcs) k a has e = by_label (λ k has. arc_next label arcs k a has e) (cases_eq c.ilabel label) k has
     where
       by_label : ((k : ℕ) → slice_get arcs k ≡ Some a → (b : Arc Cost M) × (j : ℕ) × (slice_get arcs j ≡ Some b) × (b.ilabel ≡ label) × (next_by label arcs ≡ Some b.next))
-          → ((c.ilabel ≡ label) × (nat_eq c.ilabel label ≡ true)) ⊎ ((c.ilabel ≡ label → ⊥) × (nat_eq c.ilabel label ≡ false)) → (k : ℕ) → slice_get (c ∷ arcs) k ≡ Some a
+          → (c.ilabel ≡ label) ⊎ (c.ilabel ≢ label) → (k : ℕ) → slice_get (c ∷ arcs) k ≡ Some a
           → (b : Arc Cost M) × (j : ℕ) × (slice_get (c ∷ arcs) j ≡ Some b) × (b.ilabel ≡ label) × (next_by label (c ∷ arcs) ≡ Some b.next)
-      by_label more (inl same) k has = (c, 0, refl, same.0, ap (λ t. cond t (Some c.next) (next_by label arcs)) same.1)
-      by_label more (inr other) zero has = absurd (other.0 (let f : c ≡ a = same_Some c a has in ap (λ (z : Arc Cost M). z.ilabel) f ∙ e))
+      by_label more (inl same) k has = (c, 0, refl, same, next_by_same label c arcs same)
+      by_label more (inr other) zero has = absurd (other (let f : c ≡ a = same_Some c a has in ap (λ (z : Arc Cost M). z.ilabel) f ∙ e))
       by_label more (inr other) (suc k) has =
           let rest = more k has in
-          (rest.0, suc rest.1, rest.2, rest.3, ap (λ t. cond t (Some c.next) (next_by label arcs)) other.1 ∙ rest.4)
+          (rest.0, suc rest.1, rest.2, rest.3, next_by_other label c arcs other ∙ rest.4)
 
 module _ {M : Type 0} (b : Graph M) where
   -- the second part after letters
