@@ -151,7 +151,7 @@ module _ {N M : Type 0} (kind : ArcType) (a : Graph N) (b : Graph M) where
             pair_one = c.pair ∙ same_one;
             pair_other = d.pair ∙ same_other;
             apart = λ r. t.apart (ratios_step_back t.one t.other l p.0 q.0 both p.1 q.1
-              (ratios_trans (t.one ++ l ∷ []) d.word (t.other ++ l ∷ [])
+                (ratios_trans (t.one ++ l ∷ []) d.word (t.other ++ l ∷ [])
                 (sym c.pair ∙ ((c.pair ∙ same_one) ∙ sym (d.pair ∙ same_other))) d.pair
                 (ratios_trans (t.one ++ l ∷ []) c.word d.word (sym c.pair) ((c.pair ∙ same_one) ∙ sym (d.pair ∙ same_other)) (sym c.ratio) r)
                 d.ratio));

@@ -1,6 +1,7 @@
 -- Where words lead, and that this is what paths say.
 use Rattle.std.proofs.Common.{◌≡◌, ◌≢◌, ◌⊎◌, inl, inr, ◌↔◌, ℕ, zero, suc, Bool, true, false, List, [], ◌∷◌, ◌++◌, Option, None, Some, cond, slice_get, refl, sym, ap, ap₂, ◌∙◌, subst}
 use Rattle.std.proofs.Common.{nat_eq}
+use Rattle.std.proofs.lemmas.Bool.{cases_eq, eq-eqb, ne_eqb}
 use Rattle.std.proofs.lemmas.Option.{same_Some}
 use Rattle.fst_semiring.specs.Cost.{Cost, infinite}
 use Rattle.fst_semiring.specs.declared.arc_type.ArcType.{ArcType}
@@ -16,8 +17,15 @@ use Rattle.fst_trim.specs.WordWeights.{IsSingle}
 use Rattle.fst_trim.specs.Weighed.{IsWeighted}
 use Rattle.fst_trim.specs.WordWeights.{IsWordWeight, Weighs, WordWeighs}
 use Rattle.fst_setops.specs.Difference.{next_by}
-use Rattle.fst_setops.proofs.Second.{label_cases}
+use Rattle.fst_setops.proofs.Second.{next_by_other, next_by_same}
 use Rattle.fst_setops.specs.Led.{begin_of, final_of, gained, led, place_of, product_of, step, step_weight, weight_by, weight_of}
+
+-- the weight of the arc that a label takes
+weight_by_other : {N : Type 0} (label : ℕ) (a : Arc Cost N) (arcs : List (Arc Cost N)) → a.ilabel ≢ label → weight_by label (a ∷ arcs) ≡ weight_by label arcs
+weight_by_other label a arcs other = ap (λ t. cond t a.weight (weight_by label arcs)) (ne_eqb a.ilabel label other)
+
+weight_by_same : {N : Type 0} (label : ℕ) (a : Arc Cost N) (arcs : List (Arc Cost N)) → a.ilabel ≡ label → weight_by label (a ∷ arcs) ≡ a.weight
+weight_by_same label a arcs same = ap (λ t. cond t a.weight (weight_by label arcs)) (eq-eqb a.ilabel label same)
 
 -- the first arc with a label, or none
 pub record Looked {N : Type 0} (label : ℕ) (arcs : List (Arc Cost N)) : Type 0 where
@@ -35,33 +43,22 @@ pub record NoneLooked {N : Type 0} (label : ℕ) (arcs : List (Arc Cost N)) : Ty
 
 pub look : {N : Type 0} (label : ℕ) (arcs : List (Arc Cost N)) → Looked label arcs ⊎ NoneLooked label arcs
 look label [] = inr (record { next = refl; weight = refl; none = (λ k a has. absurd (cc)) })
-look {N} label (c ∷ arcs) = by_label (label_cases c.ilabel label) (look label arcs)
+look {N} label (c ∷ arcs) = by_label (cases_eq c.ilabel label) (look label arcs)
   where
-    by_label : ((c.ilabel ≡ label) × (nat_eq c.ilabel label ≡ true)) ⊎ ((c.ilabel ≡ label → ⊥) × (nat_eq c.ilabel label ≡ false)) → Looked label arcs ⊎ NoneLooked label arcs → Looked label (c ∷ arcs) ⊎ NoneLooked label (c ∷ arcs)
-    by_label (inl same) rest = inl (record {
-      place = 0;
-      arc = c;
-      has = refl;
-      label_is = same.0;
-      next = ap (λ t. cond t (Some c.next) (next_by label arcs)) same.1;
-      weight = ap (λ t. cond t c.weight (weight_by label arcs)) same.1;
-    })
+    by_label : (c.ilabel ≡ label) ⊎ (c.ilabel ≢ label) → Looked label arcs ⊎ NoneLooked label arcs → Looked label (c ∷ arcs) ⊎ NoneLooked label (c ∷ arcs)
+    by_label (inl same) rest = inl (record { place = 0; arc = c; has = refl; label_is = same; next = next_by_same label c arcs same; weight = weight_by_same label c arcs same })
     by_label (inr other) (inl l) = inl (record {
       place = suc l.place;
       arc = l.arc;
       has = l.has;
       label_is = l.label_is;
-      next = ap (λ t. cond t (Some c.next) (next_by label arcs)) other.1 ∙ l.next;
-      weight = ap (λ t. cond t c.weight (weight_by label arcs)) other.1 ∙ l.weight;
+      next = next_by_other label c arcs other ∙ l.next;
+      weight = weight_by_other label c arcs other ∙ l.weight;
     })
-    by_label (inr other) (inr n) = inr (record {
-      next = ap (λ t. cond t (Some c.next) (next_by label arcs)) other.1 ∙ n.next;
-      weight = ap (λ t. cond t c.weight (weight_by label arcs)) other.1 ∙ n.weight;
-      none = none;
-    })
+    by_label (inr other) (inr n) = inr (record { next = next_by_other label c arcs other ∙ n.next; weight = weight_by_other label c arcs other ∙ n.weight; none = none })
       where
         none : (k : ℕ) (a : Arc Cost N) → slice_get (c ∷ arcs) k ≡ Some a → a.ilabel ≢ label
-        none zero a has e = other.0 (ap (λ (z : Arc Cost N). z.ilabel) (same_Some c a has) ∙ e)
+        none zero a has e = other (ap (λ (z : Arc Cost N). z.ilabel) (same_Some c a has) ∙ e)
         none (suc k) a has e = n.none k a has e
 
 module _ {N : Type 0} (kind : ArcType) (g : Graph N) where
@@ -216,7 +213,7 @@ module _ {N : Type 0} (kind : ArcType) (g : Graph N) where
         by_start (Some p) starts (Some q) at =
             let path = led_path x p q (one_of kind) (ap (λ s. led g s x) (sym starts) ∙ at) in
             let gain : product_of kind g x ≡ product kind (letters path.path) =
-                ap (λ (s : Option N). gained kind g s (begin_of kind s) x) starts ∙ (path.weight ∙ one_times kind (product kind (letters path.path))) in
+            ap (λ (s : Option N). gained kind g s (begin_of kind s) x) starts ∙ (path.weight ∙ one_times kind (product kind (letters path.path))) in
             let is : weight_of kind g x ≡ times kind (product kind (letters path.path)) (g.final q) = ap₂ (times kind) gain (ap (final_of g) at) in
             record {
               first = p;

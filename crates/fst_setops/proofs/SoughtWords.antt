@@ -50,7 +50,7 @@ module _ {V : Type 0} where
       let less : m.parent < length made = (let e = ap (λ (k : Node V). k.parent) is in omega (arith, low, e)) in
       let old : slice_get made m.parent ≡ Some (get_or made m.parent []) = slice_get-get_or made m.parent [] less in
       let parent : get_or (words_behind (made ++ w ∷ []) nodes) m.parent [] ≡ get_or made m.parent [] =
-          get_or_from_slice_get (words_behind (made ++ w ∷ []) nodes) m.parent (get_or made m.parent []) [] (behind_keeps (made ++ w ∷ []) nodes m.parent (get_or made m.parent []) (at_append_left made (w ∷ []) m.parent (get_or made m.parent []) old)) in
+      get_or_from_slice_get (words_behind (made ++ w ∷ []) nodes) m.parent (get_or made m.parent []) [] (behind_keeps (made ++ w ∷ []) nodes m.parent (get_or made m.parent []) (at_append_left made (w ∷ []) m.parent (get_or made m.parent []) old)) in
       here ∙ (ap (λ v. Some (v ++ m.label ∷ [])) (sym parent) ∙ ap (λ (k : Node V). Some (get_or (words_behind (made ++ w ∷ []) nodes) k.parent [] ++ k.label ∷ [])) is)
   behind_word made (m ∷ nodes) (suc i) n at low =
       let w = get_or made m.parent [] ++ m.label ∷ [] in

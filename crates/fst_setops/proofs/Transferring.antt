@@ -86,7 +86,7 @@ module _ (kind : ArcType) (a b c d : Machine Cost) (first : IsReadied a c) (seco
       let one = one_connected a m.first first.connected m.first_connected first.connects in
       let two = one_connected b m.second second.connected m.second_connected second.connects in
       let moved : HasMorePairs (graph_of first.connected) (graph_of second.connected) limit =
-          subst (λ (x : Machine Cost). HasMorePairs (graph_of x) (graph_of second.connected) limit) one (subst (λ (x : Machine Cost). HasMorePairs (graph_of m.first) (graph_of x) limit) two m.more) in
+      subst (λ (x : Machine Cost). HasMorePairs (graph_of x) (graph_of second.connected) limit) one (subst (λ (x : Machine Cost). HasMorePairs (graph_of m.first) (graph_of x) limit) two m.more) in
       record { pairs = moved.pairs; apart = moved.apart; led = λ p has. pair_there p (moved.led p has); more = moved.more }
 
   pub ready_ascends : ((p : ℕ) → AscendsStrictly ((graph_of c).arcs p)) × ((p : ℕ) → AscendsStrictly ((graph_of d).arcs p))

@@ -29,4 +29,3 @@ no_later_trans x y z (inr h) (inr k) = inr (sooner_trans x y z h k)
 pub no_later_push : (x y : List ℕ) (a : ℕ) → NoLater x y → NoLater (x ++ a ∷ []) (y ++ a ∷ [])
 no_later_push x y a (inl e) = inl (subst (λ w. x ++ a ∷ [] ≡ w ++ a ∷ []) e refl)
 no_later_push x y a (inr h) = inr (sooner_push x y a a h)
-

@@ -97,4 +97,3 @@ module _ {N M : Type 0} (kind : ArcType) (a : Graph N) (b : Graph M) where
     pub ascend : Ascend words
     pub made : (w : List ℕ) → Has words w → ([] ≡ w) ⊎ IsMade words taken label w
     pub closed : (i l : ℕ) (u : List ℕ) → slice_get words i ≡ Some u → IsBehind taken label i l → (IsNowhere (pair_of (u ++ l ∷ [])) → ⊥) → IsCovered words (u ++ l ∷ [])
-

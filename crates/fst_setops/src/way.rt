@@ -48,19 +48,23 @@ pub(crate) fn next_way<W: Copy>(
             let label = first.ilabel.min(second.ilabel);
             Some(Way {
                 label,
-                first: if first.ilabel == label { Some(first) } else { None },
-                second: if second.ilabel == label { Some(second) } else { None },
+                first: if first.ilabel == label {
+                    Some(first)
+                } else {
+                    None
+                },
+                second: if second.ilabel == label {
+                    Some(second)
+                } else {
+                    None
+                },
             })
         }
     }
 }
 
 /// The place behind an arc that was taken from a place.
-pub(crate) fn past<W: Copy>(
-    arcs: &[FstArc<W>],
-    place: usize,
-    arc: Option<FstArc<W>>,
-) -> usize
+pub(crate) fn past<W: Copy>(arcs: &[FstArc<W>], place: usize, arc: Option<FstArc<W>>) -> usize
     requires { IfSome arc (λ a. place < length arcs.now) }
     ensures { result ≡ past place arc }
 {

@@ -56,8 +56,8 @@ loop-way-init g c =
     let there : slice_get c.args.search.now.nodes.items c.args.place ≡ Some n = slice_get-get_or c.args.search.now.nodes.items c.args.place n c.requires.place ∙ ap Some (sym c.index-node.ensures) in
     record {
       taking = take_begins g.W.Weight.KIND g.W.Weight.wide_value g.W.Weight.value c.args.a.now c.args.b.now c.requires.first c.requires.second c.args.limit c.args.search.now.pairs c.args.search.now.slots.items c.args.search.now.nodes.items c.args.place n c.arcs_of-firsts.result.now c.arcs_of-seconds.result.now c.item-pair.result.now c.requires.sought there of
-      (c.arcs_of-firsts.ensures ∙ ap (λ (p : Pair ℕ ℕ). arcs_of (graph_of (valued g.W.Weight.value c.args.a.now)) p.first) c.pair.view_is)
-      (c.arcs_of-seconds.ensures ∙ ap (λ (p : Pair ℕ ℕ). arcs_of (graph_of (valued g.W.Weight.value c.args.b.now)) p.second) c.pair.view_is);
+          (c.arcs_of-firsts.ensures ∙ ap (λ (p : Pair ℕ ℕ). arcs_of (graph_of (valued g.W.Weight.value c.args.a.now)) p.first) c.pair.view_is)
+          (c.arcs_of-seconds.ensures ∙ ap (λ (p : Pair ℕ ℕ). arcs_of (graph_of (valued g.W.Weight.value c.args.b.now)) p.second) c.pair.view_is);
       kept = before_same c.args.search.now.nodes.items;
     }
 
@@ -110,7 +110,7 @@ loop-way-preserved g c =
     let more = take_before g.W.Weight.KIND g.W.Weight.wide_value g.W.Weight.value c.args.a.now c.args.b.now c.requires.first c.requires.second c.args.limit c.loop-way.search.pairs c.loop-way.search.slots.items c.loop-way.search.nodes.items c.args.place c.index-node.result.now c.arcs_of-firsts.result.now c.arcs_of-seconds.result.now c.loop-way.x c.loop-way.y t c.in-Some.way.label c.in-Some.way.first c.in-Some.way.second c.in-Some.ensures new.pairs new.slots.items new.nodes.items f c.in_ok-follow.ensures.sound in
     record {
       taking = subst (λ x. IsTaking g.W.Weight.KIND g.W.Weight.wide_value (graph_of (valued g.W.Weight.value c.args.a.now)) (graph_of (valued g.W.Weight.value c.args.b.now)) g.W.Weight.value c.args.limit new.pairs new.slots.items new.nodes.items c.args.place c.index-node.result.now c.arcs_of-firsts.result.now c.arcs_of-seconds.result.now x c.past-y.result) (sym c.past-x.ensures)
-      (subst (λ y. IsTaking g.W.Weight.KIND g.W.Weight.wide_value (graph_of (valued g.W.Weight.value c.args.a.now)) (graph_of (valued g.W.Weight.value c.args.b.now)) g.W.Weight.value c.args.limit new.pairs new.slots.items new.nodes.items c.args.place c.index-node.result.now c.arcs_of-firsts.result.now c.arcs_of-seconds.result.now (past c.loop-way.x c.in-Some.way.first) y) (sym c.past-y.ensures) on);
+          (subst (λ y. IsTaking g.W.Weight.KIND g.W.Weight.wide_value (graph_of (valued g.W.Weight.value c.args.a.now)) (graph_of (valued g.W.Weight.value c.args.b.now)) g.W.Weight.value c.args.limit new.pairs new.slots.items new.nodes.items c.args.place c.index-node.result.now c.arcs_of-firsts.result.now c.arcs_of-seconds.result.now (past c.loop-way.x c.in-Some.way.first) y) (sym c.past-y.ensures) on);
       kept = before_trans c.args.search.now.nodes.items c.loop-way.search.nodes.items new.nodes.items c.loop-way.invariant.kept more;
     }
 
