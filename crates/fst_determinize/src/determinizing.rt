@@ -15,7 +15,7 @@ use crate::making::put_arcs;
 use crate::residual::Residual;
 use crate::single::{labels_ascend, put_single_arcs};
 use crate::subset::{Held, SubsetOf, subset_of_one};
-use crate::way::{WayOn, further_final, put_arc_ways, put_ways, sort_ways};
+use crate::way::{WayOn, further_final, put_ways, sort_ways};
 use fst_machine::Fst;
 use fst_semiring::Weight;
 use fst_walk::{NameArc, Names, Room, WalkFault, Walked, walk};
@@ -42,12 +42,15 @@ pub(crate) fn no_ways<R, V>(alloc: Global) -> Scratch<R, V> {
 }
 
 /// The subset of the empty word, if there is a start. Takes no memory.
-pub(crate) fn first_subset<W: Weight, R: Residual<W>>(fst: &Fst<W>) -> Option<SubsetOf<R>>
+pub(crate) fn first_subset<W: Weight, R: Residual<W>>(
+    alloc: Global,
+    fst: &Fst<W>,
+) -> Option<SubsetOf<R>>
     ensures { result ≡ (subsets W.KIND (graph_of (valued W.value fst.now))).start }
 {
     let state = fst.start()?;
     let residual = R::one();
-    Some(subset_of_one(Held { state, residual }))
+    Some(subset_of_one(alloc, Held { state, residual }))
 }
 
 /// The final weight of a subset: the best, over its members, of residual Times final weight. Takes no memory.
@@ -55,10 +58,8 @@ pub(crate) fn last_weight<W: Weight, R: Residual<W>>(fst: &Fst<W>, subset: &Subs
     requires { AreMembers (length fst.now.states) subset.now }
     ensures { W.wide_value result ≡ final_by W.KIND (graph_of (valued W.value fst.now)) subset.now }
 {
-    let (first, rest) = subset.members();
-    let mut best = further_final(first.residual, fst.final_weight(first.state));
-    for place in 0..rest.len() {
-        let member = rest.item(place);
+    let mut best = W::zero().widen();
+    for member in subset.members() {
         let own = further_final(member.residual, fst.final_weight(member.state));
         best = W::wide_plus(best, own);
     }
@@ -77,9 +78,7 @@ fn put_sorted_arcs<W: Weight, R: Residual<W>>(
     ensures { OnOk result (map (key_arc W.wide_value) out.new.items ≡ map (key_arc W.wide_value) out.old.items ++ (subsets W.KIND (graph_of (valued W.value fst.now))).arcs subset.now) }
 {
     scratch.ways.clear();
-    let (first, rest) = subset.members();
-    put_arc_ways(&mut scratch.ways, fst.arcs(first.state), first)?;
-    put_ways(&mut scratch.ways, fst, rest)?;
+    put_ways(&mut scratch.ways, fst, subset.members())?;
     sort_ways(&mut scratch.ways);
     put_arcs(
         out,
@@ -100,12 +99,13 @@ pub(crate) fn put_subset_arcs<W: Weight, R: Residual<W>>(
     requires members { AreMembers (length fst.now.states) subset.now }
     ensures { OnOk result (map (key_arc W.wide_value) out.new.items ≡ map (key_arc W.wide_value) out.old.items ++ (subsets W.KIND (graph_of (valued W.value fst.now))).arcs subset.now) }
 {
-    let (first, rest) = subset.members();
-    if rest.len() == 0 {
-        let arcs = fst.arcs(first.state);
+    let members = subset.members();
+    if members.len() == 1 {
+        let member = members[0];
+        let arcs = fst.arcs(member.state);
         // Nothing is to be sorted or to be put together.
         if labels_ascend(arcs) {
-            return put_single_arcs(out, arcs, first);
+            return put_single_arcs(out, arcs, member, scratch.alloc);
         }
     }
     put_sorted_arcs(scratch, out, fst, subset)
@@ -115,6 +115,7 @@ pub(crate) fn put_subset_arcs<W: Weight, R: Residual<W>>(
 #[derive(Drop)]
 struct Determinizing<'a, W: Weight, R: Residual<W>> {
     fst: &'a Fst<W>,
+    alloc: Global,
     form: PhantomData<R>,
 }
 
@@ -132,7 +133,7 @@ impl<'a, W: Weight, R: Residual<W>> Names<W> for Determinizing<'a, W, R> {
     ghost holds = { λ s. IsWeighed W.KIND W.value s.fst.now × HasGoodArcs W.KIND (graph_of (valued W.value s.fst.now)) };
 
     fn start(&self) -> Option<SubsetOf<R>> {
-        first_subset(self.fst)
+        first_subset(self.alloc, self.fst)
     }
 
     fn scratch(alloc: Global) -> Scratch<R, W::Wide> {
@@ -178,6 +179,7 @@ pub(crate) fn walk_subsets<W: Weight, R: Residual<W>>(
     };
     let graph = Determinizing {
         fst,
+        alloc,
         form: PhantomData::<R>,
     };
     walk(alloc, &graph, room, max_states)

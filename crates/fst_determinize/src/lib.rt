@@ -15,6 +15,7 @@ mod fault;
 pub mod laws;
 mod listing;
 mod making;
+mod lists;
 mod on_demand;
 mod residual;
 mod single;
@@ -23,6 +24,7 @@ mod way;
 
 pub use determined::{Determined, Subsets, determinize};
 pub use fault::DeterminizeFault;
+pub use lists::{MemberList, SubsetWeight};
 pub use on_demand::{Subset, SubsetArc, start_subset, subset_arcs, subset_final};
 pub use residual::{Broad, Kept, Narrow, Residual};
 pub use subset::{Held, SubsetOf};

@@ -94,6 +94,7 @@ fn put_members<W: Weight, R: Residual<W>>(
 /// The arc of a way that is the only one with its label: it leads to the subset of its state alone. Takes no memory.
 pub(crate) fn single_arc<W: Weight, R: Residual<W>>(
     way: WayOn<W::Wide>,
+    alloc: Global,
 ) -> Result<NameArc<SubsetOf<R>, W>, ArcFault>
     requires not_zero { W.wide_value way.weight ≢ infinite }
     requires wide { IsWide (W.wide_value way.weight) }
@@ -110,7 +111,7 @@ pub(crate) fn single_arc<W: Weight, R: Residual<W>>(
         ilabel: way.label,
         olabel: way.label,
         weight: way.weight,
-        next: subset_of_one(member),
+        next: subset_of_one(alloc, member),
     })
 }
 

@@ -6,11 +6,15 @@ ghost use Rattle.fst_semiring.specs.Keys.{key_of};
 ghost use Rattle.fst_semiring.specs.Semiring.{one_of};
 ghost use Rattle.fst_determinize.specs.Kept.{same_cost};
 
+use crate::lists::{MemberList, SubsetWeight};
 use fst_semiring::{Key, Weight};
 use std::marker::PhantomData;
 
 /// A residual, whatever its form.
 pub trait Kept: Copy {
+    /// The list in which the members of a subset are kept.
+    type List: MemberList<Self>;
+
     /// Its value.
     ghost value: { Self → Cost };
 
@@ -44,7 +48,16 @@ pub struct Narrow<W: Weight> {
     weight: W,
 }
 
-impl<W: Weight> Kept for Narrow<W> {
+/// One, which stands where a list has place for more members.
+impl<W: Weight> Default for Narrow<W> {
+    fn default() -> Narrow<W> {
+        Narrow { weight: W::one() }
+    }
+}
+
+impl<W: SubsetWeight> Kept for Narrow<W> {
+    type List = W::NarrowList;
+
     ghost value = { λ r. W.value r.weight };
 
     fn same(self, other: Narrow<W>) -> bool {
@@ -56,7 +69,7 @@ impl<W: Weight> Kept for Narrow<W> {
     }
 }
 
-impl<W: Weight> Residual<W> for Narrow<W> {
+impl<W: SubsetWeight> Residual<W> for Narrow<W> {
     fn one() -> Narrow<W> {
         Narrow { weight: W::one() }
     }
@@ -78,7 +91,19 @@ pub struct Broad<W, V> {
     of: PhantomData<W>,
 }
 
-impl<W: Weight> Kept for Broad<W, W::Wide> {
+/// One, which stands where a list has place for more members.
+impl<W: Weight> Default for Broad<W, W::Wide> {
+    fn default() -> Broad<W, W::Wide> {
+        Broad {
+            weight: W::one().widen(),
+            of: PhantomData,
+        }
+    }
+}
+
+impl<W: SubsetWeight> Kept for Broad<W, W::Wide> {
+    type List = W::BroadList;
+
     ghost value = { λ r. W.wide_value r.weight };
 
     fn same(self, other: Broad<W, W::Wide>) -> bool {
@@ -90,7 +115,7 @@ impl<W: Weight> Kept for Broad<W, W::Wide> {
     }
 }
 
-impl<W: Weight> Residual<W> for Broad<W, W::Wide> {
+impl<W: SubsetWeight> Residual<W> for Broad<W, W::Wide> {
     fn one() -> Broad<W, W::Wide> {
         Broad {
             weight: W::one().widen(),

@@ -17,6 +17,7 @@ use crate::way::way_of;
 use fst_machine::FstArc;
 use fst_semiring::Weight;
 use fst_walk::NameArc;
+use std::alloc::Global;
 
 /// Whether each of these arcs has a greater label than those before it.
 pub(crate) fn labels_ascend<W: Weight>(arcs: &[FstArc<W>]) -> bool
@@ -40,6 +41,7 @@ pub(crate) fn put_single_arcs<W: Weight, R: Residual<W>>(
     out: &mut Vec<NameArc<SubsetOf<R>, W>>,
     arcs: &[FstArc<W>],
     member: Held<R>,
+    alloc: Global,
 ) -> Result<(), ArcFault>
     requires modest { IsModest (R.value member.residual) }
     requires not_zero { All (λ a. times W.KIND (R.value member.residual) (W.value a.weight) ≢ infinite) arcs.now }
@@ -47,7 +49,7 @@ pub(crate) fn put_single_arcs<W: Weight, R: Residual<W>>(
     ensures { OnOk result (map (key_arc W.wide_value) out.new.items ≡ map (key_arc W.wide_value) out.old.items ++ map (single_arc W.KIND) (map (way_by W.KIND (member_as R.value member)) (map (valued_arc W.value) arcs.now))) }
 {
     for arc in arcs {
-        let next = single_arc(way_of(member, *arc))?;
+        let next = single_arc(way_of(member, *arc), alloc)?;
         put(out, next)?;
     }
     Ok(())

@@ -1,21 +1,21 @@
 //! Weighted subsets as keys of a table.
 
-ghost use Rattle.std.specs.Prelude.{◌≡◌, ◌<◌, [], ◌∷◌, ◌++◌, IfOk, Some, fold, length, slice_get};
+ghost use Rattle.std.specs.Prelude.{◌≡◌, ◌<◌, [], ◌∷◌, IfOk, Some, fold, length, slice_get};
 ghost use Rattle.std.specs.Cmp.{on_equiv, on_per, partial_equiv_from_equiv};
 ghost use Rattle.fst_determinize.specs.Kept.{member_as, members_as, number_more, same_member, same_members, subset_number};
-ghost use Rattle.fst_determinize.specs.Others.{others_in};
-ghost use Rattle.std.specs.Bool.{Decides};
 ghost use Rattle.fst_determinize.specs.KeyLaws.{member_laws, same_decides, subset_laws};
 ghost use Rattle.fst_determinize.specs.Listing.{listed_apart, listed_decides, listed_of};
 
 use crate::listing::{Listed, Ranked};
+use crate::lists::MemberList;
 use crate::residual::Kept;
 use fst_keys::{Code, Coded};
 use std::alloc::{AllocError, Global};
+use std::convert::AsSlice;
 use std::marker::Model;
 
 /// A state with its residual.
-#[derive(Clone, Copy)]
+#[derive(Clone, Copy, Default)]
 pub struct Held<R> {
     /// The state.
     pub state: u32,
@@ -47,96 +47,20 @@ impl<R: Kept> Eq for Held<R> {
     ghost laws = { on_equiv (member_as R.value) member_laws };
 }
 
-/// The members of a subset behind the first. Up to two stand in place, so that most subsets take no memory of their own.
-#[derive(Drop)]
-pub(crate) enum Others<R> {
-    /// There are none.
-    None,
-    /// There is one.
-    One(Held<R>),
-    /// There are two.
-    Two(Held<R>, Held<R>),
-    /// Those of a list.
-    More(Vec<Held<R>>),
-}
-
-impl<R: Kept> Others<R> {
-    /// How many there are. Takes no memory.
-    pub(crate) fn len(&self) -> usize
-        ensures { result ≡ length (others_in self.now) }
-    {
-        match self {
-            Others::None => 0,
-            Others::One(_) => 1,
-            Others::Two(_, _) => 2,
-            Others::More(list) => list.len(),
-        }
-    }
-
-    /// The one in a place, by state, from 0. Takes no memory.
-    pub(crate) fn item(&self, place: usize) -> Held<R>
-        requires { place < length (others_in self.now) }
-        ensures { slice_get (others_in self.now) place ≡ Some result }
-    {
-        match self {
-            Others::None => unreachable!(),
-            Others::One(second) => *second,
-            Others::Two(second, third) => { if place == 0 { *second } else { *third } }
-            Others::More(list) => list[place],
-        }
-    }
-
-    /// Whether they are the same.
-    fn same(&self, other: &Others<R>) -> bool
-        ensures { Decides result (members_as R.value (others_in self.now) ≡ members_as R.value (others_in other.now)) }
-    {
-        if self.len() != other.len() {
-            return false;
-        }
-        for place in 0..self.len() {
-            let ours = self.item(place);
-            let theirs = other.item(place);
-            if ours != theirs {
-                return false;
-            }
-        }
-        true
-    }
-}
-
-/// Those of a list.
-fn others_of<R: Kept>(alloc: Global, members: &[Held<R>]) -> Result<Others<R>, AllocError>
-    ensures { IfOk result (λ others. others_in others ≡ members.now) }
-{
-    match members.len() {
-        0 => Ok(Others::None),
-        1 => Ok(Others::One(members[0])),
-        2 => Ok(Others::Two(members[0], members[1])),
-        many => {
-            let mut list = Vec::with_capacity(alloc, many)?;
-            list.extend_from_slice(members)?;
-            Ok(Others::More(list))
-        }
-    }
-}
-
-/// A weighted subset that is not empty: states by number, each with its residual. One of up to three states takes no
-/// memory of its own.
+/// A weighted subset: states by number, each with its residual. One of up to two states takes no memory of its own.
 #[derive(Drop)]
 pub struct SubsetOf<R: Kept> {
-    first: Held<R>,
-    others: Others<R>,
+    list: R::List,
 }
 
 impl<R: Kept> Model for SubsetOf<R> {
-    ghost use Rattle.std.specs.Prelude.{List, ◌∷◌};
+    ghost use Rattle.std.specs.Prelude.{List};
     ghost use Rattle.fst_determinize.specs.Subsets.{Member};
-    ghost use Rattle.fst_determinize.specs.Kept.{member_as, members_as};
-    ghost use Rattle.fst_determinize.specs.Others.{others_in};
+    ghost use Rattle.fst_determinize.specs.Kept.{members_as};
 
     ghost Value = { List Member };
 
-    ghost view = { λ s. member_as R.value s.first ∷ members_as R.value (others_in s.others) };
+    ghost view = { λ s. members_as R.value (R.List.items s.list) };
 }
 
 impl<R: Kept> PartialEq for SubsetOf<R> {
@@ -145,7 +69,7 @@ impl<R: Kept> PartialEq for SubsetOf<R> {
     ghost laws = { partial_equiv_from_equiv subset_laws };
 
     fn eq(&self, other: &SubsetOf<R>) -> bool {
-        self.first == other.first && self.others.same(&other.others)
+        self.members() == other.members()
     }
 }
 
@@ -173,8 +97,8 @@ fn number_more<R: Kept>(number: u64, member: Held<R>) -> u64
         .wrapping_add(u64::from(member.state))
 }
 
-/// A number with the members of a list more.
-fn numbered_list<R: Kept>(number: u64, members: &[Held<R>]) -> u64
+/// A number with these members more.
+fn numbered<R: Kept>(number: u64, members: &[Held<R>]) -> u64
     ensures { result ≡ fold number_more number (members_as R.value members.now) }
 {
     let mut so_far = number;
@@ -182,18 +106,6 @@ fn numbered_list<R: Kept>(number: u64, members: &[Held<R>]) -> u64
         so_far = number_more(so_far, *member);
     }
     so_far
-}
-
-/// A number with these members more.
-fn numbered<R: Kept>(number: u64, members: &Others<R>) -> u64
-    ensures { result ≡ fold number_more number (members_as R.value (others_in members.now)) }
-{
-    match members {
-        Others::None => number,
-        Others::One(second) => number_more(number, *second),
-        Others::Two(second, third) => number_more(number_more(number, *second), *third),
-        Others::More(list) => numbered_list(number, list.as_slice()),
-    }
 }
 
 /// The members of a subset as plain numbers.
@@ -221,9 +133,8 @@ impl<R: Kept> Coded for SubsetOf<R> {
     ghost whole = { listed_of };
 
     fn code(&self) -> Code {
-        let first = number_more(0, self.first);
         Code {
-            number: numbered(first, &self.others),
+            number: numbered(0, self.members()),
             is_alone: false,
         }
     }
@@ -244,40 +155,34 @@ pub(crate) fn subset_of<R: Kept>(
     alloc: Global,
     members: &[Held<R>],
 ) -> Result<SubsetOf<R>, AllocError>
-    requires { 0 < length members.now }
     ensures { IfOk result (λ s. s ≡ members_as R.value members.now) }
 {
-    let first = members[0];
-    let (_, others) = members.split_at(1);
-    Ok(SubsetOf {
-        first,
-        others: others_of(alloc, others)?,
-    })
+    let list = R::List::of(alloc, members)?;
+    Ok(SubsetOf { list })
 }
 
 /// The subset of one member. Takes no memory.
-pub(crate) fn subset_of_one<R: Kept>(member: Held<R>) -> SubsetOf<R>
+pub(crate) fn subset_of_one<R: Kept>(alloc: Global, member: Held<R>) -> SubsetOf<R>
     ensures { result ≡ member_as R.value member ∷ [] }
 {
     SubsetOf {
-        first: member,
-        others: Others::None,
+        list: R::List::one(alloc, member),
     }
 }
 
 impl<R: Kept> SubsetOf<R> {
-    /// Its first member, and the others, by state.
-    pub(crate) fn members(&self) -> (Held<R>, &Others<R>)
-        ensures { member_as R.value result.0 ∷ members_as R.value (others_in result.1.now) ≡ self.now }
+    /// Its members, by state. Takes no memory.
+    pub(crate) fn members(&self) -> &[Held<R>]
+        ensures { members_as R.value result.now ≡ self.now }
     {
-        (self.first, &self.others)
+        self.list.as_slice()
     }
 
     /// How many members it has. Takes no memory.
     pub fn len(&self) -> usize
         ensures { result ≡ length self.now }
     {
-        self.others.len() + 1
+        self.members().len()
     }
 
     /// The member in a place, by state, from 0. Takes no memory.
@@ -285,9 +190,6 @@ impl<R: Kept> SubsetOf<R> {
         requires { index < length self.now }
         ensures { slice_get self.now index ≡ Some (member_as R.value result) }
     {
-        if index == 0 {
-            return self.first;
-        }
-        self.others.item(index - 1)
+        self.members()[index]
     }
 }
