@@ -14,7 +14,7 @@ ghost use Rattle.fst_trim.specs.Weighed.{IsWeighed};
 
 use crate::determinizing::walk_subsets;
 use crate::fault::{ArcFault, DeterminizeFault};
-use crate::lists::SubsetWeight;
+use crate::lists::{MemberList, SubsetWeight};
 use crate::on_demand::Subset;
 use crate::residual::{Broad, Narrow, Residual};
 use crate::subset::SubsetOf;
@@ -29,9 +29,9 @@ use std::marker::Model;
 #[derive(Drop)]
 pub struct Subsets<W: SubsetWeight> {
     /// Those whose residuals are in the form of weights.
-    narrow: NameTable<SubsetOf<Narrow<W>>>,
+    narrow: NameTable<SubsetOf<Narrow<W>, W::NarrowList>>,
     /// Those whose residuals are in the wide form, which stand behind. One of the two tables is empty.
-    broad: NameTable<SubsetOf<Broad<W, W::Wide>>>,
+    broad: NameTable<Subset<W>>,
 }
 
 impl<W: SubsetWeight> Model for Subsets<W> {
@@ -71,7 +71,7 @@ impl<W: SubsetWeight> Subsets<W> {
 }
 
 /// The member of a subset in a place: its state, and its residual in the wide form.
-fn member_at<W: Weight, R: Residual<W>>(subset: &SubsetOf<R>, place: usize) -> (u32, W::Wide)
+fn member_at<W: Weight, R: Residual<W>, L: MemberList<R>>(subset: &SubsetOf<R, L>, place: usize) -> (u32, W::Wide)
     requires { place < length subset.now }
     ensures { slice_get subset.now place ≡ Some (record { state = result.0; residual = W.wide_value result.1 }) }
 {
@@ -100,7 +100,7 @@ fn stopped(fault: WalkFault) -> DeterminizeFault
 }
 
 /// The machine with subsets in the form of weights.
-fn narrowly<W: SubsetWeight>(alloc: Global, made: Walked<SubsetOf<Narrow<W>>, W>) -> Determined<W>
+fn narrowly<W: SubsetWeight>(alloc: Global, made: Walked<SubsetOf<Narrow<W>, W::NarrowList>, W>) -> Determined<W>
     ensures fst { result.fst ≡ made.fst }
     ensures subsets { result.subsets ≡ made.names }
 {
@@ -114,7 +114,7 @@ fn narrowly<W: SubsetWeight>(alloc: Global, made: Walked<SubsetOf<Narrow<W>>, W>
 }
 
 /// The machine with subsets in the wide form.
-fn broadly<W: SubsetWeight>(alloc: Global, made: Walked<SubsetOf<Broad<W, W::Wide>>, W>) -> Determined<W>
+fn broadly<W: SubsetWeight>(alloc: Global, made: Walked<Subset<W>, W>) -> Determined<W>
     ensures fst { result.fst ≡ made.fst }
     ensures subsets { result.subsets ≡ made.names }
 {
@@ -140,7 +140,7 @@ fn made_broad<W: SubsetWeight>(
     ensures made { IfOk result (λ r. IfOk r (λ d. IsNamed (subsets W.KIND (graph_of (valued W.value fst.now))) d.subsets (valued W.value d.fst))) }
     ensures exact { IfOk result (IsExact W.KIND W.value fst.now max_states) }
 {
-    match walk_subsets::<W, Broad<W, W::Wide>>(alloc, fst, max_states) {
+    match walk_subsets::<W, Broad<W, W::Wide>, W::BroadList>(alloc, fst, max_states) {
         Ok(Ok(made)) => Ok(Ok(broadly(alloc, made))),
         Ok(Err(fault)) => Ok(Err(stopped(fault))),
         // Each residual has a wide form, so memory alone is lacking.
@@ -163,7 +163,7 @@ fn made_narrow<W: SubsetWeight>(
     ensures made { IfOk result (λ r. IfOk r (λ d. IsNamed (subsets W.KIND (graph_of (valued W.value fst.now))) d.subsets (valued W.value d.fst))) }
     ensures exact { IfOk result (IsExact W.KIND W.value fst.now max_states) }
 {
-    match walk_subsets::<W, Narrow<W>>(alloc, fst, max_states) {
+    match walk_subsets::<W, Narrow<W>, W::NarrowList>(alloc, fst, max_states) {
         Ok(Ok(made)) => Ok(Ok(narrowly(alloc, made))),
         Ok(Err(fault)) => Ok(Err(stopped(fault))),
         Err(ArcFault::NotKept) => made_broad(alloc, fst, max_states),

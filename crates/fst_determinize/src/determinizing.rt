@@ -11,6 +11,7 @@ ghost use Rattle.fst_trim.specs.Weighed.{IsWeighed};
 ghost use Rattle.fst_determinize.specs.Weighed.{AreMembers, HasGoodArcs};
 
 use crate::fault::ArcFault;
+use crate::lists::MemberList;
 use crate::making::put_arcs;
 use crate::residual::Residual;
 use crate::single::{labels_ascend, put_single_arcs};
@@ -42,10 +43,10 @@ pub(crate) fn no_ways<R, V>(alloc: Global) -> Scratch<R, V> {
 }
 
 /// The subset of the empty word, if there is a start. Takes no memory.
-pub(crate) fn first_subset<W: Weight, R: Residual<W>>(
+pub(crate) fn first_subset<W: Weight, R: Residual<W>, L: MemberList<R>>(
     alloc: Global,
     fst: &Fst<W>,
-) -> Option<SubsetOf<R>>
+) -> Option<SubsetOf<R, L>>
     ensures { result ≡ (subsets W.KIND (graph_of (valued W.value fst.now))).start }
 {
     let state = fst.start()?;
@@ -54,7 +55,7 @@ pub(crate) fn first_subset<W: Weight, R: Residual<W>>(
 }
 
 /// The final weight of a subset: the best, over its members, of residual Times final weight. Takes no memory.
-pub(crate) fn last_weight<W: Weight, R: Residual<W>>(fst: &Fst<W>, subset: &SubsetOf<R>) -> W::Wide
+pub(crate) fn last_weight<W: Weight, R: Residual<W>, L: MemberList<R>>(fst: &Fst<W>, subset: &SubsetOf<R, L>) -> W::Wide
     requires { AreMembers (length fst.now.states) subset.now }
     ensures { W.wide_value result ≡ final_by W.KIND (graph_of (valued W.value fst.now)) subset.now }
 {
@@ -67,11 +68,11 @@ pub(crate) fn last_weight<W: Weight, R: Residual<W>>(fst: &Fst<W>, subset: &Subs
 }
 
 /// Puts the arcs of a subset after the others, by way of all ways in order.
-fn put_sorted_arcs<W: Weight, R: Residual<W>>(
+fn put_sorted_arcs<W: Weight, R: Residual<W>, L: MemberList<R>>(
     scratch: &mut Scratch<R, W::Wide>,
-    out: &mut Vec<NameArc<SubsetOf<R>, W>>,
+    out: &mut Vec<NameArc<SubsetOf<R, L>, W>>,
     fst: &Fst<W>,
-    subset: &SubsetOf<R>,
+    subset: &SubsetOf<R, L>,
 ) -> Result<(), ArcFault>
     requires weighed { IsWeighed W.KIND W.value fst.now }
     requires members { AreMembers (length fst.now.states) subset.now }
@@ -89,11 +90,11 @@ fn put_sorted_arcs<W: Weight, R: Residual<W>>(
 }
 
 /// Puts the arcs of a subset after the others.
-pub(crate) fn put_subset_arcs<W: Weight, R: Residual<W>>(
+pub(crate) fn put_subset_arcs<W: Weight, R: Residual<W>, L: MemberList<R>>(
     scratch: &mut Scratch<R, W::Wide>,
-    out: &mut Vec<NameArc<SubsetOf<R>, W>>,
+    out: &mut Vec<NameArc<SubsetOf<R, L>, W>>,
     fst: &Fst<W>,
-    subset: &SubsetOf<R>,
+    subset: &SubsetOf<R, L>,
 ) -> Result<(), ArcFault>
     requires weighed { IsWeighed W.KIND W.value fst.now }
     requires members { AreMembers (length fst.now.states) subset.now }
@@ -113,14 +114,14 @@ pub(crate) fn put_subset_arcs<W: Weight, R: Residual<W>>(
 
 /// The graph of the subsets of a machine, with residuals in one form.
 #[derive(Drop)]
-struct Determinizing<'a, W: Weight, R: Residual<W>> {
+struct Determinizing<'a, W: Weight, R: Residual<W>, L: MemberList<R>> {
     fst: &'a Fst<W>,
     alloc: Global,
-    form: PhantomData<R>,
+    form: PhantomData<SubsetOf<R, L>>,
 }
 
-impl<'a, W: Weight, R: Residual<W>> Names<W> for Determinizing<'a, W, R> {
-    type Key = SubsetOf<R>;
+impl<'a, W: Weight, R: Residual<W>, L: MemberList<R>> Names<W> for Determinizing<'a, W, R, L> {
+    type Key = SubsetOf<R, L>;
 
     type Fault = ArcFault;
 
@@ -132,7 +133,7 @@ impl<'a, W: Weight, R: Residual<W>> Names<W> for Determinizing<'a, W, R> {
 
     ghost holds = { λ s. IsWeighed W.KIND W.value s.fst.now × HasGoodArcs W.KIND (graph_of (valued W.value s.fst.now)) };
 
-    fn start(&self) -> Option<SubsetOf<R>> {
+    fn start(&self) -> Option<SubsetOf<R, L>> {
         first_subset(self.alloc, self.fst)
     }
 
@@ -143,8 +144,8 @@ impl<'a, W: Weight, R: Residual<W>> Names<W> for Determinizing<'a, W, R> {
     fn put_part(
         &self,
         scratch: &mut Scratch<R, W::Wide>,
-        out: &mut Vec<NameArc<SubsetOf<R>, W>>,
-        key: &SubsetOf<R>,
+        out: &mut Vec<NameArc<SubsetOf<R, L>, W>>,
+        key: &SubsetOf<R, L>,
         _from: u32,
     ) -> Result<Option<u32>, ArcFault> {
         // A subset has one arc for each label, so they are put at once.
@@ -152,7 +153,7 @@ impl<'a, W: Weight, R: Residual<W>> Names<W> for Determinizing<'a, W, R> {
         Ok(None)
     }
 
-    fn final_weight(&self, key: &SubsetOf<R>) -> W::Wide {
+    fn final_weight(&self, key: &SubsetOf<R, L>) -> W::Wide {
         last_weight(self.fst, key)
     }
 
@@ -162,11 +163,11 @@ impl<'a, W: Weight, R: Residual<W>> Names<W> for Determinizing<'a, W, R> {
 }
 
 /// The machine of the subsets that the start reaches, with residuals in one form, or why there is none.
-pub(crate) fn walk_subsets<W: Weight, R: Residual<W>>(
+pub(crate) fn walk_subsets<W: Weight, R: Residual<W>, L: MemberList<R>>(
     alloc: Global,
     fst: &Fst<W>,
     max_states: u32,
-) -> Result<Result<Walked<SubsetOf<R>, W>, WalkFault>, ArcFault>
+) -> Result<Result<Walked<SubsetOf<R, L>, W>, WalkFault>, ArcFault>
     requires weighed { IsWeighed W.KIND W.value fst.now }
     requires some { 0 < max_states }
     requires few { max_states ≤ most_states }
@@ -180,7 +181,7 @@ pub(crate) fn walk_subsets<W: Weight, R: Residual<W>>(
     let graph = Determinizing {
         fst,
         alloc,
-        form: PhantomData::<R>,
+        form: PhantomData::<SubsetOf<R, L>>,
     };
     walk(alloc, &graph, room, max_states)
 }

@@ -19,7 +19,7 @@ use std::alloc::{AllocError, Global};
 
 /// A weighted subset: states by number, each with what is left of the best weight that reaches it when the best of
 /// all is divided off. One of up to two states takes no memory of its own.
-pub type Subset<W> = SubsetOf<Broad<W, <W as Weight>::Wide>>;
+pub type Subset<W> = SubsetOf<Broad<W, <W as Weight>::Wide>, <W as SubsetWeight>::BroadList>;
 
 /// An arc to a subset; both labels are the same. Its weight is in the wide form.
 pub type SubsetArc<W> = NameArc<Subset<W>, W>;

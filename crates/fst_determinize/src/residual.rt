@@ -6,15 +6,11 @@ ghost use Rattle.fst_semiring.specs.Keys.{key_of};
 ghost use Rattle.fst_semiring.specs.Semiring.{one_of};
 ghost use Rattle.fst_determinize.specs.Kept.{same_cost};
 
-use crate::lists::{MemberList, SubsetWeight};
 use fst_semiring::{Key, Weight};
 use std::marker::PhantomData;
 
 /// A residual, whatever its form.
 pub trait Kept: Copy {
-    /// The list in which the members of a subset are kept.
-    type List: MemberList<Self>;
-
     /// Its value.
     ghost value: { Self → Cost };
 
@@ -48,16 +44,14 @@ pub struct Narrow<W: Weight> {
     weight: W,
 }
 
-/// One, which stands where a list has place for more members.
+/// One. It fills the places of a list that have no member.
 impl<W: Weight> Default for Narrow<W> {
     fn default() -> Narrow<W> {
         Narrow { weight: W::one() }
     }
 }
 
-impl<W: SubsetWeight> Kept for Narrow<W> {
-    type List = W::NarrowList;
-
+impl<W: Weight> Kept for Narrow<W> {
     ghost value = { λ r. W.value r.weight };
 
     fn same(self, other: Narrow<W>) -> bool {
@@ -69,7 +63,7 @@ impl<W: SubsetWeight> Kept for Narrow<W> {
     }
 }
 
-impl<W: SubsetWeight> Residual<W> for Narrow<W> {
+impl<W: Weight> Residual<W> for Narrow<W> {
     fn one() -> Narrow<W> {
         Narrow { weight: W::one() }
     }
@@ -91,7 +85,7 @@ pub struct Broad<W, V> {
     of: PhantomData<W>,
 }
 
-/// One, which stands where a list has place for more members.
+/// One. It fills the places of a list that have no member.
 impl<W: Weight> Default for Broad<W, W::Wide> {
     fn default() -> Broad<W, W::Wide> {
         Broad {
@@ -101,9 +95,7 @@ impl<W: Weight> Default for Broad<W, W::Wide> {
     }
 }
 
-impl<W: SubsetWeight> Kept for Broad<W, W::Wide> {
-    type List = W::BroadList;
-
+impl<W: Weight> Kept for Broad<W, W::Wide> {
     ghost value = { λ r. W.wide_value r.weight };
 
     fn same(self, other: Broad<W, W::Wide>) -> bool {
@@ -115,7 +107,7 @@ impl<W: SubsetWeight> Kept for Broad<W, W::Wide> {
     }
 }
 
-impl<W: SubsetWeight> Residual<W> for Broad<W, W::Wide> {
+impl<W: Weight> Residual<W> for Broad<W, W::Wide> {
     fn one() -> Broad<W, W::Wide> {
         Broad {
             weight: W::one().widen(),

@@ -10,6 +10,7 @@ ghost use Rattle.fst_determinize.specs.Subsets.{AscendsBy};
 ghost use Rattle.fst_determinize.specs.Ways.{single_arc, way_by};
 
 use crate::fault::ArcFault;
+use crate::lists::MemberList;
 use crate::making::{put, single_arc};
 use crate::residual::Residual;
 use crate::subset::{Held, SubsetOf};
@@ -37,8 +38,8 @@ pub(crate) fn labels_ascend<W: Weight>(arcs: &[FstArc<W>]) -> bool
 
 /// Puts the arcs of a subset of one member after the others, each of one arc of the member: so they stand by label
 /// where its arcs do and no label stands twice.
-pub(crate) fn put_single_arcs<W: Weight, R: Residual<W>>(
-    out: &mut Vec<NameArc<SubsetOf<R>, W>>,
+pub(crate) fn put_single_arcs<W: Weight, R: Residual<W>, L: MemberList<R>>(
+    out: &mut Vec<NameArc<SubsetOf<R, L>, W>>,
     arcs: &[FstArc<W>],
     member: Held<R>,
     alloc: Global,

@@ -12,7 +12,7 @@ use crate::residual::Kept;
 use fst_keys::{Code, Coded};
 use std::alloc::{AllocError, Global};
 use std::convert::AsSlice;
-use std::marker::Model;
+use std::marker::{Model, PhantomData};
 
 /// A state with its residual.
 #[derive(Clone, Copy, Default)]
@@ -49,31 +49,32 @@ impl<R: Kept> Eq for Held<R> {
 
 /// A weighted subset: states by number, each with its residual. One of up to two states takes no memory of its own.
 #[derive(Drop)]
-pub struct SubsetOf<R: Kept> {
-    list: R::List,
+pub struct SubsetOf<R: Kept, L: MemberList<R>> {
+    list: L,
+    form: PhantomData<R>,
 }
 
-impl<R: Kept> Model for SubsetOf<R> {
+impl<R: Kept, L: MemberList<R>> Model for SubsetOf<R, L> {
     ghost use Rattle.std.specs.Prelude.{List};
     ghost use Rattle.fst_determinize.specs.Subsets.{Member};
     ghost use Rattle.fst_determinize.specs.Kept.{members_as};
 
     ghost Value = { List Member };
 
-    ghost view = { λ s. members_as R.value (R.List.items s.list) };
+    ghost view = { λ s. members_as R.value (L.items s.list) };
 }
 
-impl<R: Kept> PartialEq for SubsetOf<R> {
+impl<R: Kept, L: MemberList<R>> PartialEq for SubsetOf<R, L> {
     ghost eq = { same_members };
 
     ghost laws = { partial_equiv_from_equiv subset_laws };
 
-    fn eq(&self, other: &SubsetOf<R>) -> bool {
+    fn eq(&self, other: &SubsetOf<R, L>) -> bool {
         self.members() == other.members()
     }
 }
 
-impl<R: Kept> Eq for SubsetOf<R> {
+impl<R: Kept, L: MemberList<R>> Eq for SubsetOf<R, L> {
     ghost laws = { subset_laws };
 }
 
@@ -109,7 +110,7 @@ fn numbered<R: Kept>(number: u64, members: &[Held<R>]) -> u64
 }
 
 /// The members of a subset as plain numbers.
-fn listed<R: Kept>(alloc: Global, subset: &SubsetOf<R>) -> Result<Listed, AllocError>
+fn listed<R: Kept, L: MemberList<R>>(alloc: Global, subset: &SubsetOf<R, L>) -> Result<Listed, AllocError>
     ensures { IfOk result (λ l. l ≡ listed_of subset.now) }
 {
     let mut members = Vec::with_capacity(alloc, subset.len())?;
@@ -125,7 +126,7 @@ fn listed<R: Kept>(alloc: Global, subset: &SubsetOf<R>) -> Result<Listed, AllocE
 
 /// A subset is found by a number of its members. Where another subset has that number, it is looked up by the list of its
 /// members.
-impl<R: Kept> Coded for SubsetOf<R> {
+impl<R: Kept, L: MemberList<R>> Coded for SubsetOf<R, L> {
     type Whole = Listed;
 
     ghost code = { subset_number };
@@ -151,26 +152,29 @@ impl<R: Kept> Coded for SubsetOf<R> {
 }
 
 /// The subset of these members.
-pub(crate) fn subset_of<R: Kept>(
+pub(crate) fn subset_of<R: Kept, L: MemberList<R>>(
     alloc: Global,
     members: &[Held<R>],
-) -> Result<SubsetOf<R>, AllocError>
+) -> Result<SubsetOf<R, L>, AllocError>
     ensures { IfOk result (λ s. s ≡ members_as R.value members.now) }
 {
-    let list = R::List::of(alloc, members)?;
-    Ok(SubsetOf { list })
+    Ok(SubsetOf {
+        list: L::of(alloc, members)?,
+        form: PhantomData,
+    })
 }
 
 /// The subset of one member. Takes no memory.
-pub(crate) fn subset_of_one<R: Kept>(alloc: Global, member: Held<R>) -> SubsetOf<R>
+pub(crate) fn subset_of_one<R: Kept, L: MemberList<R>>(alloc: Global, member: Held<R>) -> SubsetOf<R, L>
     ensures { result ≡ member_as R.value member ∷ [] }
 {
     SubsetOf {
-        list: R::List::one(alloc, member),
+        list: L::one(alloc, member),
+        form: PhantomData,
     }
 }
 
-impl<R: Kept> SubsetOf<R> {
+impl<R: Kept, L: MemberList<R>> SubsetOf<R, L> {
     /// Its members, by state. Takes no memory.
     pub(crate) fn members(&self) -> &[Held<R>]
         ensures { members_as R.value result.now ≡ self.now }
