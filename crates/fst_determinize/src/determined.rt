@@ -71,7 +71,10 @@ impl<W: SubsetWeight> Subsets<W> {
 }
 
 /// The member of a subset in a place: its state, and its residual in the wide form.
-fn member_at<W: Weight, R: Residual<W>, L: MemberList<R>>(subset: &SubsetOf<R, L>, place: usize) -> (u32, W::Wide)
+fn member_at<W: Weight, R: Residual<W>, L: MemberList<R>>(
+    subset: &SubsetOf<R, L>,
+    place: usize,
+) -> (u32, W::Wide)
     requires { place < length subset.now }
     ensures { slice_get subset.now place ≡ Some (record { state = result.0; residual = W.wide_value result.1 }) }
 {
@@ -100,7 +103,10 @@ fn stopped(fault: WalkFault) -> DeterminizeFault
 }
 
 /// The machine with subsets in the form of weights.
-fn narrowly<W: SubsetWeight>(alloc: Global, made: Walked<SubsetOf<Narrow<W>, W::NarrowList>, W>) -> Determined<W>
+fn narrowly<W: SubsetWeight>(
+    alloc: Global,
+    made: Walked<SubsetOf<Narrow<W>, W::NarrowList>, W>,
+) -> Determined<W>
     ensures fst { result.fst ≡ made.fst }
     ensures subsets { result.subsets ≡ made.names }
 {

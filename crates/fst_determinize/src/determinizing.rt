@@ -55,7 +55,10 @@ pub(crate) fn first_subset<W: Weight, R: Residual<W>, L: MemberList<R>>(
 }
 
 /// The final weight of a subset: the best, over its members, of residual Times final weight. Takes no memory.
-pub(crate) fn last_weight<W: Weight, R: Residual<W>, L: MemberList<R>>(fst: &Fst<W>, subset: &SubsetOf<R, L>) -> W::Wide
+pub(crate) fn last_weight<W: Weight, R: Residual<W>, L: MemberList<R>>(
+    fst: &Fst<W>,
+    subset: &SubsetOf<R, L>,
+) -> W::Wide
     requires { AreMembers (length fst.now.states) subset.now }
     ensures { W.wide_value result ≡ final_by W.KIND (graph_of (valued W.value fst.now)) subset.now }
 {

@@ -110,7 +110,10 @@ fn numbered<R: Kept>(number: u64, members: &[Held<R>]) -> u64
 }
 
 /// The members of a subset as plain numbers.
-fn listed<R: Kept, L: MemberList<R>>(alloc: Global, subset: &SubsetOf<R, L>) -> Result<Listed, AllocError>
+fn listed<R: Kept, L: MemberList<R>>(
+    alloc: Global,
+    subset: &SubsetOf<R, L>,
+) -> Result<Listed, AllocError>
     ensures { IfOk result (λ l. l ≡ listed_of subset.now) }
 {
     let mut members = Vec::with_capacity(alloc, subset.len())?;
@@ -165,7 +168,10 @@ pub(crate) fn subset_of<R: Kept, L: MemberList<R>>(
 }
 
 /// The subset of one member. Takes no memory.
-pub(crate) fn subset_of_one<R: Kept, L: MemberList<R>>(alloc: Global, member: Held<R>) -> SubsetOf<R, L>
+pub(crate) fn subset_of_one<R: Kept, L: MemberList<R>>(
+    alloc: Global,
+    member: Held<R>,
+) -> SubsetOf<R, L>
     ensures { result ≡ member_as R.value member ∷ [] }
 {
     SubsetOf {
