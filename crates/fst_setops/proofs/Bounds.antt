@@ -1,5 +1,5 @@
 -- Products of words can be computed with.
-use Rattle.std.proofs.Common.{◌+◌, ◌≤◌, arith}
+use Rattle.std.proofs.Common.{◌+◌, arith}
 use Rattle.fst_semiring.specs.Cost.{Cost}
 use Rattle.fst_semiring.specs.Semiring.{InRange, IsWide, Within, times}
 use Rattle.fst_semiring.specs.declared.arc_type.ArcType.{ArcType}

@@ -2,19 +2,19 @@
 -- two words before with different ones, has a word no later than each that separates.
 use Rattle.std.proofs.Common.{◌≡◌, ◌≢◌, ◌⊎◌, inl, inr, ℕ, true, List, [], ◌∷◌, ◌++◌, Option, None, Some, refl, sym, ap, ap₂, ◌∙◌, subst}
 use Rattle.std.proofs.lemmas.List.{append-nil, append_assoc}
-use Rattle.fst_semiring.specs.Cost.{Cost, infinite}
+use Rattle.fst_semiring.specs.Cost.{infinite}
 use Rattle.fst_semiring.specs.declared.arc_type.ArcType.{ArcType}
 use Rattle.fst_semiring.specs.Semiring.{cancels, times, IsCost}
 use Rattle.fst_semiring.proofs.Laws.{times_only_zero, times_zero, zero_times}
 use Rattle.fst_machine.specs.BreadthFirst.{Has}
 use Rattle.fst_machine.specs.Graph.{Graph}
-use Rattle.fst_setops.proofs.Ratios.{times_not_zero, zero_or_not}
+use Rattle.fst_setops.proofs.Ratios.{zero_or_not}
 use Rattle.fst_trim.specs.Weighed.{IsWeighted}
 use Rattle.fst_setops.specs.Led.{final_of, led, place_of, product_of, step, step_weight, weight_of}
 use Rattle.fst_setops.specs.Separating.{Pair}
 use Rattle.fst_setops.specs.Closing.{NoLater, IsClosed, IsCovered, IsNowhere, IsOnce, IsTwice, Ratios, first_of, pair_of, second_of}
 use Rattle.fst_setops.proofs.Led.{Looked, NoneLooked, look, none_led, led_append, place_more, product_more, word_sound}
-use Rattle.fst_setops.proofs.Ratios.{ratio_cancels, ratio_first, ratio_second, ratio_sym, ratio_times, ratio_trans, ratio_weights, weights_ratio}
+use Rattle.fst_setops.proofs.Ratios.{ratio_cancels, ratio_first, ratio_second, ratio_times, ratio_trans, ratio_weights, weights_ratio}
 use Rattle.fst_setops.proofs.Words.{no_later_push, no_later_trans}
 
 -- a step to a state has a weight of the arc type that is not Zero

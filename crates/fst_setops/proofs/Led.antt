@@ -1,12 +1,11 @@
 -- Where words lead, and that this is what paths say.
-use Rattle.std.proofs.Common.{◌≡◌, ◌≢◌, ◌⊎◌, inl, inr, ◌↔◌, ℕ, zero, suc, Bool, true, false, List, [], ◌∷◌, ◌++◌, Option, None, Some, cond, slice_get, refl, sym, ap, ap₂, ◌∙◌, subst}
-use Rattle.std.proofs.Common.{nat_eq}
+use Rattle.std.proofs.Common.{◌≡◌, ◌≢◌, ◌⊎◌, inl, inr, ◌↔◌, ℕ, zero, suc, List, [], ◌∷◌, ◌++◌, Option, None, Some, cond, slice_get, refl, sym, ap, ap₂, ◌∙◌, subst}
 use Rattle.std.proofs.lemmas.Bool.{cases_eq, eq-eqb, ne_eqb}
 use Rattle.std.proofs.lemmas.Option.{same_Some}
 use Rattle.fst_semiring.specs.Cost.{Cost, infinite}
 use Rattle.fst_semiring.specs.declared.arc_type.ArcType.{ArcType}
 use Rattle.fst_semiring.specs.Semiring.{one_of, times, IsCost}
-use Rattle.fst_semiring.proofs.Laws.{one_times, times_assoc, times_one, times_only_zero, times_zero, zero_times, one_not_zero}
+use Rattle.fst_semiring.proofs.Laws.{one_times, times_assoc, times_one, times_zero, one_not_zero}
 use Rattle.fst_semiring.proofs.OfKind.{IsCost-one, IsCost-times}
 use Rattle.fst_machine.specs.Machine.{Arc}
 use Rattle.fst_machine.specs.Graph.{Graph}
@@ -15,7 +14,7 @@ use Rattle.fst_machine.specs.Paths.{Transition, IsPath, letters}
 use Rattle.fst_setops.proofs.Ratios.{times_not_zero, zero_or_not}
 use Rattle.fst_trim.specs.WordWeights.{IsSingle}
 use Rattle.fst_trim.specs.Weighed.{IsWeighted}
-use Rattle.fst_trim.specs.WordWeights.{IsWordWeight, Weighs, WordWeighs}
+use Rattle.fst_trim.specs.WordWeights.{IsWordWeight, WordWeighs}
 use Rattle.fst_setops.specs.Difference.{next_by}
 use Rattle.fst_setops.proofs.Second.{next_by_other, next_by_same}
 use Rattle.fst_setops.specs.Led.{begin_of, final_of, gained, led, place_of, product_of, step, step_weight, weight_by, weight_of}

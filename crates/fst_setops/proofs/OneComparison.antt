@@ -1,9 +1,9 @@
 -- One cause refuses a comparison.
-use Rattle.std.proofs.Common.{◌≡◌, ℕ, Bool, true, false, true≢false, Result, Ok, Err, refl, sym, ap, ◌∙◌}
+use Rattle.std.proofs.Common.{◌≡◌, ℕ, Bool, true, false, true≢false, Ok, Err, refl, sym, ap, ◌∙◌}
 use Rattle.fst_semiring.specs.Cost.{Cost}
 use Rattle.fst_semiring.specs.declared.arc_type.ArcType.{ArcType}
 use Rattle.fst_machine.specs.Machine.{Machine}
-use Rattle.fst_trim.specs.FirstArcs.{IsDeterministic, Repeats}
+use Rattle.fst_trim.specs.FirstArcs.{Repeats}
 use Rattle.fst_setops.specs.Answers.{IsExactly}
 use Rattle.fst_setops.specs.Verdicts.{AreComparable, AreDeterministic, HasMoreConnectedPairs, IsRepeated, RefusesComparison}
 use Rattle.fst_setops.specs.declared.equivalent_fault.EquivalentFault.{EquivalentFault}

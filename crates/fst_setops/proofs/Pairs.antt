@@ -1,11 +1,8 @@
 -- The pairs to which words lead are those to which the words of a closed list lead.
-use Rattle.std.proofs.Common.{◌≡◌, ◌≢◌, ◌⊎◌, inl, inr, ℕ, true, ◌≤◌, ◌<◌, List, [], ◌∷◌, Option, None, Some, map, length, refl, sym, ap, ap₂, ◌∙◌, subst, arith}
-use Rattle.std.proofs.lemmas.List.{length-map}
-use Rattle.std.proofs.lemmas.Option.{same_Some}
-use Rattle.fst_semiring.specs.Cost.{Cost}
+use Rattle.std.proofs.Common.{◌≡◌, inl, inr, ℕ, true, List, [], Option, None, Some, refl, sym, ap, ◌∙◌, subst}
 use Rattle.fst_semiring.specs.declared.arc_type.ArcType.{ArcType}
 use Rattle.fst_semiring.specs.Semiring.{cancels, one_of}
-use Rattle.fst_machine.specs.BreadthFirst.{Apart, Has}
+use Rattle.fst_machine.specs.BreadthFirst.{Has}
 use Rattle.fst_machine.specs.Graph.{Graph}
 use Rattle.fst_trim.specs.WordWeights.{IsSingle}
 use Rattle.fst_trim.specs.Weighed.{IsWeighted}

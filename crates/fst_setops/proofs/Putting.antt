@@ -1,9 +1,9 @@
 -- A label that is followed from the pair of a word.
-use Rattle.std.proofs.Common.{◌≡◌, ◌⊎◌, inl, inr, ℕ, ◌<◌, ◌≤◌, Bool, true, false, not, true≢false, List, [], ◌∷◌, ◌++◌, Option, None, Some, length, slice_get, if◌then◌else◌, refl, sym, ap, ap₂, ◌∙◌, subst, arith}
+use Rattle.std.proofs.Common.{◌≡◌, ◌⊎◌, inl, inr, ℕ, ◌<◌, Bool, true, false, not, true≢false, List, [], ◌∷◌, ◌++◌, length, if◌then◌else◌, refl, sym, ap, ◌∙◌, arith}
 use Rattle.std.specs.List.{list_any}
 use Rattle.fst_keys.specs.Keys.{with_key}
 use Rattle.fst_machine.specs.BreadthFirst.{Has}
-use Rattle.fst_machine.proofs.Elements.{any-Has, Has-any}
+use Rattle.fst_machine.proofs.Elements.{Has-any}
 use Rattle.fst_semiring.specs.Cost.{Cost}
 use Rattle.fst_semiring.specs.declared.arc_type.ArcType.{ArcType}
 use Rattle.fst_setops.specs.Followed.{ArePut}

@@ -1,29 +1,29 @@
 -- A machine that is made ready gives words the same weights, and words lead to the states of the connected one.
-use Rattle.std.proofs.Common.{◌≡◌, ◌⊎◌, ◌↔◌, inl, inr, ℕ, ◌<◌, ◌≤◌, zero, suc, Bool, true, List, [], ◌∷◌, Option, None, Some, filter, length, nat_eq, get_or, slice_get, is_lt, nat_cmp, refl, sym, ap, ap₂, ◌∙◌, subst, arith}
+use Rattle.std.proofs.Common.{◌≡◌, ◌⊎◌, ◌↔◌, inl, inr, ℕ, ◌<◌, ◌≤◌, Bool, true, List, [], ◌∷◌, Some, filter, length, nat_eq, get_or, slice_get, is_lt, nat_cmp, refl, sym, ap, ◌∙◌, subst, arith}
 use Rattle.std.specs.List.Sorted.{IsPermutation, ties}
 use Rattle.std.proofs.lemmas.Bool.{cases_lt, eq-eqb}
 use Rattle.std.proofs.lemmas.List.{get_or_past}
-use Rattle.std.proofs.lemmas.List.Sorted.{Contains-permutation, IsPermutation-sym}
-use Rattle.std.proofs.lemmas.Option.{get_or_from_slice_get, same_Some, slice_get-get_or, slice_get_within}
+use Rattle.std.proofs.lemmas.List.Sorted.{Contains-permutation}
+use Rattle.std.proofs.lemmas.Option.{get_or_from_slice_get, slice_get-get_or, slice_get_within}
 use Rattle.fst_semiring.specs.Cost.{Cost}
 use Rattle.fst_semiring.specs.declared.arc_type.ArcType.{ArcType}
 use Rattle.fst_machine.specs.Connected.{IsConnected, IsKeptAt}
-use Rattle.fst_machine.specs.Graph.{Graph, graph_of, no_state}
-use Rattle.fst_machine.specs.Letters.{Letter, label_word, letter_of}
+use Rattle.fst_machine.specs.Graph.{graph_of, no_state}
+use Rattle.fst_machine.specs.Letters.{Letter, label_word}
 use Rattle.fst_machine.specs.Machine.{Arc, Machine, State, valued}
 use Rattle.fst_machine.specs.Paths.{IsPath, Transition, letters}
 use Rattle.fst_machine.proofs.Connected.{Kept_from, connected_serves, machine_serves, one_place}
 use Rattle.fst_machine.proofs.Cycles.{state_below}
 use Rattle.fst_trim.specs.FirstArcs.{IsDeterministic}
-use Rattle.fst_trim.specs.Sides.{IsSortedOn, StandsBy, label_of}
-use Rattle.fst_trim.specs.Sorting.{IsArcSorted, IsStableSort}
+use Rattle.fst_trim.specs.Sides.{StandsBy}
+use Rattle.fst_trim.specs.Sorting.{IsStableSort}
 use Rattle.fst_trim.specs.WordWeights.{WordWeighs}
 use Rattle.fst_trim.specs.declared.side.Side.TheVariants.{Input}
 use Rattle.fst_trim.proofs.Ranks.{rank, rank_at, rank_from, rank_once, ties_is}
 use Rattle.fst_trim.proofs.Rearranged.{IsRearranged, read_inside, rearranged_serves, sorted_is_rearranged, turned}
 use Rattle.fst_trim.proofs.Valued.{valued_costs}
 use Rattle.fst_trim.proofs.WordWeights.{served_word}
-use Rattle.fst_setops.specs.Readied.{IsOrderedAs, IsReadied}
+use Rattle.fst_setops.specs.Readied.{IsOrderedAs}
 use Rattle.fst_setops.specs.Separating.{LeadsTo}
 use Rattle.fst_setops.specs.Ways.{AscendsStrictly}
 use Rattle.fst_setops.proofs.Machines.{repeated}

@@ -1,11 +1,11 @@
 -- A search that takes its words one after the other and adds a label to each.
-use Rattle.std.proofs.Common.{◌≡◌, ◌≢◌, ◌⊎◌, inl, inr, ℕ, ◌<◌, ◌≤◌, ◌+◌, zero, suc, List, [], ◌∷◌, ◌++◌, Some, length, slice_get, refl, sym, ap, ◌∙◌, subst, arith}
+use Rattle.std.proofs.Common.{◌≡◌, ◌⊎◌, inl, inr, ℕ, ◌<◌, ◌≤◌, ◌+◌, zero, suc, List, [], ◌∷◌, ◌++◌, Some, length, slice_get, refl, sym, ap, ◌∙◌, subst, arith}
 use Rattle.std.proofs.lemmas.List.{length-append}
 use Rattle.std.proofs.lemmas.Option.{same_Some, slice_get_within}
 use Rattle.fst_semiring.specs.declared.arc_type.ArcType.{ArcType}
 use Rattle.fst_machine.specs.BreadthFirst.{Has}
 use Rattle.fst_machine.specs.Graph.{Graph}
-use Rattle.fst_machine.proofs.Arcs.{append_at, at_append_left, at_append_front}
+use Rattle.fst_machine.proofs.Arcs.{append_at, at_append_left}
 use Rattle.fst_trim.specs.WordOrder.{IsSooner}
 use Rattle.fst_setops.specs.Closing.{Ascend, IsBehind, IsClosed, IsCovered, IsMade, IsNowhere, IsSearching, pair_of}
 use Rattle.fst_trim.proofs.WordOrder.{sooner_push, sooner_last}

@@ -1,6 +1,6 @@
 -- The first word of a closed list in order whose weights differ is the separating word, and where there is none, all words
 -- have the same weights.
-use Rattle.std.proofs.Common.{◌≡◌, ◌≢◌, ◌⊎◌, inl, inr, ◌↔◌, ℕ, true, List, [], ◌∷◌, ◌++◌, refl, sym, ap, ◌∙◌, subst}
+use Rattle.std.proofs.Common.{◌≡◌, ◌≢◌, ◌⊎◌, inl, inr, ℕ, true, List, [], ◌∷◌, ◌++◌, refl, sym, ap, ◌∙◌, subst}
 use Rattle.std.specs.declared.cmp.Ordering.{Ordering}
 use Rattle.std.specs.declared.cmp.Ordering.TheVariants.{Less, Equal, Greater}
 use Rattle.fst_semiring.specs.Cost.{Cost, cost_cmp}
@@ -11,10 +11,10 @@ use Rattle.fst_machine.specs.BreadthFirst.{Has}
 use Rattle.fst_machine.specs.Graph.{Graph}
 use Rattle.fst_trim.specs.WordWeights.{IsSingle}
 use Rattle.fst_trim.specs.Weighed.{IsWeighted}
-use Rattle.fst_trim.specs.WordWeights.{IsWordWeight, SameWords}
+use Rattle.fst_trim.specs.WordWeights.{SameWords}
 use Rattle.fst_setops.specs.Led.{weight_of}
 use Rattle.fst_trim.specs.WordOrder.{IsSooner}
-use Rattle.fst_setops.specs.Separating.{IsSeparating, Separates}
+use Rattle.fst_setops.specs.Separating.{IsSeparating}
 use Rattle.fst_setops.proofs.Led.{word_weight}
 use Rattle.fst_setops.specs.Closing.{Ascend, Differ, IsClosed, IsCovered, IsFirst, NoLater, Ratios}
 use Rattle.fst_setops.proofs.Covering.{alike_weights, covered, equal_weights, somewhere}

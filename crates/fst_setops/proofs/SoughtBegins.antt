@@ -1,5 +1,5 @@
 -- A search begins.
-use Rattle.std.proofs.Common.{◌≡◌, ◌⊎◌, inl, inr, ℕ, ◌<◌, ◌≤◌, zero, suc, Bool, true, false, List, [], ◌∷◌, ◌++◌, Option, None, Some, IfSome, length, slice_get, refl, sym, ap, ◌∙◌, subst, arith}
+use Rattle.std.proofs.Common.{◌≡◌, ◌⊎◌, inl, inr, ℕ, ◌<◌, ◌≤◌, zero, suc, Bool, false, List, [], ◌∷◌, ◌++◌, Option, None, Some, IfSome, length, slice_get, refl, sym, ap, ◌∙◌, subst, arith}
 use Rattle.std.specs.List.{list_any}
 use Rattle.std.proofs.lemmas.Option.{same_Some}
 use Rattle.fst_keys.specs.Keys.{with_key}
@@ -7,14 +7,13 @@ use Rattle.fst_semiring.specs.Cost.{Cost}
 use Rattle.fst_semiring.specs.declared.arc_type.ArcType.{ArcType}
 use Rattle.fst_machine.specs.BreadthFirst.{Has}
 use Rattle.fst_machine.specs.Graph.{Graph}
-use Rattle.fst_setops.specs.Closing.{IsNowhere, first_of, pair_of, second_of}
-use Rattle.fst_setops.specs.Followed.{AreSound}
+use Rattle.fst_setops.specs.Closing.{IsNowhere}
 use Rattle.fst_setops.specs.Found.{IsFound}
 use Rattle.fst_setops.specs.Kept.{AreSlots, IsKnown, IsKnownTwice, Node, Slot, word_total}
 use Rattle.fst_setops.specs.Led.{begin_of}
 use Rattle.fst_setops.specs.PairNumbers.{same_pair}
 use Rattle.fst_setops.specs.Separating.{Pair}
-use Rattle.fst_setops.specs.Sought.{AreWords, HasWord, IsSought, words_of}
+use Rattle.fst_setops.specs.Sought.{AreWords, HasWord, IsSought}
 use Rattle.fst_setops.specs.declared.search.Found.{Found}
 use Rattle.fst_setops.specs.declared.search.Found.TheVariants.{Put, Known}
 use Rattle.fst_setops.proofs.Searching.{search_begins}

@@ -1,15 +1,11 @@
 -- The word that is noted stays so as words are put.
-use Rattle.std.proofs.Common.{◌≡◌, ◌⊎◌, ℕ, ◌<◌, ◌≤◌, List, [], ◌∷◌, ◌++◌, Option, None, Some, get_or, length, slice_get, refl, sym, ap, ◌∙◌, subst, arith}
+use Rattle.std.proofs.Common.{◌≡◌, ℕ, ◌≤◌, List, [], ◌∷◌, ◌++◌, Option, None, Some, get_or, length, refl, sym, ap, ◌∙◌, subst, arith}
 use Rattle.std.proofs.lemmas.List.{append-nil, append_assoc}
 use Rattle.std.proofs.lemmas.Option.{slice_get_within}
-use Rattle.fst_semiring.specs.Cost.{Cost}
 use Rattle.fst_semiring.specs.declared.arc_type.ArcType.{ArcType}
-use Rattle.fst_machine.specs.BreadthFirst.{Has}
 use Rattle.fst_machine.specs.Graph.{Graph}
 use Rattle.fst_machine.proofs.Arcs.{at_append_front, at_append_left}
-use Rattle.fst_setops.specs.Closing.{Differ, IsFirst}
 use Rattle.fst_setops.specs.Kept.{Node}
-use Rattle.fst_setops.specs.Led.{weight_of}
 use Rattle.fst_setops.specs.Sought.{AreBefore, IsNoted, words_behind, words_of}
 use Rattle.fst_setops.proofs.SoughtWords.{words_size}
 

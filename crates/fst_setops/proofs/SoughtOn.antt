@@ -1,5 +1,5 @@
 -- A search goes on by a label.
-use Rattle.std.proofs.Common.{◌≡◌, ◌≢◌, ◌⊎◌, inl, inr, ℕ, ◌<◌, ◌≤◌, ◌+◌, zero, suc, List, [], ◌∷◌, ◌++◌, Option, None, Some, length, get_or, slice_get, refl, sym, ap, ap₂, ◌∙◌, subst, arith}
+use Rattle.std.proofs.Common.{◌≡◌, ◌⊎◌, inl, inr, ℕ, ◌<◌, ◌≤◌, ◌+◌, zero, suc, List, [], ◌∷◌, ◌++◌, Option, None, Some, length, get_or, slice_get, refl, sym, ap, ap₂, ◌∙◌, subst, arith}
 use Rattle.std.proofs.lemmas.List.{append-nil, length-append}
 use Rattle.std.proofs.lemmas.Option.{same_Some, slice_get_within, get_or_from_slice_get}
 use Rattle.fst_semiring.specs.Cost.{Cost}
@@ -9,19 +9,19 @@ use Rattle.fst_machine.specs.BreadthFirst.{Apart, Has}
 use Rattle.fst_machine.specs.Graph.{Graph}
 use Rattle.fst_machine.specs.Machine.{Arc}
 use Rattle.fst_machine.proofs.Arcs.{append_at, at_append_left}
-use Rattle.fst_machine.proofs.Elements.{Apart-push, Has-append_cases, Has_at, at_Has}
+use Rattle.fst_machine.proofs.Elements.{Apart-push, Has-append_cases, Has_at}
 use Rattle.fst_trim.specs.WordWeights.{IsSingle}
-use Rattle.fst_setops.specs.Closing.{IsCovered, IsNowhere, IsSearching, Ratio, first_of, pair_of, second_of}
+use Rattle.fst_setops.specs.Closing.{IsCovered, IsNowhere, IsSearching, first_of, pair_of, second_of}
 use Rattle.fst_setops.specs.Followed.{ArePut, AreSound, IsFollowed, ends}
-use Rattle.fst_setops.specs.Kept.{AreApart, IsAt, IsKnown, IsKnownTwice, Node, Slot}
+use Rattle.fst_setops.specs.Kept.{IsAt, IsKnown, IsKnownTwice, Node, Slot}
 use Rattle.fst_trim.specs.WordOrder.{IsSooner}
-use Rattle.fst_setops.specs.Led.{led, place_of, product_of, step, step_weight}
+use Rattle.fst_setops.specs.Led.{led, place_of, step, step_weight}
 use Rattle.fst_setops.specs.Separating.{HasMorePairs, IsPair, Pair}
-use Rattle.fst_setops.specs.Sought.{AreBefore, AreWords, HasWord, IsNodeOf, IsSought, words_of}
+use Rattle.fst_setops.specs.Sought.{AreBefore, AreWords, HasWord, IsSought, words_of}
 use Rattle.fst_setops.specs.Ways.{IsWayOn, arc_weight, end_of}
 use Rattle.fst_setops.proofs.Led.{none_led, place_more, product_more}
 use Rattle.fst_setops.proofs.Pairs.{pair_is}
-use Rattle.fst_setops.proofs.Searching.{at_has, search_covered, search_later, search_next, search_put}
+use Rattle.fst_setops.proofs.Searching.{at_has, search_covered, search_later, search_put}
 use Rattle.fst_setops.proofs.Slots.{words_first}
 use Rattle.fst_setops.proofs.SoughtWords.{at_append_last, words_push, words_size}
 

@@ -1,5 +1,5 @@
 -- What is read of the words that a search keeps.
-use Rattle.std.proofs.Common.{◌≡◌, ◌⊎◌, inl, inr, ℕ, ◌<◌, ◌≤◌, ◌+◌, List, Option, None, Some, IfSome, length, get_or, slice_get, refl, sym, ap, ap₂, ◌∙◌, subst, arith}
+use Rattle.std.proofs.Common.{◌≡◌, ◌⊎◌, inl, inr, ℕ, ◌<◌, ◌≤◌, ◌+◌, List, None, Some, IfSome, length, get_or, slice_get, sym, ap, ap₂, ◌∙◌, subst, arith}
 use Rattle.std.proofs.lemmas.Bool.{cases_lt}
 use Rattle.std.proofs.lemmas.Option.{same_Some, slice_get-get_or, slice_get_within}
 use Rattle.fst_semiring.specs.Cost.{Cost}
@@ -8,9 +8,9 @@ use Rattle.fst_semiring.specs.declared.arc_type.ArcType.{ArcType}
 use Rattle.fst_machine.specs.Graph.{Graph, graph_of}
 use Rattle.fst_machine.specs.Machine.{Machine, valued}
 use Rattle.fst_setops.specs.Prepared.{IsPrepared}
-use Rattle.fst_setops.specs.Closing.{Differ, first_of, pair_of, second_of}
+use Rattle.fst_setops.specs.Closing.{pair_of}
 use Rattle.fst_setops.specs.Kept.{AreWithin, Node, most_number, most_product, most_words}
-use Rattle.fst_setops.specs.Led.{final_of, place_of, product_of, weight_of}
+use Rattle.fst_setops.specs.Led.{final_of, weight_of}
 use Rattle.fst_setops.specs.Separating.{Pair}
 use Rattle.fst_setops.specs.Sought.{AreWeights, AreWords, HasWord, IsNoted, words_of}
 use Rattle.fst_setops.proofs.Bounds.{number_more}

@@ -1,5 +1,5 @@
 -- A word of a search is taken, arc by arc of its two states.
-use Rattle.std.proofs.Common.{◌≡◌, ◌⊎◌, inl, inr, ℕ, ◌<◌, ◌≤◌, ◌+◌, ◌*◌, ◌-◌, true, false, List, [], ◌∷◌, ◌++◌, Option, None, Some, IfSome, length, map, slice_get, sum_by, refl, sym, ap, ◌∙◌, subst, arith}
+use Rattle.std.proofs.Common.{◌≡◌, ℕ, ◌<◌, ◌≤◌, ◌+◌, ◌*◌, ◌-◌, List, [], ◌∷◌, ◌++◌, Option, None, Some, IfSome, length, map, slice_get, refl, sym, ap, ◌∙◌, arith}
 use Rattle.std.proofs.lemmas.List.{append-nil, append_assoc, length-map}
 use Rattle.std.proofs.lemmas.List.Sums.{sum_by-cons}
 use Rattle.std.proofs.lemmas.Option.{slice_get_within}
@@ -11,11 +11,11 @@ use Rattle.fst_machine.specs.Machine.{Arc, Machine, most_states, valued, valued_
 use Rattle.fst_machine.proofs.Arcs.{at_append_left}
 use Rattle.fst_setops.specs.Prepared.{IsPrepared}
 use Rattle.fst_setops.specs.Closing.{IsNowhere, pair_of}
-use Rattle.fst_setops.specs.Followed.{ArePut, AreSound, IsFollowed, ends}
+use Rattle.fst_setops.specs.Followed.{AreSound, IsFollowed, ends}
 use Rattle.fst_setops.specs.Kept.{Node, Slot, most_words, word_total, words_at}
-use Rattle.fst_setops.specs.Led.{place_of, step}
+use Rattle.fst_setops.specs.Led.{step}
 use Rattle.fst_setops.specs.Separating.{HasMorePairs, Pair}
-use Rattle.fst_setops.specs.Sought.{AreBefore, HasWord, IsSought, IsTaking, words_of}
+use Rattle.fst_setops.specs.Sought.{AreBefore, IsSought, IsTaking, words_of}
 use Rattle.fst_setops.specs.Ways.{IsCut, IsHead, IsWay, IsWayOn, arcs_of, past}
 use Rattle.fst_setops.proofs.Led.{place_more}
 use Rattle.fst_setops.proofs.Searching.{search_next}

@@ -1,5 +1,5 @@
 -- What a search that has ended tells.
-use Rattle.std.proofs.Common.{◌≡◌, ◌≢◌, ◌⊎◌, inl, inr, ℕ, ◌<◌, ◌≤◌, zero, suc, true, List, [], ◌∷◌, ◌++◌, Option, None, Some, get_or, length, slice_get, refl, sym, ap, ◌∙◌, subst, arith}
+use Rattle.std.proofs.Common.{◌≡◌, inl, inr, ℕ, ◌<◌, ◌≤◌, zero, suc, true, List, [], ◌∷◌, ◌++◌, Option, None, Some, get_or, length, slice_get, sym, ap, ◌∙◌, subst, arith}
 use Rattle.std.proofs.lemmas.Option.{get_or_from_slice_get, same_Some, slice_get_within}
 use Rattle.fst_semiring.specs.Cost.{Cost}
 use Rattle.fst_semiring.specs.Semiring.{cancels}
@@ -15,7 +15,7 @@ use Rattle.fst_setops.specs.Closing.{IsClosed, IsFirst, pair_of}
 use Rattle.fst_setops.specs.Kept.{Node, Slot, most_words}
 use Rattle.fst_setops.specs.Led.{weight_of}
 use Rattle.fst_setops.specs.Separating.{HasMorePairs, IsSeparating, Pair}
-use Rattle.fst_setops.specs.Sought.{AreParents, AreWeights, IsEnded, IsNoted, IsSought, words_of}
+use Rattle.fst_setops.specs.Sought.{AreParents, AreWeights, IsEnded, IsNoted, words_of}
 use Rattle.fst_setops.proofs.Pairs.{pair_listed}
 use Rattle.fst_setops.proofs.Searching.{search_ends}
 use Rattle.fst_setops.proofs.Separation.{same_words, separating}

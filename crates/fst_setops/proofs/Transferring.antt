@@ -1,16 +1,14 @@
 -- What is said of machines that are made ready is said of the machines.
-use Rattle.std.proofs.Common.{◌≡◌, ◌⊎◌, ◌↔◌, inl, inr, ℕ, List, Option, None, Some, refl, sym, ap, subst}
-use Rattle.fst_semiring.specs.Cost.{Cost, infinite}
+use Rattle.std.proofs.Common.{◌≡◌, ◌↔◌, inl, inr, ℕ, List, Option, None, Some, refl, subst}
+use Rattle.fst_semiring.specs.Cost.{Cost}
 use Rattle.fst_semiring.specs.declared.arc_type.ArcType.{ArcType}
-use Rattle.fst_machine.specs.BreadthFirst.{Has}
-use Rattle.fst_machine.specs.Connected.{IsConnected}
 use Rattle.fst_machine.specs.Graph.{Graph, graph_of}
 use Rattle.fst_machine.specs.Machine.{Machine}
 use Rattle.fst_machine.proofs.OneMachine.{one_connected}
 use Rattle.fst_trim.specs.FirstArcs.{IsDeterministic}
 use Rattle.fst_trim.specs.WordWeights.{IsSingle, IsWordWeight, SameWords, WordWeighs}
 use Rattle.fst_setops.specs.Readied.{IsReadied}
-use Rattle.fst_setops.specs.Separating.{HasMorePairs, IsPair, IsSeparating, LeadsIn, LeadsTo, Pair}
+use Rattle.fst_setops.specs.Separating.{HasMorePairs, IsPair, LeadsIn, LeadsTo, Pair}
 use Rattle.fst_setops.specs.Verdicts.{HasMoreConnectedPairs, IsSaid}
 use Rattle.fst_setops.specs.Ways.{AscendsStrictly}
 use Rattle.fst_setops.specs.declared.verdict.Verdict.{Verdict}

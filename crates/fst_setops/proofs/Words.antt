@@ -1,7 +1,5 @@
 -- The order of words, with two laws more.
-use Rattle.std.proofs.Common.{◌≡◌, ◌⊎◌, inl, inr, ℕ, ◌<◌, List, [], ◌∷◌, ◌++◌, refl, sym, ◌∙◌, subst, arith, length}
-use Rattle.std.proofs.lemmas.List.{length-append}
-use Rattle.fst_machine.specs.BreadthFirst.{Has}
+use Rattle.std.proofs.Common.{◌≡◌, inl, inr, ℕ, List, [], ◌∷◌, ◌++◌, refl, sym, ◌∙◌, subst, arith}
 use Rattle.fst_setops.specs.Closing.{NoLater}
 use Rattle.fst_trim.specs.WordOrder.{IsLesser, IsSooner}
 use Rattle.fst_trim.proofs.WordOrder.{sooner_push}

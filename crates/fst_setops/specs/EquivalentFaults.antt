@@ -1,5 +1,5 @@
 -- What is said of machines that are not compared: why.
-use Rattle.std.specs.Prelude.{ℕ, Bool, true, false, List, [], ◌∷◌, codes}
+use Rattle.std.specs.Prelude.{ℕ, true, false, List, [], ◌∷◌, codes}
 use Rattle.std.specs.Fmt.{decimal}
 use Rattle.std.specs.List.{concat}
 use Rattle.fst_setops.specs.declared.equivalent_fault.EquivalentFault.{EquivalentFault}

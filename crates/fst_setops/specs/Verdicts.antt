@@ -1,5 +1,5 @@
 -- What is said of two acceptors, and when they are not compared. Memory may run out before a cause is found.
-use Rattle.std.specs.Prelude.{◌≡◌, ◌⊎◌, ℕ, Bool, true, false, List, Some, Result, IsErrOf}
+use Rattle.std.specs.Prelude.{◌≡◌, ℕ, Bool, true, false}
 use Rattle.fst_semiring.specs.Cost.{Cost}
 use Rattle.fst_semiring.specs.Semiring.{Within, cancels}
 use Rattle.fst_semiring.specs.declared.arc_type.ArcType.{ArcType}

@@ -1,5 +1,5 @@
 -- The arcs of two states by their labels.
-use Rattle.std.specs.Prelude.{◌≡◌, ◌⊎◌, ℕ, ◌<◌, ◌≤◌, ◌+◌, List, [], Option, None, Some, slice_get}
+use Rattle.std.specs.Prelude.{◌≡◌, ℕ, ◌<◌, ◌≤◌, ◌+◌, List, [], Option, None, Some, slice_get}
 use Rattle.std.specs.Option.{option_map}
 use Rattle.fst_semiring.specs.Cost.{Cost, infinite}
 use Rattle.fst_machine.specs.Graph.{Graph}

@@ -1,4 +1,4 @@
-use Rattle.std.proofs.Common.{◌≡◌, ◌∙◌, ℕ, Option, IfOk, IfSome, None, Some, refl, sym, ap, subst}
+use Rattle.std.proofs.Common.{◌≡◌, IfSome, None, sym, subst}
 use Rattle.std.proofs.lemmas.Option.{IfSome_then}
 use Rattle.std.proofs.lemmas.Result.{IfOk-weaker}
 use Rattle.fst_machine.specs.Graph.{graph_of}

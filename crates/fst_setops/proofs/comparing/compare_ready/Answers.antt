@@ -1,6 +1,5 @@
-use Rattle.std.proofs.Common.{◌≡◌, ◌<◌, ◌≤◌, ℕ, Option, None, Some, refl, sym, ap, ◌∙◌, arith}
 use Rattle.fst_machine.specs.Graph.{graph_of}
-use Rattle.fst_machine.specs.Machine.{most_states, valued}
+use Rattle.fst_machine.specs.Machine.{valued}
 use Rattle.fst_setops.proofs.Telling.{ended_pairs}
 use Rattle.fst_setops.proofs.Ways.{ascends_single}
 use Rattle.fst_setops.proofs.comparing.compare_ready.Goals as goal

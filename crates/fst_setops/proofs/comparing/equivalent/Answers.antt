@@ -1,4 +1,4 @@
-use Rattle.std.proofs.Common.{◌≡◌, ◌∙◌, true, false, None, Some, refl, sym, subst, arith}
+use Rattle.std.proofs.Common.{refl}
 use Rattle.fst_machine.specs.Graph.{graph_of}
 use Rattle.fst_machine.specs.Machine.{valued}
 use Rattle.fst_setops.specs.declared.equivalent_fault.EquivalentFault.TheVariants.{StateLimit}

@@ -1,4 +1,4 @@
-use Rattle.std.proofs.Common.{◌≡◌, ◌∙◌, true, false, None, Some, sym}
+use Rattle.std.proofs.Common.{◌∙◌, None, Some, sym}
 use Rattle.fst_machine.specs.Machine.{valued}
 use Rattle.fst_trim.specs.FirstArcs.{Repeats}
 use Rattle.fst_trim.proofs.Valued.{repeats-valued}

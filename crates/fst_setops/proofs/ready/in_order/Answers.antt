@@ -1,11 +1,10 @@
-use Rattle.std.proofs.Common.{◌≡◌, ◌∙◌, inl, inr, refl, sym, ap, subst}
-use Rattle.fst_machine.specs.Machine.{Machine, valued}
+use Rattle.std.proofs.Common.{inl, inr, refl, sym, ap, subst}
+use Rattle.fst_machine.specs.Machine.{Machine}
 use Rattle.fst_trim.specs.Handed.{machine_of}
 use Rattle.fst_trim.specs.Sides.{IsSortedOn}
 use Rattle.fst_trim.specs.Sorting.{IsArcSorted}
 use Rattle.fst_trim.specs.declared.side.Side.TheVariants.{Input}
 use Rattle.fst_trim.proofs.Valued.{IsArcSorted-valued, IsSortedOn-valued}
-use Rattle.fst_setops.specs.Readied.{IsOrderedAs}
 use Rattle.fst_setops.proofs.ready.in_order.Goals as goal
 
 pub returns-then-is_sorted : goal.returns-then-is_sorted

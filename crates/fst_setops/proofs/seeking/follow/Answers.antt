@@ -1,10 +1,9 @@
-use Rattle.std.proofs.Common.{rules, ◌≡◌, ◌<◌, ◌≤◌, ◌⊎◌, ◌+◌, ℕ, true, false, Option, IfOk, IfSome, OnOk, Some, None, length, map, slice_get, refl, sym, ap, ap₂, ◌∙◌, subst, arith, List, [], ◌∷◌, ◌++◌}
+use Rattle.std.proofs.Common.{◌≡◌, Some, refl, sym, ap, ◌∙◌, subst}
 use Rattle.fst_machine.specs.BreadthFirst.{Has}
 use Rattle.fst_setops.specs.Followed.{ArePut, ends}
 use Rattle.fst_semiring.specs.Semiring.{times}
 use Rattle.fst_setops.specs.Kept as kept
 use Rattle.fst_setops.specs.Ways.{arc_weight}
-use Rattle.fst_setops.specs.Separating.{Pair}
 use Rattle.fst_setops.proofs.Putting.{not_listed, pair_put, word_found}
 use Rattle.fst_setops.proofs.seeking.follow.Goals as goal
 

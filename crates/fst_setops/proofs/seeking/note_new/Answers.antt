@@ -1,5 +1,4 @@
-use Rattle.std.proofs.Common.{◌≡◌, ◌<◌, ◌≤◌, ℕ, true, false, true≢false, List, Option, Some, None, length, get_or, slice_get, refl, sym, ap, ◌∙◌, arith}
-use Rattle.std.proofs.lemmas.Option.{slice_get-get_or}
+use Rattle.std.proofs.Common.{true≢false, sym, ◌∙◌}
 use Rattle.fst_trim.proofs.Rearranged.{read_inside}
 use Rattle.fst_setops.proofs.SoughtReads.{none_noted, one_noted}
 use Rattle.fst_setops.proofs.seeking.note_new.Goals as goal

@@ -1,6 +1,5 @@
-use Rattle.std.proofs.Common.{◌≡◌, ◌<◌, ◌≤◌, ◌+◌, ℕ, true, false, List, [], ◌∷◌, ◌++◌, Option, IfSome, None, Some, length, get_or, slice_get, refl, sym, ap, ap₂, ◌∙◌, subst, arith}
+use Rattle.std.proofs.Common.{◌≡◌, ◌<◌, ℕ, IfSome, Some, length, slice_get, sym, ap, ◌∙◌, subst, arith}
 use Rattle.std.proofs.lemmas.Option.{slice_get-get_or, slice_get_within}
-use Rattle.fst_semiring.specs.Semiring.{Within}
 use Rattle.fst_machine.specs.Graph.{graph_of}
 use Rattle.fst_machine.specs.Machine.{valued}
 use Rattle.fst_setops.specs.Kept as kept

@@ -1,4 +1,4 @@
-use Rattle.std.proofs.Common.{◌≡◌, ◌<◌, ◌≤◌, ℕ, List, Option, IfSome, Some, None, length, get_or, slice_get, refl, sym, ap, ap₂, ◌∙◌, subst, arith}
+use Rattle.std.proofs.Common.{◌≡◌, ◌<◌, ℕ, IfSome, Some, length, slice_get, sym, ap, ap₂, ◌∙◌, subst, arith}
 use Rattle.fst_semiring.specs.Semiring.{Within, times}
 use Rattle.fst_machine.specs.Graph.{graph_of}
 use Rattle.fst_machine.specs.Machine.{valued}
