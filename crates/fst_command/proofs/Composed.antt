@@ -1,5 +1,5 @@
 -- `compose`: what stops it, and what it makes, connected or not.
-use Rattle.std.proofs.Common.{◌≡◌, ◌⊎◌, ℕ, true, false, List, Result, Ok, Err, refl, sym, subst, inl, inr}
+use Rattle.std.proofs.Common.{◌≡◌, ◌⊎◌, ℕ, Bool, true, false, List, Result, Ok, Err, refl, sym, subst, inl, inr}
 use Rattle.fst_semiring.specs.declared.arc_type.ArcType.{ArcType}
 use Rattle.fst_semiring.specs.Cost.{Cost}
 use Rattle.fst_machine.specs.Machine.{Machine}
@@ -17,7 +17,7 @@ use Rattle.fst_compose.specs.declared.fault.ComposeFault.{ComposeFault}
 use Rattle.fst_compose.specs.declared.fault.ComposeFault.TheVariants as faults
 use Rattle.fst_words.specs.declared.options.Options.{Options}
 use Rattle.fst_command.specs.Causes.{faulty, refused, unmade}
-use Rattle.fst_command.specs.Composing.{IsComposed, IsGiven, connects}
+use Rattle.fst_command.specs.Composing.{IsComposed, IsGiven, IsLeft, connects}
 use Rattle.fst_command.specs.Meaning.{Declines, Passes, Stops}
 use Rattle.fst_command.specs.Told.{IsMade}
 use Rattle.fst_command.specs.declared.refusal.Refusal.{Refusal}
@@ -45,7 +45,7 @@ uncomposed_declines X kind a b most limit fault refusal e exact made memory = go
   go (inr is) = inl (memory is)
 
 -- the composition as it is
-pub composed-whole : (options : Options) (kind : ArcType) (a b whole : Machine Cost) (names : List (Name ℕ ℕ)) → connects options ≡ false → IsNamed (composed kind (graph_of a) (graph_of b)) names whole → IsComposition kind (graph_of a) (graph_of b) names whole → IsComposed options kind a b whole
+composed-whole : (options : Options) (kind : ArcType) (a b whole : Machine Cost) (names : List (Name ℕ ℕ)) → connects options ≡ false → IsNamed (composed kind (graph_of a) (graph_of b)) names whole → IsComposition kind (graph_of a) (graph_of b) names whole → IsComposed options kind a b whole
 composed-whole options kind a b whole names plain named composes = record {
   names = names;
   whole = whole;
@@ -55,7 +55,7 @@ composed-whole options kind a b whole names plain named composes = record {
 }
 
 -- and connected
-pub composed-connected : (options : Options) (kind : ArcType) (a b whole made : Machine Cost) (names : List (Name ℕ ℕ)) → connects options ≡ true → IsNamed (composed kind (graph_of a) (graph_of b)) names whole → IsComposition kind (graph_of a) (graph_of b) names whole → IsConnected whole made → IsComposed options kind a b made
+composed-connected : (options : Options) (kind : ArcType) (a b whole made : Machine Cost) (names : List (Name ℕ ℕ)) → connects options ≡ true → IsNamed (composed kind (graph_of a) (graph_of b)) names whole → IsComposition kind (graph_of a) (graph_of b) names whole → IsConnected whole made → IsComposed options kind a b made
 composed-connected options kind a b whole made names connected named composes trimmed =
     let keeps = connected_keeps whole made trimmed kind in
     let all = connected_composition kind (graph_of a) (graph_of b) names whole made trimmed.kept composes keeps in
@@ -66,3 +66,11 @@ composed-connected options kind a b whole made names connected named composes tr
       given = subst (λ c. IsGiven kind a b names whole c made) (sym connected) (trimmed, all);
       denotes = all.says;
     }
+
+-- what is left of it
+pub composed-left : (options : Options) (kind : ArcType) (a b whole made : Machine Cost) (names : List (Name ℕ ℕ)) → IsNamed (composed kind (graph_of a) (graph_of b)) names whole → IsComposition kind (graph_of a) (graph_of b) names whole → IsLeft (connects options) whole made → IsComposed options kind a b made
+composed-left options kind a b whole made names named composes left = by (connects options) refl left
+  where
+    by : (connected : Bool) → connects options ≡ connected → IsLeft connected whole made → IsComposed options kind a b made
+    by true is trimmed = composed-connected options kind a b whole made names is named composes trimmed
+    by false is same = subst (λ (m : Machine Cost). IsComposed options kind a b m) (sym same) (composed-whole options kind a b whole names is named composes)

@@ -4,7 +4,7 @@ use Rattle.std.proofs.Common.{◌≡◌, List, [], ◌∷◌, Result, Ok, Err, r
 use Rattle.fst_semiring.specs.declared.arc_type.ArcType.{ArcType}
 use Rattle.fst_semiring.specs.Cost.{Cost}
 use Rattle.fst_machine.specs.Machine.{Machine}
-use Rattle.fst_command.specs.Meaning.{IsMachine, answered, coded, for_one, for_two, machine, never, text}
+use Rattle.fst_command.specs.Meaning.{IsMachine, answered, coded, for_one, for_two, machine, never, separation, text}
 use Rattle.fst_command.specs.OneOutcome.{One}
 
 -- nothing
@@ -48,6 +48,8 @@ one_made kind says only (machine k m) (machine j n) one two = rw (one.0, two.0, 
 one_made kind says only (machine k m) (text bytes) one two = absurd two
 one_made kind says only (machine k m) (coded j table n) one two = absurd two
 one_made kind says only (machine k m) (answered bytes e) one two = absurd two
+one_made kind says only (machine k m) (separation bytes) one two = absurd two
 one_made kind says only (text bytes) y one two = absurd one
 one_made kind says only (coded j table n) y one two = absurd one
 one_made kind says only (answered bytes e) y one two = absurd one
+one_made kind says only (separation bytes) y one two = absurd one

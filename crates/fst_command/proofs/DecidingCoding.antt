@@ -12,7 +12,7 @@ use Rattle.fst_codex.proofs.OneAnswer.{one_decoding, one_encoded}
 use Rattle.fst_command.specs.Causes.{unmade}
 use Rattle.fst_command.specs.Coding.{Encodes, IsCoded, coding_makes, coding_stops, for_codex}
 use Rattle.fst_command.specs.Given.{Given}
-use Rattle.fst_command.specs.Meaning.{answered, coded, machine, text}
+use Rattle.fst_command.specs.Meaning.{answered, coded, machine, separation, text}
 use Rattle.fst_command.specs.OneOutcome.{One}
 use Rattle.fst_command.proofs.Deciding.{one_for_one, one_made}
 
@@ -43,9 +43,11 @@ one_coded kind weights m (coded k t r) (coded j u q) one two = let same = one_en
 one_coded kind weights m (coded k t r) (machine j q) one two = absurd two
 one_coded kind weights m (coded k t r) (text bytes) one two = absurd two
 one_coded kind weights m (coded k t r) (answered bytes e) one two = absurd two
+one_coded kind weights m (coded k t r) (separation bytes) one two = absurd two
 one_coded kind weights m (machine k r) other one two = absurd one
 one_coded kind weights m (text bytes) other one two = absurd one
 one_coded kind weights m (answered bytes e) other one two = absurd one
+one_coded kind weights m (separation bytes) other one two = absurd one
 
 pub one_coding_stops : (decode : Bool) (given : Given) → One (coding_stops decode given)
 one_coding_stops false given = λ f h one two. absurd one

@@ -1,21 +1,20 @@
 -- `minimize` has one outcome.
-use Rattle.std.proofs.Common.{◌≡◌, ◌⊎◌, inl, inr, ℕ, List, Option, None, Some, Result, Err, refl, ap, subst}
+use Rattle.std.proofs.Common.{◌≡◌, ◌⊎◌, inl, inr, ℕ, Result, Err, refl, ap, subst}
 use Rattle.fst_semiring.specs.declared.arc_type.ArcType.{ArcType}
 use Rattle.fst_semiring.specs.Cost.{Cost}
-use Rattle.fst_machine.specs.Machine.{Arc, Machine}
+use Rattle.fst_machine.specs.Machine.{Machine}
 use Rattle.fst_machine.specs.Narrowing.{IsFirstPast}
 use Rattle.fst_machine.specs.declared.narrow.NarrowFault.{NarrowFault}
 use Rattle.fst_machine.specs.declared.narrow.NarrowFault.TheVariants as narrows
-use Rattle.fst_machine.specs.declared.path.Step.{Step}
 use Rattle.fst_machine.proofs.Narrowing.{cause_exact}
-use Rattle.fst_trim.specs.FirstArcs.{HasTwoLabels, IsFirstArc, Repeats}
-use Rattle.fst_trim.proofs.OneAnswer.{one_first_arc}
+use Rattle.fst_trim.specs.FirstArcs.{HasTwoLabels, Repeats}
 use Rattle.fst_minimize.specs.Faults.{minimize_text}
 use Rattle.fst_minimize.specs.declared.fault.MinimizeFault.{MinimizeFault}
 use Rattle.fst_minimize.specs.declared.fault.MinimizeFault.TheVariants.{NotAcceptor, NotDeterministic, ImprovingCycle, Overflow, Memory}
 use Rattle.fst_minimize.proofs.OneAnswer.{one_minimized}
 use Rattle.fst_command.specs.Minimizing.{IsUnminimized, Minimizes}
 use Rattle.fst_command.specs.OneOutcome.{One}
+use Rattle.fst_command.proofs.FirstSteps.{same_step}
 
 -- one state is the first with a number past the range
 one_first_past : (m : Machine Cost) (i j : ℕ) → IsFirstPast m i → IsFirstPast m j → i ≡ j
@@ -26,23 +25,14 @@ one_first_past m i j one two = by ((cause_exact m {X = ℕ} (narrows.Overflow i)
     by (inr e) = absurd cc
 
 module _ (kind : ArcType) (m : Machine Cost) where
-  -- a step is told by its numbers
-  same_step : (P : List (Arc Cost ℕ) → ℕ → Type 0) (tell : ℕ → ℕ → List ℕ) (s p t q : ℕ) → IsFirstArc P m (Some (record { state = s; place = p })) → IsFirstArc P m (Some (record { state = t; place = q })) → tell s p ≡ tell t q
-  same_step P tell s p t q one two =
-      ap told (one_first_arc P m (Some (record { state = s; place = p })) (Some (record { state = t; place = q })) one two)
-    where
-      told : Option Step → List ℕ
-      told None = tell s p
-      told (Some step) = tell step.state step.place
-
   -- one line is told of what stands against it; the cycle is not told
   pub one_unminimized : (f h : MinimizeFault) → IsUnminimized kind m f → IsUnminimized kind m h → minimize_text f ≡ minimize_text h
-  one_unminimized (NotAcceptor s p) (NotAcceptor t q) one two = same_step HasTwoLabels (λ s p. minimize_text (NotAcceptor s p)) s p t q one.1 two.1
+  one_unminimized (NotAcceptor s p) (NotAcceptor t q) one two = same_step HasTwoLabels m (λ s p. minimize_text (NotAcceptor s p)) s p t q one.1 two.1
   one_unminimized (NotAcceptor s p) (NotDeterministic t q) one two = absurd (two.1.0 s p one.1.0)
   one_unminimized (NotAcceptor s p) (ImprovingCycle c) one two = absurd (two.1.0 s p one.1.0)
   one_unminimized (NotAcceptor s p) (Overflow t) one two = absurd (two.1.0 s p one.1.0)
   one_unminimized (NotDeterministic s p) (NotAcceptor t q) one two = absurd (one.1.0 t q two.1.0)
-  one_unminimized (NotDeterministic s p) (NotDeterministic t q) one two = same_step Repeats (λ s p. minimize_text (NotDeterministic s p)) s p t q one.1.1 two.1.1
+  one_unminimized (NotDeterministic s p) (NotDeterministic t q) one two = same_step Repeats m (λ s p. minimize_text (NotDeterministic s p)) s p t q one.1.1 two.1.1
   one_unminimized (NotDeterministic s p) (ImprovingCycle c) one two = absurd (two.1.1 s p one.1.1.0)
   one_unminimized (NotDeterministic s p) (Overflow t) one two = absurd (two.1.1 s p one.1.1.0)
   one_unminimized (ImprovingCycle c) (NotAcceptor t q) one two = absurd (one.1.0 t q two.1.0)

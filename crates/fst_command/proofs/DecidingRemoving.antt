@@ -13,7 +13,8 @@ use Rattle.fst_words.specs.declared.options.Options.{Options}
 use Rattle.fst_command.specs.Causes.{Fault, unmade}
 use Rattle.fst_command.specs.Composing.{connects}
 use Rattle.fst_command.specs.OneOutcome.{One}
-use Rattle.fst_command.specs.Removing.{IsLeft, RemovesEpsilons}
+use Rattle.fst_command.specs.Composing.{IsLeft}
+use Rattle.fst_command.specs.Removing.{RemovesEpsilons}
 
 pub one_unremoved : (kind : ArcType) (m : Machine Cost) → One (λ (fault : Fault). (why : EpsilonFault) × Stops kind m why × (fault ≡ unmade (epsilon_text why)))
 one_unremoved kind m f h one two = one.2 ∙ (ap (λ (text : List ℕ). unmade text) (one_text kind m one.0 two.0 one.1 two.1) ∙ sym two.2)

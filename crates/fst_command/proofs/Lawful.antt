@@ -33,14 +33,17 @@ use Rattle.fst_command.specs.Trimming.{side_of}
 use Rattle.fst_command.proofs.Deciding.{one_equal, one_error, one_for_one, one_for_two, one_line, one_never, one_told, one_value}
 use Rattle.fst_command.proofs.DecidingBatching.{batch_count, one_batch}
 use Rattle.fst_command.proofs.DecidingCoding.{one_coding_stops}
+use Rattle.fst_command.proofs.DecidingComparing.{a_comparison, one_uncompared}
 use Rattle.fst_command.proofs.DecidingComposing.{one_composed}
 use Rattle.fst_command.proofs.DecidingDeterminizing.{one_determinized, one_undetermined}
+use Rattle.fst_command.proofs.DecidingIntersecting.{one_intersection, one_unintersected}
 use Rattle.fst_command.proofs.DecidingListing.{one_listed, one_unlisted}
 use Rattle.fst_command.proofs.DecidingMinimizing.{one_minimizing, one_unminimized}
 use Rattle.fst_command.proofs.DecidingPruning.{one_prunes, one_unpruned}
 use Rattle.fst_command.proofs.DecidingPushing.{one_pushing, one_unpushed}
 use Rattle.fst_command.proofs.DecidingRemoving.{one_removed_machine, one_unremoved}
 use Rattle.fst_command.proofs.DecidingSizes.{one_cause, one_too_large}
+use Rattle.fst_command.proofs.DecidingSubtracting.{one_difference, one_unsubtracted}
 use Rattle.fst_command.proofs.Making.{one_cascade}
 use Rattle.fst_command.proofs.Measured.{one_distances, one_unmeasured}
 use Rattle.fst_command.proofs.OneMade.{IsOneMade, a_coding, a_machine, a_text, as_many, of_one, of_two, the_made}
@@ -118,6 +121,18 @@ lawful verbs.Minimize labels o given = record {
 lawful verbs.Prune labels o given = record {
   stopped = one_for_one _ (λ m. one_told _ _ (one_unpruned (threshold_of given.kind o.weight) given.kind m)) given.machines;
   makes = of_one _ (λ m. a_machine given.kind _ (one_prunes (threshold_of given.kind o.weight) given.kind m)) given.machines;
+}
+lawful verbs.Intersect labels o given = record {
+  stopped = one_for_two _ (λ a b. one_told _ _ (one_unintersected given.kind a b (state_limit o))) given.machines;
+  makes = of_two _ (λ a b. a_machine given.kind _ (one_intersection o given.kind a b)) given.machines;
+}
+lawful verbs.Difference labels o given = record {
+  stopped = one_for_two _ (λ a b. one_told _ _ (one_unsubtracted given.kind a b (state_limit o))) given.machines;
+  makes = of_two _ (λ a b. a_machine given.kind _ (one_difference o given.kind a b)) given.machines;
+}
+lawful verbs.Equivalent labels o given = record {
+  stopped = one_for_two _ (λ a b. one_told _ _ (one_uncompared given.kind a b (state_limit o))) given.machines;
+  makes = of_two _ (λ a b. a_comparison given.kind a b) given.machines;
 }
 lawful verbs.Batch labels o given = record {
   stopped = one_for_two _ (λ a b x y one two. one.1 ∙ sym two.1) given.machines;

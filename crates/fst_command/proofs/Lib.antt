@@ -21,7 +21,11 @@ mod Deciding
 mod DecidingBatching
 mod DecidingSizes
 mod DecidingCoding
+mod FirstSteps
 mod DecidingComposing
+mod DecidingIntersecting
+mod DecidingSubtracting
+mod DecidingComparing
 mod DecidingDeterminizing
 mod DecidingListing
 mod DecidingRemoving

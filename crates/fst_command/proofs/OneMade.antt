@@ -8,7 +8,7 @@ use Rattle.fst_codex.specs.Table.{Table}
 use Rattle.fst_command.specs.Coding.{Encodes, IsCoded, coding_makes, for_codex}
 use Rattle.fst_command.specs.Given.{Given}
 use Rattle.fst_binary.specs.Sides.{Sides, neither}
-use Rattle.fst_command.specs.Meaning.{IsMachine, Made, answered, bytes_of, coded, for_one, for_two, machine, text}
+use Rattle.fst_command.specs.Meaning.{IsMachine, Made, answered, bytes_of, coded, for_one, for_two, machine, separation, text}
 use Rattle.fst_command.specs.OneOutcome.{One}
 use Rattle.fst_command.proofs.Deciding.{one_for_one, one_for_two, one_made, one_told}
 use Rattle.fst_command.proofs.DecidingCoding.{one_coding_makes}
@@ -25,6 +25,7 @@ as_many s (machine kind m) = refl
 as_many s (text bytes) = refl
 as_many s (coded kind table m) = refl
 as_many s (answered bytes expansions) = refl
+as_many s (separation bytes) = refl
 
 pub the_made : (it : Made) → IsOneMade (length (bytes_of neither it)) (λ x. x ≡ it)
 the_made it = record { one = λ x y one two. one ∙ sym two; count = λ x is. ap (λ (y : Made). length (bytes_of neither y)) is }
@@ -35,6 +36,7 @@ count_machine kind says (machine k m) is = refl
 count_machine kind says (text bytes) is = absurd is
 count_machine kind says (coded k t m) is = absurd is
 count_machine kind says (answered bytes n) is = absurd is
+count_machine kind says (separation bytes) is = absurd is
 
 pub a_machine : (kind : ArcType) (says : Machine Cost → Type 0) → One says → IsOneMade 1 (IsMachine kind says)
 a_machine kind says only = record { one = one_made kind says only; count = count_machine kind says }
@@ -67,6 +69,7 @@ two_coded : (kind : ArcType) (says : Table Cost → Machine Cost → Type 0) (ma
 two_coded kind says (machine k m) is = absurd is
 two_coded kind says (text bytes) is = absurd is
 two_coded kind says (answered bytes n) is = absurd is
+two_coded kind says (separation bytes) is = absurd is
 two_coded kind says (coded k t m) is = refl
 
 decoded_count : (kind : ArcType) (says : Machine Cost → Table Cost → Machine Cost → Type 0) (made : Made) (ms : List (Machine Cost)) (c : Option (Table Cost)) → for_one ms (λ m. for_codex c (λ table. IsMachine kind (says m table) made)) → length (bytes_of neither made) ≡ 1

@@ -12,7 +12,7 @@ use Rattle.fst_codex.specs.declared.decoding.DecodeFault.TheVariants as decoding
 use Rattle.fst_words.specs.declared.options.Options.{Options}
 use Rattle.fst_command.specs.Causes.{unmade}
 use Rattle.fst_command.specs.Given.{Given}
-use Rattle.fst_command.specs.Meaning.{IsMachine, Made, Meaning, Stops, answered, coded, for_one, machine, text}
+use Rattle.fst_command.specs.Meaning.{IsMachine, Made, Meaning, Stops, answered, coded, for_one, machine, separation, text}
 
 -- the codex and the machine that stand for a machine, which decodes to it again
 pub record Encodes (kind : ArcType) (weights : Bool) (m r : Machine Cost) (table : Table Cost) : Type 0 where
@@ -24,6 +24,7 @@ abbrev pub IsCoded : ArcType → (Table Cost → Machine Cost → Type 0) → Ma
 IsCoded kind says (machine k m) = ⊥
 IsCoded kind says (text bytes) = ⊥
 IsCoded kind says (answered bytes expansions) = ⊥
+IsCoded kind says (separation bytes) = ⊥
 IsCoded kind says (coded k table m) = (k ≡ kind) × says table m
 
 -- the codex that is there

@@ -32,6 +32,9 @@ meaning_by verbs.Encode labels o = pages.Coding.encode_meaning o
 meaning_by verbs.Determinize labels o = pages.Determinizing.determinize_meaning o
 meaning_by verbs.Minimize labels o = pages.Minimizing.minimize_meaning
 meaning_by verbs.Prune labels o = pages.Pruning.prune_meaning o
+meaning_by verbs.Intersect labels o = pages.Intersecting.intersect_meaning o
+meaning_by verbs.Difference labels o = pages.Subtracting.difference_meaning o
+meaning_by verbs.Equivalent labels o = pages.Comparing.equivalent_meaning o
 meaning_by verbs.Batch labels o = pages.Batching.batch_meaning o
 meaning_by verbs.Make labels o = pages.Making.make_meaning o
 

@@ -27,6 +27,11 @@ state_limit options = unwrap_or options.max_states 1000000
 abbrev pub connects : Options → Bool
 connects options = option_map_or (λ word. bytes_eq word (codes "true")) options.connect true
 
+-- what is left of a machine: it is connected, or as it is
+abbrev pub IsLeft : Bool → Machine Cost → Machine Cost → Type 0
+IsLeft true whole made = IsConnected whole made
+IsLeft false whole made = made ≡ whole
+
 module _ (kind : ArcType) (first second : Machine Cost) (names : List (Name ℕ ℕ)) (whole : Machine Cost) where
   -- The machine is the composition, connected or as it is. Reading off its successful paths is a one-to-one map onto
   -- the matching pairs of paths of the two machines.

@@ -13,6 +13,9 @@ pub mod Describing
 pub mod Texts
 pub mod Replacing
 pub mod Composing
+pub mod Intersecting
+pub mod Subtracting
+pub mod Comparing
 pub mod Determinizing
 pub mod Minimizing
 pub mod Measuring
@@ -28,4 +31,5 @@ pub mod Outcome
 pub mod OneOutcome
 pub mod Told
 pub mod Seeing
+pub mod KeyText
 pub mod Steps

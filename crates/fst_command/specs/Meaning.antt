@@ -22,6 +22,8 @@ pub data Made : Type 0 where
   coded : ArcType → Table Cost → Machine Cost → Made
   -- the text of the answers to lines, with how many states of the cascade were expanded for them
   answered : List ℕ → ℕ → Made
+  -- the text that tells two machines apart
+  separation : List ℕ → Made
 
 -- the bytes of its outputs, in the order in which they are stored: a machine carries these symbol tables
 abbrev pub bytes_of : Sides → Made → List (List ℕ)
@@ -29,13 +31,15 @@ bytes_of s (machine kind m) = tabled_spelling kind m s ∷ []
 bytes_of s (text bytes) = bytes ∷ []
 bytes_of s (coded kind table m) = codex_spelling kind table ∷ tabled_spelling kind m s ∷ []
 bytes_of s (answered bytes expansions) = bytes ∷ []
+bytes_of s (separation bytes) = bytes ∷ []
 
--- the status that a run ends with which makes it
+-- the status that a run ends with which makes it: one of its own tells a script that two machines are told apart
 abbrev pub ending_of : Made → ℕ
 ending_of (machine kind m) = 0
 ending_of (text bytes) = 0
 ending_of (coded kind table m) = 0
 ending_of (answered bytes expansions) = 0
+ending_of (separation bytes) = 2
 
 -- what a command hands on for its outputs: the status, and their bytes
 pub record Product : Type 0 where
@@ -48,6 +52,7 @@ expansions_of (machine kind m) = 0
 expansions_of (text bytes) = 0
 expansions_of (coded kind table m) = 0
 expansions_of (answered bytes expansions) = expansions
+expansions_of (separation bytes) = 0
 
 -- ---- what stops a command
 
@@ -88,6 +93,7 @@ IsMachine kind says (machine k m) = (k ≡ kind) × says m
 IsMachine kind says (text bytes) = ⊥
 IsMachine kind says (coded k table m) = ⊥
 IsMachine kind says (answered bytes expansions) = ⊥
+IsMachine kind says (separation bytes) = ⊥
 
 -- ---- the meaning
 

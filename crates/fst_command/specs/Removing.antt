@@ -1,9 +1,8 @@
 -- `rmepsilon`: the machine without epsilon arcs, connected or as it is. (OpenFst manual, "RmEpsilon"; Mohri 2002, "Generic
 -- epsilon-removal".)
-use Rattle.std.specs.Prelude.{◌≡◌, ◌↔◌, ℕ, Bool, true, false, List}
+use Rattle.std.specs.Prelude.{◌≡◌, ◌↔◌, ℕ, List}
 use Rattle.fst_semiring.specs.declared.arc_type.ArcType.{ArcType}
 use Rattle.fst_semiring.specs.Cost.{Cost}
-use Rattle.fst_machine.specs.Connected.{IsConnected}
 use Rattle.fst_machine.specs.Graph.{graph_of}
 use Rattle.fst_machine.specs.Machine.{Machine}
 use Rattle.fst_machine.specs.Relation.{IsWeight}
@@ -12,13 +11,8 @@ use Rattle.fst_epsilon.specs.Faults.{epsilon_text}
 use Rattle.fst_epsilon.specs.declared.fault.EpsilonFault.{EpsilonFault}
 use Rattle.fst_words.specs.declared.options.Options.{Options}
 use Rattle.fst_command.specs.Causes.{unmade}
-use Rattle.fst_command.specs.Composing.{connects}
+use Rattle.fst_command.specs.Composing.{IsLeft, connects}
 use Rattle.fst_command.specs.Meaning.{IsMachine, Meaning, for_one}
-
--- the machine, connected or as it is
-abbrev pub IsLeft : Bool → Machine Cost → Machine Cost → Type 0
-IsLeft true whole made = IsConnected whole made
-IsLeft false whole made = made ≡ whole
 
 -- The machine is what is left without epsilon arcs, connected or as it is. It has none, and each pair of strings has the
 -- weight that it had.

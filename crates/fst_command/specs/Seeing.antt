@@ -9,7 +9,7 @@ use Rattle.fst_symbols.specs.Symbols.{Symbol}
 use Rattle.fst_any.specs.Typed.{typed, typed_codex}
 use Rattle.fst_binary.specs.Sides.{Sides}
 use Rattle.fst_command.specs.Given.{Given, Held, Tables, no_tables}
-use Rattle.fst_command.specs.Meaning.{Made, Product, answered, coded, machine, text}
+use Rattle.fst_command.specs.Meaning.{Made, Product, answered, coded, machine, separation, text}
 use Rattle.fst_command.specs.declared.tables.Carried.{Carried}
 use Rattle.fst_command.specs.declared.tables.Tables.{Tables as DeclaredTables}
 use Rattle.fst_command.specs.declared.given.Held.{Held as DeclaredHeld}
@@ -69,6 +69,7 @@ made_seen kind value (made.Joined m) = machine kind (valued value m)
 made_seen kind value (made.Text bytes) = text bytes.items
 made_seen kind value (made.Coded table m) = coded kind (valued_table value table) (valued value m)
 made_seen kind value (made.Answered bytes expansions) = answered bytes.items expansions
+made_seen kind value (made.Separation bytes) = separation bytes.items
 
 -- the bytes of its outputs
 abbrev pub bytes_seen : Bytes → List (List ℕ)

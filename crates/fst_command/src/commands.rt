@@ -12,9 +12,11 @@ ghost use Rattle.fst_command.specs.Seeing.{given_with, made_seen};
 
 mod batching;
 mod coding;
+mod comparing;
 mod composing;
 mod describing;
 mod determinizing;
+mod intersecting;
 mod listing;
 mod making;
 mod measuring;
@@ -25,8 +27,10 @@ mod pushing;
 mod rational;
 mod removing;
 mod replacing;
+mod subtracting;
 mod texts;
 mod trimming;
+mod wide_weights;
 
 use crate::given::Given;
 use crate::made::Made;
@@ -77,6 +81,9 @@ where
         Verb::Determinize => determinizing::determinized(alloc, &plan.options, given),
         Verb::Minimize => minimizing::minimized(alloc, &plan.options, given, queues),
         Verb::Prune => pruning::pruned(alloc, &plan.options, given, queues),
+        Verb::Intersect => intersecting::intersected(alloc, &plan.options, given),
+        Verb::Difference => subtracting::subtracted(alloc, &plan.options, given),
+        Verb::Equivalent => comparing::compared(alloc, &plan.options, given),
         Verb::Encode => coding::coded(alloc, &plan.options, given),
         Verb::Rmepsilon => removing::removed(alloc, &plan.options, given, queues),
         Verb::Shortestdistance => measuring::measured(alloc, &plan.options, given, queues),

@@ -23,6 +23,8 @@ pub(crate) enum Made<W: Weight> {
     Coded(Codex<W>, Fst<W>),
     /// The text of the answers to lines, and how many states of the cascade were expanded for them.
     Answered(Vec<u8>, u64),
+    /// The text that tells two machines apart.
+    Separation(Vec<u8>),
 }
 
 /// The bytes of the outputs of a command, in the order in which they are stored.
@@ -66,6 +68,10 @@ pub(crate) fn product_of<W: Weight>(
         }),
         Made::Text(text) | Made::Answered(text, _) => Ok(Product {
             status: 0,
+            bytes: Bytes::One(text),
+        }),
+        Made::Separation(text) => Ok(Product {
+            status: 2,
             bytes: Bytes::One(text),
         }),
         Made::Coded(codex, machine) => {

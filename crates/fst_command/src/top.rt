@@ -63,8 +63,8 @@ fn finish<R: Threads + Sync, D: Desk, M: Meter>(
 /// name. It fetches, works and stores through the desk, and on a refusal shows one line. A search of distances takes
 /// its states from the queue that the words name, whose own states are taken out first; the other queues are dropped.
 ///
-/// The result is the status: that of what the command makes where the outputs stand, which is 0 for every command, 3 out of
-/// memory, 4 where an input could not be read, 5 where an output could not be written, and 1 for every other refusal.
+/// The result is the status: that of what the command makes where the outputs stand, which is 0, or 2 for a text that tells two
+/// machines apart; 3 out of memory, 4 where an input could not be read, 5 where an output could not be written, and 1 for every other refusal.
 ///
 /// Where the outputs stand there was one fetch for each input, one store for each output and no show. Else there was at most
 /// one fetch for each input, no store but those of the outputs as far as one that failed, and one show.

@@ -41,3 +41,5 @@ mod queues;
 mod replacement;
 #[cfg(test)]
 mod session;
+#[cfg(test)]
+mod word_sets;

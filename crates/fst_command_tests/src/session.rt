@@ -28,6 +28,8 @@ pub(crate) enum Row {
     Run(&'static str),
     /// The same, and the file `r` is then a machine that is printed as this text.
     Makes(&'static str, &'static [u8]),
+    /// The words end with this status, nothing is shown, and the file `r` then holds these bytes.
+    Tells(&'static str, u8, &'static [u8]),
     /// The words end with this status, and these bytes are shown.
     Refuse(&'static str, u8, &'static [u8]),
     /// The file holds these bytes.
@@ -143,6 +145,10 @@ fn play_row<R: Threads + Sync + Abort>(
         Row::Machine(name, kind, text) => compile(rt, alloc, desk, name, kind, text)?,
         Row::Run(line) => ends(rt, alloc, desk, line, 0, b"")?,
         Row::Makes(line, text) => makes(rt, alloc, desk, line, text)?,
+        Row::Tells(line, status, bytes) => {
+            ends(rt, alloc, desk, line, status, b"")?;
+            holds(rt, desk, "r", bytes);
+        }
         Row::Refuse(line, status, shown) => ends(rt, alloc, desk, line, status, shown)?,
         Row::Holds(name, bytes) => holds(rt, desk, name, bytes),
         Row::Lacks(name) => assert!(rt; desk.held(name).is_none(), "{name} is there"),

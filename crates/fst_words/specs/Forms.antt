@@ -54,6 +54,9 @@ form_of verbs.Encode = record { name = codes "encode"; options = []; flags = cod
 form_of verbs.Determinize = record { name = codes "determinize"; options = codes "max_states" ∷ []; flags = []; shape = One; carries = First }
 form_of verbs.Minimize = record { name = codes "minimize"; options = codes "queue_type" ∷ []; flags = []; shape = One; carries = First }
 form_of verbs.Prune = record { name = codes "prune"; options = codes "weight" ∷ codes "queue_type" ∷ []; flags = []; shape = One; carries = First }
+form_of verbs.Intersect = record { name = codes "intersect"; options = codes "connect" ∷ codes "max_states" ∷ []; flags = []; shape = Two; carries = Outer }
+form_of verbs.Difference = record { name = codes "difference"; options = codes "connect" ∷ codes "max_states" ∷ []; flags = []; shape = Two; carries = First }
+form_of verbs.Equivalent = record { name = codes "equivalent"; options = codes "max_states" ∷ []; flags = []; shape = Two; carries = Nothing }
 form_of verbs.Batch = record {
   name = codes "batch";
   options = codes "nshortest" ∷ codes "workers" ∷ codes "max_states" ∷ [];

@@ -53,6 +53,12 @@ pub enum Verb {
     Minimize,
     /// What good paths meet.
     Prune,
+    /// The words of both acceptors.
+    Intersect,
+    /// The paths of a machine whose input string an acceptor does not have.
+    Difference,
+    /// Whether two deterministic acceptors give every word one weight.
+    Equivalent,
     /// The best paths of two composed machines, line by line.
     Batch,
     /// Two machines and lines drawn from a seed, run as a batch.

@@ -1,12 +1,16 @@
 //! `compose`.
 
-ghost use Rattle.std.specs.Prelude.{◌≡◌, ◌<◌, ◌≤◌, length};
+ghost use Rattle.std.specs.Prelude.{◌≡◌, ◌↔◌, ◌<◌, ◌≤◌, ℕ, List, IfOk, length};
 ghost use Rattle.std.specs.Result.{result_map_both};
-ghost use Rattle.fst_machine.specs.Machine.{most_states};
+ghost use Rattle.fst_semiring.specs.Cost.{Cost};
+ghost use Rattle.fst_machine.specs.Cycles.{IsAccessible};
+ghost use Rattle.fst_machine.specs.Graph.{graph_of};
+ghost use Rattle.fst_machine.specs.Machine.{most_states, valued};
+ghost use Rattle.fst_machine.specs.Relation.{Rel};
 ghost use Rattle.fst_words.specs.PlanLaws.{HasNumbersInRange};
 ghost use Rattle.fst_compose.specs.Faults.{compose_text};
 ghost use Rattle.fst_command.specs.Causes.{faulty, refused, unmade};
-ghost use Rattle.fst_command.specs.Composing.{compose_meaning, connects, state_limit};
+ghost use Rattle.fst_command.specs.Composing.{IsLeft, compose_meaning, connects, state_limit};
 ghost use Rattle.fst_command.specs.Meaning.{Settles};
 ghost use Rattle.fst_command.specs.Seeing.{given_seen, made_seen};
 ghost use Rattle.fst_command.specs.Told.{IsMade};
@@ -15,10 +19,11 @@ use crate::given::Given;
 use crate::made::Made;
 use crate::refusal::{Refusal, unmade};
 use fst_compose::{ComposeFault, compose};
+use fst_machine::Fst;
 use fst_semiring::Weight;
 use fst_trim::connect_walked;
 use fst_words::Options;
-use std::alloc::Global;
+use std::alloc::{AllocError, Global};
 
 /// The most states of a composition before it is connected: 1,000,000 without the option.
 pub(super) fn limit_of(options: &Options) -> u32
@@ -40,6 +45,23 @@ pub(super) fn is_connected(options: &Options) -> bool
     match &options.connect {
         Some(word) => word.text() == "true",
         None => true,
+    }
+}
+
+/// What is left of a machine all of whose states the start reaches: it is connected, or as it is where the option says so.
+pub(super) fn left_of<W: Weight>(
+    alloc: Global,
+    options: &Options,
+    whole: Fst<W>,
+) -> Result<Fst<W>, AllocError>
+    requires accessible { (p : ℕ) → p < length whole.states → IsAccessible (graph_of (valued W.value whole)) p }
+    ensures left { IfOk result (λ made. IsLeft (connects options.now) (valued W.value whole) (valued W.value made)) }
+    ensures relation { IfOk result (λ made. (x z : List ℕ) (w : Cost) → Rel W.KIND (graph_of (valued W.value made)) x z w ↔ Rel W.KIND (graph_of (valued W.value whole)) x z w) }
+{
+    if is_connected(options) {
+        connect_walked(alloc, whole)
+    } else {
+        Ok(whole)
     }
 }
 
@@ -72,9 +94,5 @@ pub(crate) fn composed<W: Weight>(
     // Their memory may be used again.
     drop(first);
     drop(second);
-    if is_connected(options) {
-        Ok(Made::Machine(connect_walked(alloc, whole)?))
-    } else {
-        Ok(Made::Machine(whole))
-    }
+    Ok(Made::Machine(left_of(alloc, options, whole)?))
 }

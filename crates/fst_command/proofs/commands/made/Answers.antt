@@ -43,6 +43,15 @@ returns-in-Closure-clause-settles g c = settles_for c.args.plan.now verbs.Closur
 pub returns-in-Compose-clause-settles : goal.returns-in-Compose-clause-settles
 returns-in-Compose-clause-settles g c = settles_for c.args.plan.now verbs.Compose (given_with c.args.tables.now g.W.Weight.KIND g.W.Weight.value c.args.given) (result_map_both (made_seen g.W.Weight.KIND g.W.Weight.value) (λ e. e) c.composed.result) c.in-Compose.is c.composed.ensures
 
+pub returns-in-Intersect-clause-settles : goal.returns-in-Intersect-clause-settles
+returns-in-Intersect-clause-settles g c = settles_for c.args.plan.now verbs.Intersect (given_with c.args.tables.now g.W.Weight.KIND g.W.Weight.value c.args.given) (result_map_both (made_seen g.W.Weight.KIND g.W.Weight.value) (λ e. e) c.intersected.result) c.in-Intersect.is c.intersected.ensures
+
+pub returns-in-Difference-clause-settles : goal.returns-in-Difference-clause-settles
+returns-in-Difference-clause-settles g c = settles_for c.args.plan.now verbs.Difference (given_with c.args.tables.now g.W.Weight.KIND g.W.Weight.value c.args.given) (result_map_both (made_seen g.W.Weight.KIND g.W.Weight.value) (λ e. e) c.subtracted.result) c.in-Difference.is c.subtracted.ensures
+
+pub returns-in-Equivalent-clause-settles : goal.returns-in-Equivalent-clause-settles
+returns-in-Equivalent-clause-settles g c = settles_for c.args.plan.now verbs.Equivalent (given_with c.args.tables.now g.W.Weight.KIND g.W.Weight.value c.args.given) (result_map_both (made_seen g.W.Weight.KIND g.W.Weight.value) (λ e. e) c.compared.result) c.in-Equivalent.is c.compared.ensures
+
 pub returns-in-Determinize-clause-settles : goal.returns-in-Determinize-clause-settles
 returns-in-Determinize-clause-settles g c = settles_for c.args.plan.now verbs.Determinize (given_with c.args.tables.now g.W.Weight.KIND g.W.Weight.value c.args.given) (result_map_both (made_seen g.W.Weight.KIND g.W.Weight.value) (λ e. e) c.determinized.result) c.in-Determinize.is c.determinized.ensures
 

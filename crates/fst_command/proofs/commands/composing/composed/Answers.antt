@@ -1,8 +1,8 @@
-use Rattle.std.proofs.Common.{[], ◌∷◌, Ok, Err, refl, sym, ◌∙◌}
+use Rattle.std.proofs.Common.{[], ◌∷◌, Ok, Err, refl}
 use Rattle.fst_machine.specs.Machine.{valued}
 use Rattle.fst_command.specs.Composing.{compose_meaning, state_limit}
 use Rattle.fst_command.specs.Meaning.{machine}
-use Rattle.fst_command.proofs.Composed.{composed-connected, composed-whole, composed_passes, uncomposed_declines}
+use Rattle.fst_command.proofs.Composed.{composed-left, composed_passes, uncomposed_declines}
 use Rattle.fst_command.proofs.Settled.{settled}
 use Rattle.fst_command.proofs.commands.composing.composed.Goals as goal
 
@@ -15,27 +15,15 @@ returns-in-Err g c =
     settled (compose_meaning c.args.options.now) kind value c.args.given (a ∷ b ∷ []) (Err c.uncomposed.result) c.two-first.ensures
     (uncomposed_declines _ kind (valued value a) (valued value b) c.limit_of.result (state_limit c.args.options.now) c.in-Err.fault c.uncomposed.result c.limit_of.ensures.value c.in-Err.ensures.exact c.uncomposed.ensures.made c.uncomposed.ensures.memory)
 
-pub returns-in_ok-connect_walked : goal.returns-in_ok-connect_walked
-returns-in_ok-connect_walked g c =
+pub returns-in_ok-left_of : goal.returns-in_ok-left_of
+returns-in_ok-left_of g c =
     let kind = g.W.Weight.KIND in
     let value = g.W.Weight.value in
     let o = c.args.options.now in
     let a = c.two-first.result.0 in
     let b = c.two-first.result.1 in
-    let made = c.in_ok-connect_walked.field-0 in
+    let made = c.in_ok-left_of.field-0 in
     settled (compose_meaning o) kind value c.args.given (a ∷ b ∷ []) (Ok (machine kind (valued value made))) c.two-first.ensures (
       composed_passes kind (valued value a) (valued value b) c.limit_of.result (state_limit o) c.in-Ok.made c.limit_of.ensures.value c.in-Ok.ensures.exact,
-      (refl, composed-connected o kind (valued value a) (valued value b) (valued value c.in-Ok.made.fst) (valued value made) c.in-Ok.made.names (sym c.is_connected.ensures ∙ c.if-is_connected.true) c.in-Ok.ensures.made c.in-Ok.ensures.composes c.in_ok-connect_walked.ensures.machine),
-    )
-
-pub returns-else-is_connected : goal.returns-else-is_connected
-returns-else-is_connected g c =
-    let kind = g.W.Weight.KIND in
-    let value = g.W.Weight.value in
-    let o = c.args.options.now in
-    let a = c.two-first.result.0 in
-    let b = c.two-first.result.1 in
-    settled (compose_meaning o) kind value c.args.given (a ∷ b ∷ []) (Ok (machine kind (valued value c.in-Ok.made.fst))) c.two-first.ensures (
-      composed_passes kind (valued value a) (valued value b) c.limit_of.result (state_limit o) c.in-Ok.made c.limit_of.ensures.value c.in-Ok.ensures.exact,
-      (refl, composed-whole o kind (valued value a) (valued value b) (valued value c.in-Ok.made.fst) c.in-Ok.made.names (sym c.is_connected.ensures ∙ c.if-is_connected.false) c.in-Ok.ensures.made c.in-Ok.ensures.composes),
+      (refl, composed-left o kind (valued value a) (valued value b) (valued value c.in-Ok.made.fst) (valued value made) c.in-Ok.made.names c.in-Ok.ensures.made c.in-Ok.ensures.composes c.in_ok-left_of.ensures.left),
     )

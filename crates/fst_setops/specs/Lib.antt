@@ -1,0 +1,3 @@
+pub mod Separating
+pub mod EquivalentFaults
+pub mod Verdicts
