@@ -14,4 +14,6 @@ mod triples;
 
 pub use sized::{bare_states, chain};
 pub use texts::{is_text, machine, machines, same, without_start};
-pub use triples::{ARCS, Triple, is_better, one, put, relation, said, says, weigh_alike};
+pub use triples::{
+    ARCS, Triple, is_better, one, put, relation, said, says, triples_of, weigh_alike,
+};
