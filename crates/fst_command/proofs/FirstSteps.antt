@@ -1,11 +1,10 @@
--- The first arc with a property, told by its numbers; the first place with one; and the first arc with two labels of two
--- machines, of which the first is asked first.
-use Rattle.std.proofs.Common.{◌≡◌, ◌⊎◌, inl, inr, ℕ, ◌<◌, ◌≤◌, Bool, true, false, List, Option, None, Some, ap, arith}
-use Rattle.std.proofs.lemmas.Bool.{cases_lt}
+-- The first arc with a property, told by its numbers, and the first arc with two labels of two machines, of which the first is
+-- asked first.
+use Rattle.std.proofs.Common.{◌≡◌, ℕ, Bool, true, false, List, Option, None, Some, ap}
 use Rattle.fst_semiring.specs.Cost.{Cost}
 use Rattle.fst_machine.specs.Machine.{Arc, Machine}
 use Rattle.fst_machine.specs.declared.path.Step.{Step}
-use Rattle.fst_trim.specs.FirstArcs.{HasTwoLabels, IsAcceptor, IsFirstArc, IsFirstPlace}
+use Rattle.fst_trim.specs.FirstArcs.{HasTwoLabels, IsAcceptor, IsFirstArc}
 use Rattle.fst_trim.proofs.OneAnswer.{one_first_arc}
 use Rattle.fst_setops.specs.Answers.{IsSplit}
 
@@ -16,14 +15,6 @@ same_step {X} P m tell s p t q one two =
     told : Option Step → X
     told None = tell s p
     told (Some step) = tell step.state step.place
-
-pub same_place : {X : Type 0} (P : List X → ℕ → Type 0) (xs : List X) (i j : ℕ) → IsFirstPlace P xs (Some i) → IsFirstPlace P xs (Some j) → i ≡ j
-same_place P xs i j one two = by (cases_lt i j) (cases_lt j i)
-  where
-    by : (i < j) ⊎ (j ≤ i) → (j < i) ⊎ (i ≤ j) → i ≡ j
-    by (inl low) other = absurd (two.1 i low one.0)
-    by (inr high) (inl low) = absurd (one.1 j low two.0)
-    by (inr high) (inr low) = omega (arith, high, low)
 
 module _ (a b : Machine Cost) where
   -- two acceptors have none

@@ -7,6 +7,7 @@ use Rattle.fst_rational.specs.Constructions.{closure_of, concat_of, reverse_of, 
 use Rattle.fst_text.specs.Printed.{text_of_machine}
 use Rattle.fst_trim.proofs.OneAnswer.{one_described, one_sorted}
 use Rattle.fst_compose.proofs.OneAnswer.{one_refusal}
+use Rattle.fst_setops.proofs.OneAnswer.{one_difference, one_intersection}
 use Rattle.fst_words.specs.declared.options.Options.{Options}
 use Rattle.fst_words.specs.declared.plan.Plan.{Plan}
 use Rattle.fst_words.specs.declared.verb.Verb.{Verb}
@@ -36,14 +37,14 @@ use Rattle.fst_command.proofs.DecidingCoding.{one_coding_stops}
 use Rattle.fst_command.proofs.DecidingComparing.{a_comparison, one_uncompared}
 use Rattle.fst_command.proofs.DecidingComposing.{one_composed}
 use Rattle.fst_command.proofs.DecidingDeterminizing.{one_determinized, one_undetermined}
-use Rattle.fst_command.proofs.DecidingIntersecting.{one_intersection, one_unintersected}
+use Rattle.fst_command.proofs.DecidingIntersecting.{one_intersected}
 use Rattle.fst_command.proofs.DecidingListing.{one_listed, one_unlisted}
 use Rattle.fst_command.proofs.DecidingMinimizing.{one_minimizing, one_unminimized}
 use Rattle.fst_command.proofs.DecidingPruning.{one_prunes, one_unpruned}
 use Rattle.fst_command.proofs.DecidingPushing.{one_pushing, one_unpushed}
 use Rattle.fst_command.proofs.DecidingRemoving.{one_removed_machine, one_unremoved}
 use Rattle.fst_command.proofs.DecidingSizes.{one_cause, one_too_large}
-use Rattle.fst_command.proofs.DecidingSubtracting.{one_difference, one_unsubtracted}
+use Rattle.fst_command.proofs.DecidingSubtracting.{one_subtracted}
 use Rattle.fst_command.proofs.Making.{one_cascade}
 use Rattle.fst_command.proofs.Measured.{one_distances, one_unmeasured}
 use Rattle.fst_command.proofs.OneMade.{IsOneMade, a_coding, a_machine, a_text, as_many, of_one, of_two, the_made}
@@ -123,12 +124,12 @@ lawful verbs.Prune labels o given = record {
   makes = of_one _ (λ m. a_machine given.kind _ (one_prunes (threshold_of given.kind o.weight) given.kind m)) given.machines;
 }
 lawful verbs.Intersect labels o given = record {
-  stopped = one_for_two _ (λ a b. one_told _ _ (one_unintersected given.kind a b (state_limit o))) given.machines;
-  makes = of_two _ (λ a b. a_machine given.kind _ (one_intersection o given.kind a b)) given.machines;
+  stopped = one_for_two _ (λ a b. one_told _ _ (one_intersection given.kind a b (state_limit o))) given.machines;
+  makes = of_two _ (λ a b. a_machine given.kind _ (one_intersected o given.kind a b)) given.machines;
 }
 lawful verbs.Difference labels o given = record {
-  stopped = one_for_two _ (λ a b. one_told _ _ (one_unsubtracted given.kind a b (state_limit o))) given.machines;
-  makes = of_two _ (λ a b. a_machine given.kind _ (one_difference o given.kind a b)) given.machines;
+  stopped = one_for_two _ (λ a b. one_told _ _ (one_difference given.kind a b (state_limit o))) given.machines;
+  makes = of_two _ (λ a b. a_machine given.kind _ (one_subtracted o given.kind a b)) given.machines;
 }
 lawful verbs.Equivalent labels o given = record {
   stopped = one_for_two _ (λ a b. one_told _ _ (one_uncompared given.kind a b (state_limit o))) given.machines;

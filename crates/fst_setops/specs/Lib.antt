@@ -1,3 +1,10 @@
+pub mod Faults
+pub mod Unweighted
+pub mod Named
+pub mod Difference
+pub mod Subtracting
+pub mod Intersecting
+pub mod Answers
 pub mod Separating
 pub mod EquivalentFaults
 pub mod Verdicts

@@ -1,13 +1,26 @@
-//! Set operations on acceptors.
+//! Operations on sets of strings with weights: the intersection and the difference of acceptors, and whether two are
+//! equivalent.
 //!
+//! `intersect` gives the strings that both machines have, with the product of their weights, and `difference` those of the
+//! first that the second does not have. (Mohri 2009, sections 3.5 and 4.1; OpenFst manual, "Intersect" and "Difference".)
 //! `equivalent` says whether two deterministic acceptors give each word the same weight, and else the least word whose weights
 //! differ.
+//!
+//! The definitions stand in `specs`, over graphs of plain values with any kind of name: the names and the arcs of a
+//! difference, how its paths are read off to paths of the first machine, and when an operation is refused. `laws` asks for
+//! the theorems in this form.
 #![tactic(auto)]
 
 mod comparing;
 mod equivalent_fault;
+mod fault;
+mod intersecting;
+mod subtracting;
 mod verdict;
 
 pub use comparing::equivalent;
 pub use equivalent_fault::EquivalentFault;
+pub use fault::{DifferenceFault, IntersectFault};
+pub use intersecting::intersect;
+pub use subtracting::difference;
 pub use verdict::{Labels, Verdict};

@@ -86,13 +86,13 @@ pub(crate) fn compared<W: Weight>(
     let (first, second) = given.two();
     match equivalent(alloc, &first, &second, limit_of(options)) {
         Ok(Verdict::Equivalent) => Ok(Made::Text(Vec::from_slice(alloc, b"equivalent\n")?)),
-        Ok(Verdict::Separated {
-            word,
-            first,
-            second,
-        }) => Ok(Made::Separation(separation_text::<W>(
-            alloc, first, second, &word,
-        )?)),
+        Ok(
+            Verdict::Separated {
+                word,
+                first,
+                second,
+            },
+        ) => Ok(Made::Separation(separation_text::<W>(alloc, first, second, &word)?)),
         Err(fault) => Err(uncompared(alloc, fault)),
     }
 }

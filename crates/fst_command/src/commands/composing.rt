@@ -56,7 +56,7 @@ pub(super) fn left_of<W: Weight>(
 ) -> Result<Fst<W>, AllocError>
     requires accessible { (p : ℕ) → p < length whole.states → IsAccessible (graph_of (valued W.value whole)) p }
     ensures left { IfOk result (λ made. IsLeft (connects options.now) (valued W.value whole) (valued W.value made)) }
-    ensures relation { IfOk result (λ made. (x z : List ℕ) (w : Cost) → Rel W.KIND (graph_of (valued W.value made)) x z w ↔ Rel W.KIND (graph_of (valued W.value whole)) x z w) }
+    ensures relation { IfOk result (λ made. (x z : List ℕ) (w : Cost) → Rel W.KIND (graph_of (valued W.value whole)) x z w ↔ Rel W.KIND (graph_of (valued W.value made)) x z w) }
 {
     if is_connected(options) {
         connect_walked(alloc, whole)
