@@ -16,7 +16,7 @@ mod remaining;
 mod scan;
 mod separating;
 
-pub use cost::{PlainCost, tropical_number};
+pub use cost::{PlainCost, tropical_number, wide_cost};
 pub use distance::{distances_to, distances_to_final};
 pub use listing::successful_paths;
 pub use pair::pair_weight;
