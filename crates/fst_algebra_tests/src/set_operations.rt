@@ -103,9 +103,9 @@ fn judge<W: Weight>(rt: &impl Abort, alloc: Global, wanted: u32) -> Result<(), F
 #[test]
 fn the_slow_program_finds_the_same_word(rt: HostRuntime) -> Result<(), Fail> {
     let alloc = rt.alloc();
-    judge::<Boolean>(&rt, alloc, 0)?;
-    judge::<Tropical>(&rt, alloc, 0)?;
-    judge::<Lexicographic>(&rt, alloc, 0)
+    judge::<Boolean>(&rt, alloc, 87)?;
+    judge::<Tropical>(&rt, alloc, 88)?;
+    judge::<Lexicographic>(&rt, alloc, 88)
 }
 
 /// Whether a difference has the paths that the slow program leaves, one for one. Gives how many they are.
@@ -150,8 +150,8 @@ fn subtract<W: Weight>(rt: &impl Abort, alloc: Global, wanted: usize) -> Result<
 #[test]
 fn the_slow_program_leaves_the_same_paths(rt: HostRuntime) -> Result<(), Fail> {
     let alloc = rt.alloc();
-    subtract::<Boolean>(&rt, alloc, 0)?;
-    subtract::<Tropical>(&rt, alloc, 0)?;
-    subtract::<MinMax>(&rt, alloc, 0)?;
-    subtract::<Lexicographic>(&rt, alloc, 0)
+    subtract::<Boolean>(&rt, alloc, 2_702)?;
+    subtract::<Tropical>(&rt, alloc, 2_702)?;
+    subtract::<MinMax>(&rt, alloc, 2_702)?;
+    subtract::<Lexicographic>(&rt, alloc, 2_702)
 }

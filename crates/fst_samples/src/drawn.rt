@@ -29,6 +29,7 @@ pub struct Recipe {
 }
 
 /// A text that is being written.
+#[derive(Drop)]
 struct Sheet {
     kind: ArcType,
     recipe: Recipe,
