@@ -8,28 +8,26 @@ use std::alloc::{AllocError, Global};
 
 /// Whether two paths read one string: the same input labels in order, but for 0.
 fn read_alike(a: &[PlainTransition], b: &[PlainTransition]) -> bool {
-    match a {
-        [] => b.iter().all(|other| other.ilabel == 0),
-        [first, firsts @ ..] => {
-            if first.ilabel == 0 {
-                return read_alike(firsts, b);
-            }
-            match b {
-                [] => false,
-                [other, others @ ..] => {
-                    if other.ilabel == 0 {
-                        return read_alike(a, others);
-                    }
-                    first.ilabel == other.ilabel && read_alike(firsts, others)
-                }
-            }
+    match (a, b) {
+        ([], []) => true,
+        ([first, firsts @ ..], _) if first.ilabel == 0 => read_alike(firsts, b),
+        (_, [other, others @ ..]) if other.ilabel == 0 => read_alike(a, others),
+        ([first, firsts @ ..], [other, others @ ..]) => {
+            first.ilabel == other.ilabel && read_alike(firsts, others)
         }
+        _ => false,
     }
 }
 
 /// Whether one of these paths reads what the path reads.
 fn is_read(paths: &[PlainPath], path: &PlainPath) -> bool {
-    paths.iter().any(|other| read_alike(other.transitions.as_slice(), path.transitions.as_slice()))
+    match paths {
+        [] => false,
+        [first, rest @ ..] => {
+            read_alike(first.transitions.as_slice(), path.transitions.as_slice())
+                || is_read(rest, path)
+        }
+    }
 }
 
 /// The successful paths of the first machine with at most so many arcs whose string no successful path of the second with
