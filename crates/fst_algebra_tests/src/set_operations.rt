@@ -12,10 +12,13 @@ use std::test::Fail;
 /// No line has this number.
 const NONE: u32 = 1_000;
 
-/// How many machines are drawn, and how many lines of each are changed in turn.
-const SEEDS: u64 = 24;
+/// How many machines are compared, and how many lines of each are changed in turn.
+const SEEDS: u64 = 16;
 
 const LINES: u32 = 7;
+
+/// Seeds of machines of which the second takes away some paths of the first.
+const LESS: [u64; 6] = [2, 10, 13, 14, 16, 21];
 
 /// A machine that is drawn.
 fn drawn<W: Weight>(alloc: Global, recipe: Recipe) -> Result<Fst<W>, Fail> {
@@ -103,9 +106,9 @@ fn judge<W: Weight>(rt: &impl Abort, alloc: Global, wanted: u32) -> Result<(), F
 #[test]
 fn the_slow_program_finds_the_same_word(rt: HostRuntime) -> Result<(), Fail> {
     let alloc = rt.alloc();
-    judge::<Boolean>(&rt, alloc, 87)?;
-    judge::<Tropical>(&rt, alloc, 88)?;
-    judge::<Lexicographic>(&rt, alloc, 88)
+    judge::<Boolean>(&rt, alloc, 54)?;
+    judge::<Tropical>(&rt, alloc, 54)?;
+    judge::<Lexicographic>(&rt, alloc, 54)
 }
 
 /// Whether a difference has the paths that the slow program leaves, one for one. Gives how many they are.
@@ -123,7 +126,7 @@ fn leaves<W: Weight>(alloc: Global, a: &Fst<W>, b: &Fst<W>) -> Result<Option<usi
 /// Asks of machines of an arc type less others, which leave so many paths together.
 fn subtract<W: Weight>(rt: &impl Abort, alloc: Global, wanted: usize) -> Result<(), Fail> {
     let mut count = 0usize;
-    for seed in 0..SEEDS {
+    for seed in LESS {
         let recipe = Recipe {
             manner: Manner::Scattered,
             seed,
@@ -150,8 +153,8 @@ fn subtract<W: Weight>(rt: &impl Abort, alloc: Global, wanted: usize) -> Result<
 #[test]
 fn the_slow_program_leaves_the_same_paths(rt: HostRuntime) -> Result<(), Fail> {
     let alloc = rt.alloc();
-    subtract::<Boolean>(&rt, alloc, 2_702)?;
-    subtract::<Tropical>(&rt, alloc, 2_702)?;
-    subtract::<MinMax>(&rt, alloc, 2_702)?;
-    subtract::<Lexicographic>(&rt, alloc, 2_702)
+    subtract::<Boolean>(&rt, alloc, 222)?;
+    subtract::<Tropical>(&rt, alloc, 222)?;
+    subtract::<MinMax>(&rt, alloc, 222)?;
+    subtract::<Lexicographic>(&rt, alloc, 222)
 }

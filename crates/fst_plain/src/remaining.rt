@@ -1,5 +1,9 @@
 //! The paths of a difference, by comparing strings.
 
+ghost use Rattle.std.specs.Prelude.{◌≡◌};
+ghost use Rattle.std.specs.Bool.{Decides};
+ghost use Rattle.fst_plain.specs.Strings.{IsReadBy, read_along};
+
 use crate::listing::successful_paths;
 use crate::path::{PlainPath, PlainTransition};
 use fst_machine::Fst;
@@ -7,7 +11,9 @@ use fst_semiring::Weight;
 use std::alloc::{AllocError, Global};
 
 /// Whether two paths read one string: the same input labels in order, but for 0.
-fn read_alike(a: &[PlainTransition], b: &[PlainTransition]) -> bool {
+fn read_alike(a: &[PlainTransition], b: &[PlainTransition]) -> bool
+    ensures { Decides result (read_along a.now ≡ read_along b.now) }
+{
     match (a, b) {
         ([], []) => true,
         ([first, firsts @ ..], _) if first.ilabel == 0 => read_alike(firsts, b),
@@ -20,7 +26,9 @@ fn read_alike(a: &[PlainTransition], b: &[PlainTransition]) -> bool {
 }
 
 /// Whether one of these paths reads what the path reads.
-fn is_read(paths: &[PlainPath], path: &PlainPath) -> bool {
+fn is_read(paths: &[PlainPath], path: &PlainPath) -> bool
+    ensures { Decides result (IsReadBy paths.now (read_along path.now.transitions.items)) }
+{
     match paths {
         [] => false,
         [first, rest @ ..] => {
