@@ -12,9 +12,9 @@ use Rattle.fst_minimize.specs.Faults.{minimize_text}
 use Rattle.fst_minimize.specs.declared.fault.MinimizeFault.{MinimizeFault}
 use Rattle.fst_minimize.specs.declared.fault.MinimizeFault.TheVariants.{NotAcceptor, NotDeterministic, ImprovingCycle, Overflow, Memory}
 use Rattle.fst_minimize.proofs.OneAnswer.{one_minimized}
+use Rattle.fst_setops.proofs.OneAnswer.{one_first}
 use Rattle.fst_command.specs.Minimizing.{IsUnminimized, Minimizes}
 use Rattle.fst_command.specs.OneOutcome.{One}
-use Rattle.fst_command.proofs.FirstSteps.{same_step}
 
 -- one state is the first with a number past the range
 one_first_past : (m : Machine Cost) (i j : ℕ) → IsFirstPast m i → IsFirstPast m j → i ≡ j
@@ -27,12 +27,12 @@ one_first_past m i j one two = by ((cause_exact m {X = ℕ} (narrows.Overflow i)
 module _ (kind : ArcType) (m : Machine Cost) where
   -- one line is told of what stands against it; the cycle is not told
   pub one_unminimized : (f h : MinimizeFault) → IsUnminimized kind m f → IsUnminimized kind m h → minimize_text f ≡ minimize_text h
-  one_unminimized (NotAcceptor s p) (NotAcceptor t q) one two = same_step HasTwoLabels m (λ s p. minimize_text (NotAcceptor s p)) s p t q one.1 two.1
+  one_unminimized (NotAcceptor s p) (NotAcceptor t q) one two = one_first HasTwoLabels m (λ s p. minimize_text (NotAcceptor s p)) s p t q one.1 two.1
   one_unminimized (NotAcceptor s p) (NotDeterministic t q) one two = absurd (two.1.0 s p one.1.0)
   one_unminimized (NotAcceptor s p) (ImprovingCycle c) one two = absurd (two.1.0 s p one.1.0)
   one_unminimized (NotAcceptor s p) (Overflow t) one two = absurd (two.1.0 s p one.1.0)
   one_unminimized (NotDeterministic s p) (NotAcceptor t q) one two = absurd (one.1.0 t q two.1.0)
-  one_unminimized (NotDeterministic s p) (NotDeterministic t q) one two = same_step Repeats m (λ s p. minimize_text (NotDeterministic s p)) s p t q one.1.1 two.1.1
+  one_unminimized (NotDeterministic s p) (NotDeterministic t q) one two = one_first Repeats m (λ s p. minimize_text (NotDeterministic s p)) s p t q one.1.1 two.1.1
   one_unminimized (NotDeterministic s p) (ImprovingCycle c) one two = absurd (two.1.1 s p one.1.1.0)
   one_unminimized (NotDeterministic s p) (Overflow t) one two = absurd (two.1.1 s p one.1.1.0)
   one_unminimized (ImprovingCycle c) (NotAcceptor t q) one two = absurd (one.1.0 t q two.1.0)

@@ -11,9 +11,8 @@ use Rattle.fst_epsilon.specs.declared.fault.EpsilonFault.{EpsilonFault}
 use Rattle.fst_epsilon.proofs.OneAnswer.{one_removed, one_text}
 use Rattle.fst_words.specs.declared.options.Options.{Options}
 use Rattle.fst_command.specs.Causes.{Fault, unmade}
-use Rattle.fst_command.specs.Composing.{connects}
+use Rattle.fst_command.specs.Composing.{IsLeft, connects}
 use Rattle.fst_command.specs.OneOutcome.{One}
-use Rattle.fst_command.specs.Composing.{IsLeft}
 use Rattle.fst_command.specs.Removing.{RemovesEpsilons}
 
 pub one_unremoved : (kind : ArcType) (m : Machine Cost) → One (λ (fault : Fault). (why : EpsilonFault) × Stops kind m why × (fault ≡ unmade (epsilon_text why)))

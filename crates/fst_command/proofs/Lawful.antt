@@ -124,11 +124,11 @@ lawful verbs.Prune labels o given = record {
   makes = of_one _ (λ m. a_machine given.kind _ (one_prunes (threshold_of given.kind o.weight) given.kind m)) given.machines;
 }
 lawful verbs.Intersect labels o given = record {
-  stopped = one_for_two _ (λ a b. one_told _ _ (one_intersection given.kind a b (state_limit o))) given.machines;
+  stopped = one_for_two _ (λ a b. one_told _ _ (one_intersection a b given.kind (state_limit o))) given.machines;
   makes = of_two _ (λ a b. a_machine given.kind _ (one_intersected o given.kind a b)) given.machines;
 }
 lawful verbs.Difference labels o given = record {
-  stopped = one_for_two _ (λ a b. one_told _ _ (one_difference given.kind a b (state_limit o))) given.machines;
+  stopped = one_for_two _ (λ a b. one_told _ _ (one_difference a b given.kind (state_limit o))) given.machines;
   makes = of_two _ (λ a b. a_machine given.kind _ (one_subtracted o given.kind a b)) given.machines;
 }
 lawful verbs.Equivalent labels o given = record {

@@ -21,7 +21,6 @@ mod Deciding
 mod DecidingBatching
 mod DecidingSizes
 mod DecidingCoding
-mod FirstSteps
 mod DecidingComposing
 mod DecidingIntersecting
 mod DecidingSubtracting

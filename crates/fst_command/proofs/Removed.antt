@@ -15,9 +15,8 @@ use Rattle.fst_epsilon.specs.declared.fault.EpsilonFault.{EpsilonFault}
 use Rattle.fst_epsilon.specs.declared.fault.EpsilonFault.TheVariants as faults
 use Rattle.fst_words.specs.declared.options.Options.{Options}
 use Rattle.fst_command.specs.Causes.{faulty, refused, unmade}
-use Rattle.fst_command.specs.Composing.{connects}
+use Rattle.fst_command.specs.Composing.{IsLeft, connects}
 use Rattle.fst_command.specs.Meaning.{Declines, Stops as Stopping}
-use Rattle.fst_command.specs.Composing.{IsLeft}
 use Rattle.fst_command.specs.Removing.{RemovesEpsilons}
 use Rattle.fst_command.specs.Told.{IsMade}
 use Rattle.fst_command.specs.declared.refusal.Refusal.{Refusal}

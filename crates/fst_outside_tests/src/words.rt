@@ -212,7 +212,7 @@ static COMMANDS_1: [(&[&str], &str); 24] = [
     ),
 ];
 
-static COMMANDS_2: [(&[&str], &str); 27] = [
+static COMMANDS_2: [(&[&str], &str); 33] = [
     (
         &["arcsort", "--sort_type", "ilabel"],
         "arcsort - - --sort_type=ilabel",
@@ -280,6 +280,28 @@ static COMMANDS_2: [(&[&str], &str); 27] = [
     ),
     (&["fstprune", "--weight=", "m"], "prune m - --weight="),
     (&["prune", "--weight", "-1"], "usage"),
+    (
+        &[
+            "intersect",
+            "a",
+            "--connect=false",
+            "b",
+            "--max_states",
+            "7",
+        ],
+        "intersect a b - --connect=false --max_states=7",
+    ),
+    (
+        &["fstdifference", "--max_states=1", "a", "b", "c"],
+        "difference a b c --max_states=1",
+    ),
+    (&["difference", "a"], "usage"),
+    (
+        &["equivalent", "a", "b", "--max_states=2"],
+        "equivalent a b - --max_states=2",
+    ),
+    (&["equivalent", "--connect=true", "a", "b"], "usage"),
+    (&["fstfstequivalent", "a", "b"], "usage"),
     (&["batch", "a", "b"], "batch a b - -"),
     (
         &[

@@ -7,7 +7,10 @@ use Rattle.fst_machine.specs.Machine.{Arc, Machine}
 use Rattle.fst_trim.specs.FirstArcs.{HasTwoLabels, IsFirstArc, Repeats}
 use Rattle.fst_trim.specs.FirstArcs as arcs
 use Rattle.fst_walk.specs.Answers.{HasManyArcs, ReachesMore}
+use Rattle.fst_walk.specs.declared.fault.WalkFault.{WalkFault}
+use Rattle.fst_walk.specs.declared.fault.WalkFault.TheVariants as walk
 use Rattle.fst_compose.specs.Answers.{IsSorted, Refuses}
+use Rattle.fst_compose.specs.declared.fault.ComposeFault.{ComposeFault}
 use Rattle.fst_compose.specs.declared.fault.ComposeFault.TheVariants as compositions
 use Rattle.fst_setops.specs.Difference.{difference}
 use Rattle.fst_setops.specs.Unweighted.{IsFirstWeighted, ReadsEpsilon}
@@ -69,3 +72,17 @@ RefusesDifference kind a b most (differences.NotUnweighted state) = AreAcceptors
 RefusesDifference kind a b most (differences.StateLimit limit) = AreSubtractable kind a b × (limit ≡ most) × ReachesMore (difference (graph_of a) (graph_of b)) most
 RefusesDifference kind a b most differences.TooManyArcs = AreSubtractable kind a b × HasManyArcs (difference (graph_of a) (graph_of b)) most
 RefusesDifference kind a b most differences.Memory = ⊥
+
+-- what stops the composition stops the intersection
+abbrev pub cause_of : ComposeFault → IntersectFault
+cause_of compositions.NotSorted = intersections.NotSorted
+cause_of (compositions.StateLimit limit) = intersections.StateLimit limit
+cause_of compositions.TooManyArcs = intersections.TooManyArcs
+cause_of (compositions.Overflow place) = intersections.Overflow place
+cause_of compositions.Memory = intersections.Memory
+
+-- what stops the walk stops the difference; no weight is out of range
+abbrev pub IsCause : WalkFault → DifferenceFault → Type 0
+IsCause (walk.StateLimit limit) fault = fault ≡ differences.StateLimit limit
+IsCause walk.TooManyArcs fault = fault ≡ differences.TooManyArcs
+IsCause (walk.Overflow place) fault = ⊥

@@ -1,12 +1,11 @@
 -- The difference of an acceptor and a deterministic one without epsilon and without weights. (Mohri 2009, section 3.5:
 -- the difference of a weighted acceptor and an unweighted one is its intersection with the complement of that one; here
 -- the complement is not made.)
-use Rattle.std.specs.Prelude.{◌≡◌, ℕ, zero, suc, Bool, true, false, List, [], ◌∷◌, Option, None, Some, cond, map, nat_eq, slice_get}
+use Rattle.std.specs.Prelude.{◌≡◌, ℕ, zero, suc, ◌+◌, ◌*◌, Bool, true, false, ◌&&◌, if◌then◌else◌, List, [], ◌∷◌, Option, None, Some, cond, map, nat_eq, nat_lt, slice_get}
 use Rattle.std.specs.Option.{option_map}
 use Rattle.fst_semiring.specs.Cost.{Cost, infinite, is_infinite}
 use Rattle.fst_machine.specs.Machine.{Arc, Machine, valued}
 use Rattle.fst_machine.specs.Graph.{Graph, graph_of}
-use Rattle.fst_machine.specs.Letters.{Letter}
 
 -- A state of the first machine, and the state of the second in which what was read leads it, or none.
 pub record Rest (N M : Type 0) : Type 0 where
@@ -24,9 +23,13 @@ followed b zero s = s
 followed b (suc l) None = None
 followed b (suc l) (Some q) = next_by (suc l) (b.arcs q)
 
+-- the arc of the first machine with this second part behind it
+abbrev pub rest_at : {N M : Type 0} → Option M → Arc Cost N → Arc Cost (Rest N M)
+rest_at s a = record { ilabel = a.ilabel; olabel = a.olabel; weight = a.weight; next = record { first = a.next; second = s } }
+
 -- the arc of the first machine, with what it makes of the second part
 abbrev pub rest_arc : {N M : Type 0} → Graph M → Option M → Arc Cost N → Arc Cost (Rest N M)
-rest_arc b s a = record { ilabel = a.ilabel; olabel = a.olabel; weight = a.weight; next = record { first = a.next; second = followed b a.ilabel s } }
+rest_arc b s a = rest_at (followed b a.ilabel s) a
 
 -- whether the second part is a final state of the second machine
 abbrev pub is_final : {M : Type 0} → Graph M → Option M → Bool
@@ -48,3 +51,16 @@ IsEpsilonFree {M} b = (q : M) (k : ℕ) (x : Arc Cost M) → slice_get (b.arcs q
 -- the difference of two machines
 abbrev pub subtraction : {V : Type 0} → (V → Cost) → Machine V → Machine V → Graph (Rest ℕ ℕ)
 subtraction value a b = difference (graph_of (valued value a)) (graph_of (valued value b))
+
+-- the number of a second part: 0 where there is none
+abbrev pub second_number : Option ℕ → ℕ
+second_number None = 0
+second_number (Some q) = q + 1
+
+-- whether the parts of a name have room in one number
+abbrev pub has_room : Rest ℕ ℕ → Bool
+has_room n = nat_lt n.first 2147483648 && nat_lt (second_number n.second) 2147483648
+
+-- the number by which a name is found: its parts side by side; 0 where they have no room
+abbrev pub rest_number : Rest ℕ ℕ → ℕ
+rest_number n = if has_room n then 1 + n.first + second_number n.second * 2147483648 else 0

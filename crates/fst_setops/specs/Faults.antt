@@ -1,6 +1,6 @@
 -- What is said of machines that have no intersection or no difference: why. Where the second machine alone is meant, the
 -- text says so.
-use Rattle.std.specs.Prelude.{ℕ, Bool, true, false, List, [], ◌∷◌, ◌++◌, codes}
+use Rattle.std.specs.Prelude.{ℕ, Bool, true, false, List, [], ◌∷◌, codes}
 use Rattle.std.specs.Fmt.{decimal}
 use Rattle.std.specs.List.{concat}
 use Rattle.fst_setops.specs.declared.fault.DifferenceFault.{DifferenceFault}

@@ -5,10 +5,12 @@ use Rattle.fst_semiring.specs.Semiring.{Within, cancels}
 use Rattle.fst_semiring.specs.declared.arc_type.ArcType.{ArcType}
 use Rattle.fst_machine.specs.Connected.{IsConnected}
 use Rattle.fst_machine.specs.Graph.{Graph, graph_of}
-use Rattle.fst_machine.specs.Machine.{Arc, Machine}
-use Rattle.fst_trim.specs.FirstArcs.{HasTwoLabels, Repeats, IsFirstArc}
+use Rattle.fst_machine.specs.Machine.{Machine}
+use Rattle.fst_trim.specs.FirstArcs.{Repeats}
 use Rattle.fst_trim.specs.FirstArcs as arcs
 use Rattle.fst_trim.specs.WordWeights.{SameWords}
+use Rattle.fst_setops.specs.Answers.{AreAcceptors, IsFirst, IsSplit}
+use Rattle.fst_setops.specs.Kept.{most_number}
 use Rattle.fst_setops.specs.Separating.{HasMorePairs, IsSeparating}
 use Rattle.fst_setops.specs.declared.equivalent_fault.EquivalentFault.{EquivalentFault}
 use Rattle.fst_setops.specs.declared.equivalent_fault.EquivalentFault.TheVariants.{NotAcceptor, NotDeterministic, NotCancelling, StateLimit, Memory}
@@ -19,10 +21,6 @@ use Rattle.fst_setops.specs.declared.verdict.Verdict.TheVariants.{Equivalent, Se
 abbrev pub IsSaid : {V X N M : Type 0} → ArcType → (X → Cost) → Graph N → Graph M → Verdict V X → Type 0
 IsSaid kind value g h Equivalent = SameWords kind g h
 IsSaid kind value g h (Separated word first second) = IsSeparating kind g h word (value first) (value second)
-
--- 2 to the 84
-abbrev pub most_number : ℕ
-most_number = 19342813113834066795298816
 
 -- the numbers of the weights have at most this absolute value
 abbrev pub HasRange : {V X : Type 0} → (X → Cost) → Verdict V X → Type 0
@@ -36,19 +34,6 @@ pub record HasMoreConnectedPairs (a b : Machine Cost) (limit : ℕ) : Type 0 whe
   pub first_connected : IsConnected a first
   pub second_connected : IsConnected b second
   pub more : HasMorePairs (graph_of first) (graph_of second) limit
-
--- the first arc of the machine with the property, by state and then place
-abbrev pub IsFirst : (List (Arc Cost ℕ) → ℕ → Type 0) → Machine Cost → ℕ → ℕ → Type 0
-IsFirst P m state place = IsFirstArc P m (Some (record { state = state; place = place }))
-
--- the first arc with two labels of the first machine; or of the second, where the first has none
-abbrev pub IsSplit : Machine Cost → Machine Cost → Bool → ℕ → ℕ → Type 0
-IsSplit a b false state place = IsFirst HasTwoLabels a state place
-IsSplit a b true state place = arcs.IsAcceptor a × IsFirst HasTwoLabels b state place
-
--- both are acceptors
-abbrev pub AreAcceptors : Machine Cost → Machine Cost → Type 0
-AreAcceptors a b = arcs.IsAcceptor a × arcs.IsAcceptor b
 
 -- the first arc with the label of an earlier one, of the first machine; or of the second, where the first has none
 abbrev pub IsRepeated : Machine Cost → Machine Cost → Bool → ℕ → ℕ → Type 0
@@ -68,9 +53,3 @@ RefusesComparison kind a b most (NotDeterministic second state place) = AreAccep
 RefusesComparison kind a b most NotCancelling = AreDeterministic a b × (cancels kind ≡ false)
 RefusesComparison kind a b most (StateLimit limit) = AreDeterministic a b × (cancels kind ≡ true) × (limit ≡ most) × HasMoreConnectedPairs a b most
 RefusesComparison kind a b most Memory = ⊥
-
--- A fault comes only where it stands against the operation, or memory has run out; and where one does, it comes, or memory
--- has run out.
-abbrev pub IsExactly : {F X : Type 0} → (F → Type 0) → F → Result X F → Type 0
-IsExactly {F} Refuses memory result = (fault : F)
-    → (IsErrOf result fault → Refuses fault ⊎ (fault ≡ memory)) × (Refuses fault → IsErrOf result fault ⊎ IsErrOf result memory)

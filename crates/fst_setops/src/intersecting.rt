@@ -1,21 +1,46 @@
 //! The strings that two machines have.
 
 ghost use Rattle.std.specs.Prelude.{◌≡◌, ◌↔◌, ◌<◌, ◌≤◌, ℕ, List, IfOk, length};
+ghost use Rattle.std.specs.Bool.{Decides};
 ghost use Rattle.fst_semiring.specs.Cost.{Cost};
 ghost use Rattle.fst_machine.specs.Cycles.{IsAccessible};
 ghost use Rattle.fst_machine.specs.Graph.{graph_of};
 ghost use Rattle.fst_machine.specs.Machine.{most_states, valued};
 ghost use Rattle.fst_machine.specs.Relation.{Rel};
+ghost use Rattle.fst_compose.specs.Answers.{IsSorted};
 ghost use Rattle.fst_compose.specs.Composition.{composition};
 ghost use Rattle.fst_compose.specs.Theorem.{IsComposition};
-ghost use Rattle.fst_setops.specs.Answers.{IsExactly, RefusesIntersection};
+ghost use Rattle.fst_setops.specs.Answers.{IsExactly, RefusesIntersection, cause_of};
 ghost use Rattle.fst_setops.specs.Intersecting.{Intersects};
 ghost use Rattle.fst_setops.specs.Named.{HasNames};
 
+use crate::acceptors::split_at;
 use crate::fault::IntersectFault;
+use fst_compose::{ComposeFault, compose};
 use fst_machine::Fst;
 use fst_semiring::Weight;
+use fst_trim::{Side, is_sorted};
 use std::alloc::Global;
+
+/// Why there is no intersection, where there is no composition.
+fn uncomposed(fault: ComposeFault) -> IntersectFault
+    ensures { result ≡ cause_of fault }
+{
+    match fault {
+        ComposeFault::NotSorted => IntersectFault::NotSorted,
+        ComposeFault::StateLimit { limit } => IntersectFault::StateLimit { limit },
+        ComposeFault::TooManyArcs => IntersectFault::TooManyArcs,
+        ComposeFault::Overflow { state } => IntersectFault::Overflow { state },
+        ComposeFault::Memory => IntersectFault::Memory,
+    }
+}
+
+/// Whether the arcs of the first machine stand by their output labels, or those of the second by their input labels.
+fn may_be_composed<W: Weight>(a: &Fst<W>, b: &Fst<W>) -> bool
+    ensures { Decides result (IsSorted (valued W.value a.now) (valued W.value b.now)) }
+{
+    is_sorted(a, Side::Output) || is_sorted(b, Side::Input)
+}
 
 /// The intersection of two acceptors, of which the first has its arcs by their labels or the second has: the machine of
 /// `compose`. Where a machine has no start, the result has no states. (Mohri 2009, section 4.1; OpenFst manual,
@@ -45,5 +70,18 @@ pub fn intersect<W: Weight>(
     ensures accessible { IfOk result (λ m. (p : ℕ) → p < length m.states → IsAccessible (graph_of (valued W.value m)) p) }
     ensures exact { IsExactly (RefusesIntersection W.KIND (valued W.value a.now) (valued W.value b.now) max_states) IntersectFault.Memory result }
 {
-    Err(IntersectFault::Memory)
+    if !may_be_composed(a, b) {
+        return Err(IntersectFault::NotSorted);
+    }
+    if let Some(split) = split_at(a, b) {
+        return Err(IntersectFault::NotAcceptor {
+            second: split.second,
+            state: split.state,
+            place: split.place,
+        });
+    }
+    match compose(alloc, a, b, max_states) {
+        Ok(made) => Ok(made.fst),
+        Err(fault) => Err(uncomposed(fault)),
+    }
 }

@@ -3,7 +3,7 @@
 ghost use Rattle.std.specs.Prelude.{◌≡◌, ◌++◌, IfOk, OnOk, length};
 ghost use Rattle.std.specs.Result.{result_map_both};
 ghost use Rattle.fst_words.specs.PlanLaws.{HasNumbersInRange};
-ghost use Rattle.fst_setops.specs.Faults.{equivalent_text};
+ghost use Rattle.fst_setops.specs.EquivalentFaults.{equivalent_text};
 ghost use Rattle.fst_command.specs.Causes.{faulty, refused, unmade};
 ghost use Rattle.fst_command.specs.Comparing.{equivalent_meaning, labels_text, next_label_text, separation_text};
 ghost use Rattle.fst_command.specs.Meaning.{Settles};

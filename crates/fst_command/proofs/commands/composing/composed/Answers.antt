@@ -15,8 +15,8 @@ returns-in-Err g c =
     settled (compose_meaning c.args.options.now) kind value c.args.given (a ∷ b ∷ []) (Err c.uncomposed.result) c.two-first.ensures
     (uncomposed_declines _ kind (valued value a) (valued value b) c.limit_of.result (state_limit c.args.options.now) c.in-Err.fault c.uncomposed.result c.limit_of.ensures.value c.in-Err.ensures.exact c.uncomposed.ensures.made c.uncomposed.ensures.memory)
 
-pub returns-in_ok-left_of : goal.returns-in_ok-left_of
-returns-in_ok-left_of g c =
+pub returns : goal.returns
+returns g c =
     let kind = g.W.Weight.KIND in
     let value = g.W.Weight.value in
     let o = c.args.options.now in

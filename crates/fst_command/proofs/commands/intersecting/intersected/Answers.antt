@@ -24,8 +24,8 @@ returns-in-Err g c =
     (exact_declines (RefusesIntersection kind a b (state_limit o)) (RefusesIntersection kind a b most) Memory (λ why. unmade (intersect_text why)) c.in-Err.fault c.unintersected.result
     (λ why h. subst (λ (n : ℕ). RefusesIntersection kind a b n why) c.limit_of.ensures.value h) ((c.in-Err.ensures.exact c.in-Err.fault).0 refl) c.unintersected.ensures.made c.unintersected.ensures.memory)
 
-pub returns-in_ok-left_of : goal.returns-in_ok-left_of
-returns-in_ok-left_of g c =
+pub returns : goal.returns
+returns g c =
     let kind = g.W.Weight.KIND in
     let value = g.W.Weight.value in
     let o = c.args.options.now in
