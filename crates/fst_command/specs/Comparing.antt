@@ -1,6 +1,6 @@
 -- `equivalent`: whether each word has the same weight in two deterministic acceptors, and else the least word that has not.
--- (OpenFst manual, "Equivalent"; Mohri 2009, section 3.5. That the word is told, and the status that goes with it, are this
--- project's own.)
+-- (OpenFst manual, "Equivalent", whose program ends with the same statuses; Mohri 2009, section 3.5. That the word is told is
+-- this project's own.)
 use Rattle.std.specs.Prelude.{◌≡◌, ◌⊎◌, ℕ, List, [], ◌∷◌, ◌++◌, codes}
 use Rattle.std.specs.Fmt.{decimal}
 use Rattle.std.specs.List.{concat, flat_map}
