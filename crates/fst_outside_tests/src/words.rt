@@ -322,7 +322,7 @@ static COMMANDS_2: [(&[&str], &str); 33] = [
     (&["make"], "make -"),
 ];
 
-static COMMANDS_3: [(&[&str], &str); 14] = [
+static COMMANDS_3: [(&[&str], &str); 13] = [
     (&["intersect", "a", "b"], "intersect a b -"),
     (
         &[
@@ -347,7 +347,6 @@ static COMMANDS_3: [(&[&str], &str); 14] = [
         &["fstequivalent", "a", "b", "o", "--max_states=1"],
         "equivalent a b o --max_states=1",
     ),
-    (&["equivalent", "--connect=true", "a", "b"], "usage"),
     (&["equivalent", "--delta=1", "a", "b"], "usage"),
     (
         &["make", "--seed=0", "--lines=10000", "s"],
