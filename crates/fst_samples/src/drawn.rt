@@ -130,7 +130,7 @@ pub fn drawn_text(alloc: Global, kind: ArcType, recipe: Recipe) -> Result<String
         line: 0,
         text: String::new(alloc),
     };
-    let states = sheet.draw(2) + 2;
+    let states = if sheet.draw(2) == 0 { 2 } else { 3 };
     for state in 0..states {
         sheet.put_state(alloc, state, states)?;
     }
