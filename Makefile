@@ -21,11 +21,11 @@ BASH_COMPLETION = $(SHARE)/bash-completion/completions
 ZSH_COMPLETION ?= $(SHARE)/zsh/site-functions
 FISH_COMPLETION = $(SHARE)/fish/vendor_completions.d
 SCRIPTS := $(notdir $(wildcard scripts/fst-*))
-COMMANDS := arcsort closure compile compose concat connect determinize encode info invert minimize print project prune push \
-  relabel replace reverse rmepsilon shortestdistance shortestpath union
+COMMANDS := arcsort closure compile compose concat connect determinize difference encode equivalent info intersect invert minimize \
+  print project prune push relabel replace reverse rmepsilon shortestdistance shortestpath union
 # What OpenFst has besides: the shim turns it into other commands, or leads it through OpenFst's own tool.
-OTHERS := convert difference disambiguate draw epsnormalize equal equivalent intersect isomorphic map printstrings randgen \
-  reweight symbols synchronize topsort
+OTHERS := convert disambiguate draw epsnormalize equal isomorphic map printstrings randgen reweight symbols synchronize \
+  topsort
 SOURCES := crates.txt HANDLES $(shell find crates -name out -prune -o -type f \( -name '*.rt' -o -name '*.antt' \) -print)
 
 .PHONY: all help try example test bench install uninstall install-shim dist deb wheel always

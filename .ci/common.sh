@@ -46,7 +46,7 @@ has_packages() {
 is_built() {
   local words=(absent)
   case $1 in
-    union | concat | compose | batch) words=(absent absent) ;;
+    union | concat | compose | intersect | difference | equivalent | batch) words=(absent absent) ;;
     replace) words=(absent 1) ;;
     encode) words=(--encode_labels absent codex) ;;
     push) words=(--push_weights absent) ;;

@@ -198,6 +198,40 @@ class Operations(unittest.TestCase):
         with self.assertRaises(fst.Refusal):
             fst.prune(machine, weight="x")
 
+    @needs("intersect")
+    def test_intersect(self):
+        first, second = fst.compile("0 1 1 2\n0 1 2\n1 2 3 3\n2 2\n", acceptor=True), fst.compile("0 1 2 1\n1 2 3\n2\n", acceptor=True)
+        self.prints(fst.intersect(first, second), "0 1 2 2 1\n1 2 3 3 3\n2 2\n")
+        with self.assertRaisesRegex(fst.Refusal, "^fst: second machine: not an acceptor at state 0 arc 0$"):
+            fst.intersect(first, self.machine)
+        with self.assertRaisesRegex(fst.Refusal, "^fst: state limit 1 passed$"):
+            fst.intersect(first, second, connect=False, max_states=1)
+
+    @needs("difference")
+    def test_difference(self):
+        first = fst.compile("0 1 1 2\n0 1 2\n1 2 3 3\n2 2\n", acceptor=True)
+        self.prints(fst.difference(first, fst.compile("0 1 1\n1 2 3\n2\n", acceptor=True)), "0 1 2 2\n1 2 3 3 3\n2 2\n")
+        self.prints(fst.difference(first, fst.compile(""), connect=False), "0 1 1 1 2\n0 1 2 2\n1 2 3 3 3\n2 2\n")
+        with self.assertRaisesRegex(fst.Refusal, "^fst: not unweighted at state 0$"):
+            fst.difference(first, first)
+
+    @needs("equivalent")
+    def test_equivalent(self):
+        first = fst.compile([(0, 1, "a", 2), (1, 2, "b", 3)], {2: None}, acceptor=True, isymbols=TABLE, keep_isymbols=True)
+        pushed, other = fst.compile("0 1 1 5\n1 2 2\n2\n", acceptor=True), fst.compile("0 1 1 5\n1 2 2\n2 1\n", acceptor=True)
+        self.assertTrue(fst.equivalent(first, pushed))
+        self.assertEqual(fst.equivalent(first, pushed), (True, None, None, None))
+        verdict = fst.equivalent(first, other)
+        self.assertFalse(verdict)
+        self.assertEqual((verdict.word, verdict.first, verdict.second), (("a", "b"), 5, 6))
+        self.assertEqual(fst.equivalent(other, first, isymbols={"x": 1}), (False, ("x", 2), 6, 5))
+        self.assertEqual(fst.equivalent(other, fst.compile("")), (False, (1, 2), 6, float("inf")))
+        self.assertEqual(fst.equivalent(fst.compile("0 3\n"), fst.compile("0 4\n")), (False, (), 3, 4))
+        with self.assertRaisesRegex(fst.Refusal, "^fst: second machine: not deterministic at state 0 arc 1$"):
+            fst.equivalent(first, fst.compile("0 1 1 1\n0 1 1 1\n1\n"))
+        with self.assertRaisesRegex(fst.Refusal, "^fst: state limit 1 passed$"):
+            fst.equivalent(first, pushed, max_states=1)
+
     @needs("batch")
     def test_batch(self):
         first, second = fst.compile("0 1 97 300\n0 1 98 99 -2\n1\n"), fst.compile("0 1 99 99\n0 1 300 300\n1\n")

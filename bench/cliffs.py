@@ -14,6 +14,11 @@ FANS = [
     Row("compose, two hubs of which 100 arcs match", "compose {hub} {other_hub} {out}", memory=COMPOSE_MEMORY),
     Row("compose, two hubs whose arcs all match", f"compose {MOST} {{equal}} {{other_equal}} {{out}}", 0.5, 1.9, "compose {equal} {other_equal} {out}"),
 ]
+# Arcs of one state out of order, beside the same in another order, and half of them; OpenFst's difference wants them in order.
+ORDERS = [
+    Row("equivalent, one state, two orders", "equivalent {order} {other_order} {out}", 0.5, 1.7, "equivalent {order} {other_order}"),
+    Row("difference, one state out of order", "difference {order} {half} {out}", 0.5, 1.7, "difference {order} {half.sorted} {out}"),
+]
 # All arcs between two states.
 BETWEEN = [
     Row("invert, two states", "invert {between} {out}", 0.45, 1.7),
@@ -51,6 +56,6 @@ PATHS = [
         theirs="shortestpath --nshortest=1000 {fan} {out}",
     ),
 ]
-CLIFFS = [*FANS, *BETWEEN, *CHAINS, *DOUBLES, *NAMED, *PATHS]
+CLIFFS = [*FANS, *ORDERS, *BETWEEN, *CHAINS, *DOUBLES, *NAMED, *PATHS]
 # It takes gigabytes.
 LARGE = [Row("connect, thirty times as many arcs", "connect {huge} {out}", 0.7, 2.4)]

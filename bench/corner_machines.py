@@ -123,3 +123,20 @@ def write_doubles(path, arcs, seed=1):
         for line in lines_of(arcs, draw, lambda state, states: draw.randrange(states)):
             # A line ends with its weight, which gets a second part.
             out.write(f"{line[:-1]},{draw.randrange(1000)}\n")
+
+
+def write_orders(order, other, half, arcs, seed=1):
+    """Writes a state with so many arcs, which do not stand by their labels; the same arcs in another order; and half of them
+    in a third, without weights."""
+    draw = random.Random(seed)
+    labels = draw.sample(range(1, 2_000_000), arcs)
+    weights = {label: draw.randrange(1000) for label in labels}
+    for path in order, other, half:
+        draw.shuffle(labels)
+        with open(path, "w") as out:
+            if path == half:
+                out.writelines(f"0\t1\t{label}\t{label}\n" for label in labels[: arcs // 2])
+                out.write("1\n")
+            else:
+                out.writelines(f"0\t1\t{label}\t{label}\t{weights[label]}\n" for label in labels)
+                out.write("1\t0\n")

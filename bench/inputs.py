@@ -20,6 +20,8 @@ ROOT, CALL = 1_000_000, 1_000_001
 PAIR_ARCS = 14
 # How many layers a lattice has, and how many arcs a state of it.
 LAYERS, LATTICE_FAN = 100, 5
+# How many states the lesser of two acceptors has, and how many arcs a state of both.
+FEW_STATES, FEW_FAN = 50, 20
 
 
 class Recipe(NamedTuple):
@@ -50,6 +52,8 @@ RECIPES = [
     Recipe("--epsilons", ("epsilons",)),
     Recipe("--lattice", ("lattice",), lambda size: [LAYERS, max(2, size // (LAYERS * LATTICE_FAN))]),
     Recipe("--words", ("words",)),
+    Recipe("--words", ("other_words",), lambda size: [size // 2, 2]),
+    Recipe("--acceptors", ("many", "few"), lambda size: [max(1, size // (FEW_STATES * FEW_FAN)), FEW_STATES, FEW_FAN]),
     Recipe("--confusion", ("confusion",)),
     Recipe("--classes", ("classes",)),
     Recipe("--cycle", ("cycle",)),
@@ -67,13 +71,55 @@ RECIPES = [
     Recipe("--forks", ("forks",), lambda size: [size // 250]),
     Recipe("--fan", ("fan",), lambda size: [size // 10]),
     Recipe("--doubles", ("doubles",)),
+    Recipe("--orders", ("order", "other_order", "half")),
     Recipe("--long-names", ("inames", "onames", "long_named")),
 ]
 # The tables that machines carry for both sides.
 CARRIED = {"bare": "long_table", "wide_named": "wide_table"}
 RECIPE_OF = {name: recipe for recipe in RECIPES for name in recipe.names}
 # The deterministic machines of others, which OpenFst makes and both programs read as text.
-DETERMINED = {"trie": "words", "network": "confusion"}
+DETERMINED = {"trie": "words", "other_trie": "other_words", "network": "confusion"}
+
+
+def without_weights(lines):
+    """The lines of a text without its weights."""
+    for line in lines:
+        fields = line.split()
+        yield "\t".join(fields[: 4 if len(fields) > 2 else 1]) + "\n"
+
+
+def with_another_weight(lines):
+    """The lines of a text, the last final state of which weighs one more."""
+    lines = list(lines)
+    place = max(place for place, line in enumerate(lines) if len(line.split()) < 3)
+    state, *weight = lines[place].split()
+    lines[place] = f"{state}\t{1 + sum(map(int, weight))}\n"
+    return lines
+
+
+def with_moved_weights(lines):
+    """The lines of a text whose start is state 0, with weights moved along the arcs, so that each word weighs as before."""
+    def carried(state):
+        return int(state) * 7919 % 50
+
+    for line in lines:
+        fields = line.split()
+        if len(fields) > 2:
+            weight = sum(map(int, fields[4:])) + carried(fields[0]) - carried(fields[1])
+            yield "\t".join([*fields[:4], str(weight)]) + "\n"
+        else:
+            yield f"{fields[0]}\t{sum(map(int, fields[1:])) + carried(fields[0])}\n"
+
+
+# Machines with other weights: which they are made of, and how.
+WEIGHED = {
+    "bare_trie": ("trie", without_weights),
+    "bare_other_trie": ("other_trie", without_weights),
+    "bare_classes": ("classes", without_weights),
+    "changed_trie": ("trie", with_another_weight),
+    "moved_trie": ("trie", with_moved_weights),
+    "moved_classes": ("classes", with_moved_weights),
+}
 
 
 def piped(commands, out):
@@ -129,6 +175,11 @@ class File:
         """The machine with a table that it carries for both sides."""
         table = self.inputs.text(CARRIED[self.name])
         return self.made(".carrying", lambda path: ["compile", f"--isymbols={table}", f"--osymbols={table}", "--keep_isymbols", "--keep_osymbols", self.text, path])
+
+    @property
+    def sorted(self):
+        """The machine with the arcs of each state by their labels."""
+        return self.made(".sorted", lambda path: ["arcsort", f"{self}", path])
 
     @property
     def encoded(self):
@@ -190,6 +241,11 @@ class Inputs:
             return path
         if name in DETERMINED:
             piped([["fstcompile", self.text(DETERMINED[name])], ["fstdeterminize"], ["fstprint"]], path)
+            return path
+        if name in WEIGHED:
+            other, change = WEIGHED[name]
+            with open(self.text(other)) as lines, open(path, "w") as out:
+                out.writelines(change(lines))
             return path
         recipe = RECIPE_OF[name]
         paths = [self.path(other + ".txt") for other in recipe.names]

@@ -268,6 +268,18 @@ def write_confusion(path, arcs, seed=1, depth=12, width=3):
             out.writelines(f"{state}\t{draw.randrange(4)}\n" for state in sources)
 
 
+def write_acceptors(many, few, states, others, fan, seed=1):
+    """Writes two deterministic acceptors with so many arcs a state, of twice as many labels, the second without weights."""
+    draw = random.Random(seed)
+    for path, count, weight in (many, states, lambda: f"\t{draw.randrange(1000)}"), (few, others, lambda: ""):
+        with open(path, "w") as out:
+            for state in range(count):
+                for label in sorted(draw.sample(range(1, 2 * fan + 1), fan)):
+                    out.write(f"{state}\t{draw.randrange(count)}\t{label}\t{label}{weight()}\n")
+                if state % 3 == 0:
+                    out.write(f"{state}{weight()}\n")
+
+
 def write_cycle(path, states):
     """Writes a cycle through so many states, no two of which do the same, though only one is final."""
     with open(path, "w") as out:
@@ -321,6 +333,7 @@ MODES = {
     "--words": (write_words, 1),
     "--classes": (write_classes, 1),
     "--cycle": (write_cycle, 1),
+    "--acceptors": (write_acceptors, 2),
     "--confusion": (write_confusion, 1),
     "--cascade": (write_cascade, 3),
     "--useless": (corners.write_useless, 1),
@@ -332,6 +345,7 @@ MODES = {
     "--fan": (corners.write_fan, 1),
     "--long-names": (corners.write_long_names, 3),
     "--doubles": (corners.write_doubles, 1),
+    "--orders": (corners.write_orders, 3),
 }
 
 

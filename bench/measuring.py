@@ -12,6 +12,8 @@ from typing import NamedTuple
 SUBREAPER = 36
 # The shell waits for a word before it becomes the program, so that the shell that began it has ended by then.
 WAITING = 'exec 3<&0; out=$1; shift; { read -r go <&3; exec "$@" < /dev/null > "$out" 3<&-; } & echo $!'
+# Statuses of a run that has an answer: 2 is that of `equivalent` where a word has two weights, in OpenFst's tool too.
+ANSWERS = 0, 2
 # Seconds of both programs' runs behind which there are no more rounds.
 LONG = 40
 
@@ -76,7 +78,7 @@ def measured(argv, stdout="/dev/null"):
         began = time.monotonic()
         shell.stdin.write(b"go\n")
     _, status, usage = os.wait4(child, 0)
-    if status != 0:
+    if os.waitstatus_to_exitcode(status) not in ANSWERS:
         sys.exit(f"{' '.join(argv)} ended with status {os.waitstatus_to_exitcode(status)}")
     return Run(usage.ru_utime + usage.ru_stime, usage.ru_maxrss, time.monotonic() - began)
 
@@ -126,6 +128,6 @@ def instructions(argv, hardware):
         pattern = r"I +refs: +([\d,]+)"
     run = subprocess.run([*counter, *argv], stdin=subprocess.DEVNULL, stdout=subprocess.DEVNULL, stderr=subprocess.PIPE, text=True)
     count = re.search(pattern, run.stderr, re.M)
-    if run.returncode != 0 or not count:
+    if run.returncode not in ANSWERS or not count:
         sys.exit(f"{' '.join(argv)} is not counted: {run.stderr[-400:]}")
     return int(count.group(1).replace(",", ""))

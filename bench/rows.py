@@ -68,6 +68,8 @@ OPERATIONS = [
     Row("replace", f"replace {RULES} {{out}}", 0.17, 0.8, f"replace {CALLS} {RULES} {{out}}"),
     Row("compose", f"compose {MOST} {{first}} {{second}} {{out}}", 0.24, 1.2, "compose {first} {second} {out}"),
 ]
+# How much the sets of words may take.
+SETS = 0.35, 1.2
 # The algebra. The words are a lexicon of chains, `trie` is its deterministic machine, `classes` is deterministic with cycles,
 # `cycle` is one long cycle, `confusion` has subsets of several states, and `network` is its deterministic machine.
 ALGEBRA = [
@@ -88,4 +90,14 @@ ALGEBRA = [
     Row("minimize, a confusion network", "minimize {network} {out}"),
     Row("minimize, with cycles", "minimize {classes} {out}"),
     Row("minimize, one cycle", "minimize {cycle} {out}"),
+    # Sets of words. `many` and `few` are acceptors with cycles, of which the one makes the other larger, pair by pair.
+    Row("intersect, a trie with itself", f"intersect {MOST} {{trie}} {{bare_trie}} {{out}}", *SETS, "intersect {trie} {bare_trie} {out}"),
+    Row("intersect, half of the labels match", f"intersect {MOST} {{many}} {{few}} {{out}}", *SETS, "intersect {many} {few} {out}"),
+    Row("difference, a trie less another", f"difference {MOST} {{trie}} {{bare_other_trie}} {{out}}", *SETS, "difference {trie} {bare_other_trie} {out}"),
+    Row("difference, half of the labels match", f"difference {MOST} {{many}} {{few}} {{out}}", *SETS, "difference {many} {few} {out}"),
+    Row("difference, nothing stays", f"difference {MOST} {{classes}} {{bare_classes}} {{out}}", *SETS, "difference {classes} {bare_classes} {out}"),
+    Row("equivalent, a trie with its weights moved", f"equivalent {MOST} {{trie}} {{moved_trie}} {{out}}", 0.25, 0.5, "equivalent {trie} {moved_trie}"),
+    Row("equivalent, a trie with another weight", f"equivalent {MOST} {{trie}} {{changed_trie}} {{out}}", 0.25, 0.5, "equivalent {trie} {changed_trie}"),
+    Row("equivalent, with cycles", f"equivalent {MOST} {{classes}} {{moved_classes}} {{out}}", 0.25, 0.8, "equivalent {classes} {moved_classes}"),
+    Row("equivalent, one cycle", f"equivalent {MOST} {{cycle}} {{cycle}} {{out}}", 0.25, 0.5, "equivalent {cycle} {cycle}"),
 ]

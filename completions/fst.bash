@@ -1,7 +1,7 @@
 # Completion of fst for bash.
 _fst() {
-  local commands='arcsort batch closure compile compose concat connect determinize encode info invert make minimize print
-    project prune push relabel replace reverse rmepsilon shortestdistance shortestpath union'
+  local commands='arcsort batch closure compile compose concat connect determinize difference encode equivalent info intersect
+    invert make minimize print project prune push relabel replace reverse rmepsilon shortestdistance shortestpath union'
   local word=${COMP_WORDS[COMP_CWORD]} option= options= values=
   COMPREPLY=()
   if [ "$COMP_CWORD" -eq 1 ]; then
@@ -31,13 +31,13 @@ _fst() {
     project) options='--project_output' ;;
     relabel) options='--relabel_ipairs= --relabel_opairs=' ;;
     arcsort) options='--sort_type=' ;;
-    compose) options='--connect= --max_states=' ;;
+    compose | intersect | difference) options='--connect= --max_states=' ;;
     rmepsilon) options='--connect= --queue_type=' ;;
     shortestdistance) options='--reverse --queue_type=' ;;
     shortestpath) options='--nshortest=' ;;
     push) options='--push_weights --remove_total_weight --queue_type=' ;;
     encode) options='--encode_labels --encode_weights --decode' ;;
-    determinize) options='--max_states=' ;;
+    determinize | equivalent) options='--max_states=' ;;
     minimize) options='--queue_type=' ;;
     prune) options='--weight= --queue_type=' ;;
     batch) options='--nshortest= --workers= --max_states= --summary' ;;

@@ -26,8 +26,11 @@ __fst_row compose 'what the first writes is read by the second' $connect --max_s
 __fst_row concat 'a path of the first, then one of the second'
 __fst_row connect 'keeps the states on successful paths'
 __fst_row determinize 'at most one arc of a state with a label' --max_states=
+__fst_row difference 'the paths whose string the second does not have' $connect --max_states=
 __fst_row encode 'pairs of labels as single labels, and back' --encode_labels --encode_weights --decode
+__fst_row equivalent 'the same weight for each word, or a word that tells them apart' --max_states=
 __fst_row info 'counts and properties'
+__fst_row intersect 'the strings that both have' $connect --max_states=
 __fst_row invert 'swaps input and output'
 __fst_row make 'a cascade and lines by a seed, run as a batch' --seed= --lines= --nshortest= --workers= --max_states=
 __fst_row minimize 'the fewest states' $queue

@@ -41,6 +41,10 @@ Symbols = Tuple[Optional[Dict[str, int]], Optional[Dict[str, int]]]
 Arc = Tuple[int, int, Label, Label, Optional[Weight]]
 
 
+# The exit status of `equivalent` where a word tells the machines apart: an answer, and no refusal.
+SEPARATED = 2
+
+
 class Refusal(Exception):
     """The program refused: `line` is what it said, `status` its exit status."""
 
@@ -61,6 +65,19 @@ class Answer(NamedTuple):
     weight: Optional[Weight] = None
     text: Optional[str] = None
     refused: Optional[str] = None
+
+
+class Verdict(NamedTuple):
+    """What `equivalent` finds: true where each word has the same weight in both machines. Else `word` is the least word whose
+    weights differ, the shorter before the longer, as a tuple of labels; `first` and `second` are its two weights."""
+
+    equivalent: bool
+    word: Optional[Tuple[Label, ...]] = None
+    first: Optional[Weight] = None
+    second: Optional[Weight] = None
+
+    def __bool__(self) -> bool:
+        return self.equivalent
 
 
 class Path(NamedTuple):
@@ -106,7 +123,7 @@ def run(words: Iterable[str], files: Mapping[str, bytes] = {}, wanted: Optional[
             done = subprocess.run(argv, cwd=folder, stdin=subprocess.DEVNULL, capture_output=True, check=False)
         except OSError as fault:
             raise NoProgram(f"{program}: {fault.strerror} (make install puts fst on the path, JAZVURD_FST names another)") from fault
-        if done.returncode:
+        if done.returncode not in (0, SEPARATED):
             raise Refusal(done.stderr.decode("utf-8", "replace").strip() or f"{program}: status {done.returncode}", done.returncode)
         if wanted is None:
             return Machine(done.stdout), b""
@@ -295,12 +312,17 @@ _ONES: Dict[str, Weight] = {"tropical": 0, "boolean": 1, "minmax": float("-inf")
 
 def _epsilon(table: Optional[Table]) -> str:
     """The name of label 0."""
+    return "0" if table is None else _names(table).get(0, "")
+
+
+def _names(table: Optional[Table]) -> Dict[int, str]:
+    """The names of a table by their numbers."""
     if table is None:
-        return "0"
+        return {}
     if isinstance(table, Mapping):
-        return next((name for name, number in table.items() if number == 0), "")
+        return {number: str(name) for name, number in table.items()}
     with open(table, encoding="utf-8", errors="surrogateescape") as lines:
-        return next((fields[0] for fields in map(str.split, lines) if len(fields) == 2 and fields[1].isdigit() and int(fields[1]) == 0), "")
+        return {int(fields[1]): fields[0] for fields in map(str.split, lines) if len(fields) == 2 and fields[1].isdigit()}
 
 
 def strings(machine: bytes, *, isymbols: Optional[Table] = None, osymbols: Optional[Table] = None, between: Optional[str] = None) -> Iterator[Path]:
@@ -432,6 +454,28 @@ def concat(first: bytes, second: bytes) -> Machine:
 def compose(first: bytes, second: bytes, *, connect: bool = True, max_states: Optional[int] = None) -> Machine:
     """What the first writes is read by the second."""
     return _binary("compose", first, second, f"--connect={str(connect).lower()}", *_options(max_states=max_states))
+
+
+def intersect(first: bytes, second: bytes, *, connect: bool = True, max_states: Optional[int] = None) -> Machine:
+    """Of two acceptors the strings that both have, with the products of their weights."""
+    return _binary("intersect", first, second, f"--connect={str(connect).lower()}", *_options(max_states=max_states))
+
+
+def difference(first: bytes, second: bytes, *, connect: bool = True, max_states: Optional[int] = None) -> Machine:
+    """The paths of the first acceptor whose string the second does not have."""
+    return _binary("difference", first, second, f"--connect={str(connect).lower()}", *_options(max_states=max_states))
+
+
+def equivalent(first: bytes, second: bytes, *, isymbols: Optional[Table] = None, max_states: Optional[int] = None) -> Verdict:
+    """Whether two acceptors, each with at most one arc of a state for a label, give each word the same weight: true, or the
+    least word whose weights differ. Its labels are names of the table that is given or that the first machine carries."""
+    said = _binary("equivalent", first, second, *_options(max_states=max_states)).decode().rstrip("\n")
+    if said == "equivalent":
+        return Verdict(True)
+    names = _names(_shown(first, isymbols, None)[0])
+    _, one, other, word = said.split("\t")
+    labels = [int(label) for label in word.split()]
+    return Verdict(False, tuple(names.get(label, label) for label in labels), weight_of(one), weight_of(other))
 
 
 def replace(root: bytes, label: int, rules: Mapping[int, bytes]) -> Machine:

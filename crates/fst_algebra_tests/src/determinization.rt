@@ -1,9 +1,9 @@
 //! Deterministic machines of small acceptors, written out from the definition by hand, and the weights of all pairs.
 
-use fst_determinize::{DeterminizeFault, determinize};
+use fst_determinize::{DeterminizeFault, SubsetWeight, determinize};
 use fst_machine::Fst;
 use fst_samples::{chain, is_text, machine, same, weigh_alike};
-use fst_semiring::{Boolean, Lexicographic, MinMax, Tropical, Weight};
+use fst_semiring::{Boolean, Lexicographic, MinMax, Tropical};
 use std::alloc::Global;
 use std::process::Abort;
 use std::test::Fail;
@@ -68,7 +68,7 @@ static REFUSED: [(&[u8], u32, DeterminizeFault); 3] = [
 ];
 
 /// Whether a machine has this deterministic one, with the same weight of each pair of either.
-fn becomes<W: Weight>(alloc: Global, text: &[u8], want: &[u8]) -> Result<bool, Fail> {
+fn becomes<W: SubsetWeight>(alloc: Global, text: &[u8], want: &[u8]) -> Result<bool, Fail> {
     let fst: Fst<W> = machine(alloc, text)?;
     let made = determinize(alloc, &fst, 9)?;
     let alike = weigh_alike(alloc, &fst, &made.fst)?;
@@ -76,7 +76,7 @@ fn becomes<W: Weight>(alloc: Global, text: &[u8], want: &[u8]) -> Result<bool, F
 }
 
 /// Asks this of each machine and the other.
-fn determinizes<W: Weight>(
+fn determinizes<W: SubsetWeight>(
     rt: &impl Abort,
     alloc: Global,
     given: &[(&[u8], &[u8])],

@@ -3,7 +3,7 @@
 //! The crate has nothing but tests, and no other crate stands on it. They are tables of small machines, written as
 //! texts, with what the definitions make of them, worked out by hand, or beside what the slow programs of `fst_plain`
 //! compute: `queues`, `distances`, `epsilon_removal`, `shortest_paths`, `determinization`, `pushing`,
-//! `minimization` and `pruning`.
+//! `minimization`, `pruning` and `set_operations`.
 #![tactic(auto)]
 
 #[cfg(test)]
@@ -20,6 +20,8 @@ mod pruning;
 mod pushing;
 #[cfg(test)]
 mod queues;
+#[cfg(test)]
+mod set_operations;
 #[cfg(test)]
 mod shortest_paths;
 #[cfg(test)]

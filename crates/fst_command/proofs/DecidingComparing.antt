@@ -1,21 +1,18 @@
 -- `equivalent` has one outcome: a word has one weight, and one word is the least.
-use Rattle.std.proofs.Common.{◌≡◌, ◌⊎◌, inl, inr, ℕ, Bool, true, false, List, [], ◌∷◌, length, refl, sym, ap, ap₂, ◌∙◌, subst}
+use Rattle.std.proofs.Common.{◌≡◌, ◌⊎◌, inl, inr, ℕ, List, [], ◌∷◌, length, refl, sym, ap, ap₂, ◌∙◌, subst}
 use Rattle.std.proofs.lemmas.Option.{same_Some}
 use Rattle.fst_semiring.specs.declared.arc_type.ArcType.{ArcType}
 use Rattle.fst_semiring.specs.Cost.{Cost}
-use Rattle.fst_semiring.specs.Semiring.{cancels, times}
+use Rattle.fst_semiring.specs.Semiring.{times}
 use Rattle.fst_machine.specs.Graph.{Graph, graph_of}
 use Rattle.fst_machine.specs.Machine.{Arc, Machine}
 use Rattle.fst_binary.specs.Sides.{neither}
-use Rattle.fst_trim.specs.FirstArcs.{IsDeterministic, Repeats}
 use Rattle.fst_trim.specs.WordOrder.{IsSooner}
 use Rattle.fst_trim.specs.WordWeights.{IsSingle, IsWordWeight, SameWords, Weighs, WordWeighs}
 use Rattle.fst_trim.proofs.WordOrder.{sooner_once}
 use Rattle.fst_minimize.proofs.Spelling.{starts_with, word_ends}
-use Rattle.fst_setops.proofs.OneAnswer.{one_first, one_split, unsplit}
 use Rattle.fst_setops.specs.Separating.{IsSeparating, Separates}
-use Rattle.fst_setops.specs.Verdicts.{IsRepeated, IsSaid, RefusesComparison}
-use Rattle.fst_setops.specs.declared.equivalent_fault.EquivalentFault.TheVariants.{NotAcceptor, NotDeterministic, NotCancelling, StateLimit, Memory}
+use Rattle.fst_setops.specs.Verdicts.{IsSaid}
 use Rattle.fst_setops.specs.declared.verdict.Verdict.{Verdict}
 use Rattle.fst_setops.specs.declared.verdict.Verdict.TheVariants.{Equivalent, Separated}
 use Rattle.fst_command.specs.Comparing.{IsCompared, IsSeparation, same_text, separation_text}
@@ -115,43 +112,3 @@ module _ {V X : Type 0} (kind : ArcType) (value : X → Cost) (a b : Machine Cos
       is = ap separation is;
     });
   }
-
--- ---- what stands against it
-
-module _ (kind : ArcType) (a b : Machine Cost) (most : ℕ) where
-  not_both : (c : Bool) → c ≡ true → c ≡ false → ⊥
-  not_both c holds fails = cc
-
-  -- two deterministic machines have no arc with the label of an earlier one
-  not_repeated : (second : Bool) (s p : ℕ) → IsRepeated a b second s p → IsDeterministic a → IsDeterministic b → ⊥
-  not_repeated false s p repeats first other = first s p repeats.0
-  not_repeated true s p repeats first other = other s p repeats.1.0
-
-  one_repeat : {X : Type 0} (tell : Bool → ℕ → ℕ → X) (c d : Bool) (s p t q : ℕ) → IsRepeated a b c s p → IsRepeated a b d t q → tell c s p ≡ tell d t q
-  one_repeat tell false false s p t q one two = one_first Repeats a (tell false) s p t q one two
-  one_repeat tell false true s p t q one two = absurd (two.0 s p one.0)
-  one_repeat tell true false s p t q one two = absurd (one.0 t q two.0)
-  one_repeat tell true true s p t q one two = one_first Repeats b (tell true) s p t q one.1 two.1
-
-  pub one_uncompared : One (RefusesComparison kind a b most)
-  one_uncompared (NotAcceptor c s p) (NotAcceptor d t q) one two = one_split a b NotAcceptor c d s p t q one two
-  one_uncompared (NotAcceptor c s p) (NotDeterministic d t q) one two = absurd (unsplit a b c s p one two.0)
-  one_uncompared (NotAcceptor c s p) NotCancelling one two = absurd (unsplit a b c s p one two.0.0)
-  one_uncompared (NotAcceptor c s p) (StateLimit k) one two = absurd (unsplit a b c s p one two.0.0)
-  one_uncompared (NotAcceptor c s p) Memory one two = absurd two
-  one_uncompared (NotDeterministic c s p) (NotAcceptor d t q) one two = absurd (unsplit a b d t q two one.0)
-  one_uncompared (NotDeterministic c s p) (NotDeterministic d t q) one two = one_repeat NotDeterministic c d s p t q one.1 two.1
-  one_uncompared (NotDeterministic c s p) NotCancelling one two = absurd (not_repeated c s p one.1 two.0.1 two.0.2)
-  one_uncompared (NotDeterministic c s p) (StateLimit k) one two = absurd (not_repeated c s p one.1 two.0.1 two.0.2)
-  one_uncompared (NotDeterministic c s p) Memory one two = absurd two
-  one_uncompared NotCancelling (NotAcceptor d t q) one two = absurd (unsplit a b d t q two one.0.0)
-  one_uncompared NotCancelling (NotDeterministic d t q) one two = absurd (not_repeated d t q two.1 one.0.1 one.0.2)
-  one_uncompared NotCancelling NotCancelling one two = refl
-  one_uncompared NotCancelling (StateLimit k) one two = absurd (not_both (cancels kind) two.1 one.1)
-  one_uncompared NotCancelling Memory one two = absurd two
-  one_uncompared (StateLimit n) (NotAcceptor d t q) one two = absurd (unsplit a b d t q two one.0.0)
-  one_uncompared (StateLimit n) (NotDeterministic d t q) one two = absurd (not_repeated d t q two.1 one.0.1 one.0.2)
-  one_uncompared (StateLimit n) NotCancelling one two = absurd (not_both (cancels kind) one.1 two.1)
-  one_uncompared (StateLimit n) (StateLimit k) one two = ap StateLimit (one.2 ∙ sym two.2)
-  one_uncompared (StateLimit n) Memory one two = absurd two
-  one_uncompared Memory h one two = absurd one

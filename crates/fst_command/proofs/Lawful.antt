@@ -8,6 +8,7 @@ use Rattle.fst_text.specs.Printed.{text_of_machine}
 use Rattle.fst_trim.proofs.OneAnswer.{one_described, one_sorted}
 use Rattle.fst_compose.proofs.OneAnswer.{one_refusal}
 use Rattle.fst_setops.proofs.OneAnswer.{one_difference, one_intersection}
+use Rattle.fst_setops.proofs.OneComparison.{one_comparison}
 use Rattle.fst_words.specs.declared.options.Options.{Options}
 use Rattle.fst_words.specs.declared.plan.Plan.{Plan}
 use Rattle.fst_words.specs.declared.verb.Verb.{Verb}
@@ -34,7 +35,7 @@ use Rattle.fst_command.specs.Trimming.{side_of}
 use Rattle.fst_command.proofs.Deciding.{one_equal, one_error, one_for_one, one_for_two, one_line, one_never, one_told, one_value}
 use Rattle.fst_command.proofs.DecidingBatching.{batch_count, one_batch}
 use Rattle.fst_command.proofs.DecidingCoding.{one_coding_stops}
-use Rattle.fst_command.proofs.DecidingComparing.{a_comparison, one_uncompared}
+use Rattle.fst_command.proofs.DecidingComparing.{a_comparison}
 use Rattle.fst_command.proofs.DecidingComposing.{one_composed}
 use Rattle.fst_command.proofs.DecidingDeterminizing.{one_determinized, one_undetermined}
 use Rattle.fst_command.proofs.DecidingIntersecting.{one_intersected}
@@ -132,7 +133,7 @@ lawful verbs.Difference labels o given = record {
   makes = of_two _ (λ a b. a_machine given.kind _ (one_subtracted o given.kind a b)) given.machines;
 }
 lawful verbs.Equivalent labels o given = record {
-  stopped = one_for_two _ (λ a b. one_told _ _ (one_uncompared given.kind a b (state_limit o))) given.machines;
+  stopped = one_for_two _ (λ a b. one_told _ _ (one_comparison a b given.kind (state_limit o))) given.machines;
   makes = of_two _ (λ a b. a_comparison given.kind a b) given.machines;
 }
 lawful verbs.Batch labels o given = record {

@@ -38,13 +38,13 @@ use crate::queues::Queues;
 use crate::refusal::Refusal;
 use crate::tables::Tables;
 use fst_delayed::Meter;
-use fst_semiring::Weight;
+use fst_determinize::SubsetWeight;
 use fst_words::{Plan, Verb};
 use std::alloc::Global;
 use std::thread::Threads;
 
 /// What a command makes of what it is given, or why it makes nothing.
-pub(crate) fn made<R: Threads + Sync, W: Weight + Send + Sync, M: Meter>(
+pub(crate) fn made<R: Threads + Sync, W: SubsetWeight + Send + Sync, M: Meter>(
     rt: &R,
     alloc: Global,
     plan: &Plan,

@@ -18,6 +18,7 @@ use crate::refusal::Refusal;
 use crate::tables::{Tables, tables_for};
 use fst_any::Kinded;
 use fst_delayed::Meter;
+use fst_determinize::SubsetWeight;
 use fst_semiring::{ArcType, Boolean, Lexicographic, MinMax, Tropical};
 use fst_words::Plan;
 use std::alloc::Global;
@@ -25,7 +26,7 @@ use std::mem::replace;
 use std::thread::Threads;
 
 /// The status and the bytes of what a command makes of what it is given, said of all that may have been read which gives it.
-fn product_as<R: Threads + Sync, W: Kinded + Send + Sync, M: Meter>(
+fn product_as<R: Threads + Sync, W: Kinded + SubsetWeight + Send + Sync, M: Meter>(
     rt: &R,
     alloc: Global,
     plan: &Plan,
@@ -56,7 +57,7 @@ where
 }
 
 /// The status and the bytes of what a command makes of what was read, whose arc type is that of the weights.
-fn worked_as<R: Threads + Sync, W: Kinded + Send + Sync, M: Meter>(
+fn worked_as<R: Threads + Sync, W: Kinded + SubsetWeight + Send + Sync, M: Meter>(
     rt: &R,
     alloc: Global,
     plan: &Plan,

@@ -1,6 +1,6 @@
 //! Machines that carry their symbol tables: which commands pass them on, and how `print` uses them.
 
-use crate::session::Row::{self, Holds, Makes, Put, PutWith, Refuse, Run};
+use crate::session::Row::{self, Holds, Machine, Makes, Put, PutWith, Refuse, Run, Tells};
 use crate::session::play;
 use std::test::Fail;
 
@@ -41,7 +41,7 @@ static KEPT: [Row; 18] = [
 ];
 
 /// The machine has `a`, whose number is 1, on its input side and `B`, whose number is 2, on the other.
-static PASSED_ON: [Row; 42] = [
+static PASSED_ON: [Row; 46] = [
     Put("i", b"<eps> 0\na 1\n"),
     Put("o", b"<eps> 0\nB 2\n"),
     Put("t", b"0 1 a B 5\n1 3\n"),
@@ -85,6 +85,15 @@ static PASSED_ON: [Row; 42] = [
     Run("print --acceptor acceptor p"),
     Holds("p", b"0\t1\ta\t5\n1\t3\n"),
     Makes("determinize acceptor r", b"0\t1\ta\t1\t5\n1\t3\n"),
+    Machine("empty", "tropical", b""),
+    // Of two acceptors: the outer tables, those of the first, and none.
+    Makes("intersect acceptor acceptor r", b"0\t1\ta\t1\t10\n1\t6\n"),
+    Makes("difference acceptor empty r", b"0\t1\ta\t1\t5\n1\t3\n"),
+    Tells(
+        "equivalent acceptor empty r",
+        2,
+        b"separated\t8\tInfinity\t1\n",
+    ),
     // A chain of commands, the last of which names no table.
     Run("invert m v"),
     Run("arcsort v v"),

@@ -1,6 +1,5 @@
 -- Members and ways in their forms, and as plain values.
-use Rattle.std.proofs.Common.{◌≡◌, ℕ, ◌+◌, ◌<◌, zero, suc, Bool, true, false, ◌&&◌, List, [], ◌∷◌, ◌++◌, Some, length, map, take, get_or, slice_get, refl, sym, ap, ap₂, ◌∙◌, append-nil, append_assoc, arith}
-use Rattle.std.specs.Bool.{Decides}
+use Rattle.std.proofs.Common.{◌≡◌, ℕ, ◌+◌, ◌<◌, zero, suc, true, List, [], ◌∷◌, ◌++◌, Some, length, map, take, get_or, slice_get, refl, sym, ap, ◌∙◌, append-nil, append_assoc, arith}
 use Rattle.std.specs.Option.{option_map}
 use Rattle.std.proofs.lemmas.Grind.{flat_map-append}
 use Rattle.std.proofs.lemmas.List.{map_more}
@@ -10,8 +9,7 @@ use Rattle.fst_semiring.proofs.Order.{plus_assoc, plus_comm}
 use Rattle.fst_machine.specs.Graph.{graph_of}
 use Rattle.fst_machine.specs.Machine.{Arc, Machine, valued, valued_arc}
 use Rattle.fst_machine.proofs.Walking.{graph_arcs}
-use Rattle.fst_determinize.specs.Kept.{HeldAs, member_as, members_as, same_member, same_members}
-use Rattle.fst_determinize.specs.KeyLaws.{same_decides}
+use Rattle.fst_determinize.specs.Kept.{HeldAs, member_as, members_as}
 use Rattle.fst_determinize.specs.Subsets.{Member}
 use Rattle.fst_determinize.specs.Ways.{Way, best_by, member_ways, way_by, ways}
 
@@ -26,40 +24,11 @@ at_got [] i x e = absurd (cc)
 at_got (y ∷ xs) zero x e = cc
 at_got (y ∷ xs) (suc i) x e = at_got xs i x e
 
--- members in one place of lists that are the same are the same
-pub apart_at : {V : Type 0} (value : V → Cost) (hs ks : List (HeldAs V)) (i : ℕ) (h k : HeldAs V) → slice_get hs i ≡ Some h → slice_get ks i ≡ Some k → members_as value hs ≡ members_as value ks
-    → member_as value h ≡ member_as value k
-apart_at value [] ks i h k p q e = absurd (cc)
-apart_at value (x ∷ hs) [] i h k p q e = absurd (cc)
-apart_at value (x ∷ hs) (y ∷ ks) zero h k p q e =
-    let first : member_as value x ≡ member_as value y = cc in
-    let left : x ≡ h = cc in
-    let right : y ≡ k = cc in
-    sym (ap (member_as value) left) ∙ (first ∙ ap (member_as value) right)
-apart_at value (x ∷ hs) (y ∷ ks) (suc i) h k p q e =
-    let more : members_as value hs ≡ members_as value ks = cc in
-    apart_at value hs ks i h k p q more
-
 -- a value that is told to be Zero is
 pub zero_told : (v : Cost) → true ≡ is_infinite v → v ≡ infinite
 zero_told best e = absurd (cc)
 zero_told (finite a b) e = absurd (cc)
 zero_told infinite e = refl
-
--- what decides one thing is one
-one_decided : {P : Type 0} (a b : Bool) → Decides a P → Decides b P → a ≡ b
-one_decided true true left right = refl
-one_decided true false left right = sym (right.1 (left.0 refl))
-one_decided false true left right = left.1 (right.0 refl)
-one_decided false false left right = refl
-
-module _ {V : Type 0} (value : V → Cost) where
-  -- subsets compared, the first members being the same
-  pub same_then : (a b : HeldAs V) (hs ks : List (HeldAs V)) (xs ys : List Member) (r : Bool) → same_member (member_as value a) (member_as value b) ≡ true → Decides r (members_as value hs ≡ members_as value ks)
-      → member_as value a ∷ members_as value hs ≡ xs → member_as value b ∷ members_as value ks ≡ ys → r ≡ same_members xs ys
-  same_then a b hs ks xs ys r head rest left right =
-      one_decided r (same_members (members_as value hs) (members_as value ks)) rest (same_decides (members_as value hs) (members_as value ks))
-      ∙ (sym (ap (λ (t : Bool). t && same_members (members_as value hs) (members_as value ks)) head) ∙ ap₂ same_members left right)
 
 -- the best of elements with one more behind them
 pub best_push : {X : Type 0} (weigh : X → Cost) (xs : List X) (x : X) → best_by weigh (xs ++ x ∷ []) ≡ plus (best_by weigh xs) (weigh x)

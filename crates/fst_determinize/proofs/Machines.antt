@@ -1,26 +1,19 @@
 -- The arcs of a machine, as its graph has them, and the ways from a subset of its states.
-use Rattle.std.proofs.Common.{◌≡◌, ◌≢◌, ◌⊎◌, inl, inr, ℕ, ◌+◌, ◌*◌, ◌<◌, ◌≤◌, zero, suc, List, [], ◌∷◌, ◌++◌, Ok, Err, Option, None, Some, length, map, take, get_or, slice_get, sym, ap, ◌∙◌, subst, arith}
-use Rattle.std.specs.List.{All}
-use Rattle.std.specs.Option.{option_map}
+use Rattle.std.proofs.Common.{◌≡◌, ◌≢◌, inl, inr, ℕ, ◌+◌, ◌*◌, ◌<◌, List, [], ◌∷◌, ◌++◌, Ok, Err, Option, None, Some, length, sym, ap, ◌∙◌, subst, arith}
 use Rattle.std.specs.Prelude.{IfSome, OnOk, Result}
-use Rattle.std.proofs.lemmas.Bool.{cases_lt}
-use Rattle.std.proofs.lemmas.List.{get_or_past, length-map, take_more}
-use Rattle.std.proofs.lemmas.List.Elements.{All-push}
-use Rattle.std.proofs.lemmas.Option.{get_or_from_slice_get, same_Some, slice_get_within}
+use Rattle.std.proofs.lemmas.List.{length-map}
+use Rattle.std.proofs.lemmas.Option.{same_Some}
 use Rattle.fst_semiring.specs.Cost.{Cost, infinite}
 use Rattle.fst_semiring.specs.Division.{quotient}
-use Rattle.fst_semiring.specs.Semiring.{InRange, IsCost, IsWide, times}
+use Rattle.fst_semiring.specs.Semiring.{IsWide, times}
 use Rattle.fst_semiring.specs.declared.arc_type.ArcType.{ArcType}
 use Rattle.fst_semiring.proofs.Laws.{times_only_zero}
 use Rattle.fst_semiring.proofs.Ranges.{Within-more, Within-times}
 use Rattle.fst_machine.specs.BreadthFirst.{Has}
-use Rattle.fst_machine.specs.Graph.{graph_of, no_state}
-use Rattle.fst_machine.specs.Machine.{Arc, IsArc, IsMachine, Machine, State, most_states, valued, valued_arc, valued_state}
+use Rattle.fst_machine.specs.Graph.{graph_of}
+use Rattle.fst_machine.specs.Machine.{Arc, IsMachine, Machine, most_states, valued, valued_state}
 use Rattle.fst_machine.specs.Paths.{IsPath, Transition}
-use Rattle.fst_machine.proofs.Arcs.{mapped_at}
-use Rattle.fst_machine.proofs.Elements.{at_Has}
 use Rattle.fst_machine.proofs.Valued.{IsMachine-valued}
-use Rattle.fst_machine.proofs.Walking.{graph_arcs}
 use Rattle.fst_trim.specs.Weighed.{IsWeighed}
 use Rattle.fst_trim.proofs.Weighed.{machine_arc}
 use Rattle.fst_walk.specs.Names.{IsNear}
@@ -32,7 +25,7 @@ use Rattle.fst_determinize.proofs.Best.{best_alike}
 use Rattle.fst_determinize.proofs.Elements.{Alike, Has_map, map_alike}
 use Rattle.fst_determinize.proofs.Grouped.{grouped_alike}
 use Rattle.fst_determinize.proofs.Members.{member_stands, residual_kind, ways_Has}
-use Rattle.fst_determinize.proofs.Runs.{All_Has, permuted, rises_from}
+use Rattle.fst_determinize.proofs.Runs.{permuted, rises_from}
 use Rattle.fst_determinize.proofs.Stepping.{arc_steps}
 use Rattle.fst_determinize.proofs.Theorem.{near_subset, residual_within}
 use Rattle.std.specs.List.Sorted.{IsNonDecreasingBy, IsPermutation}

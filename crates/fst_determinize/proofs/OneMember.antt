@@ -11,7 +11,7 @@ use Rattle.fst_machine.specs.Graph.{Graph, graph_of}
 use Rattle.fst_machine.specs.Machine.{Arc, Machine, valued, valued_arc}
 use Rattle.fst_machine.proofs.Elements.{Has-append_cases}
 use Rattle.fst_machine.proofs.Walking.{graph_arcs}
-use Rattle.fst_determinize.specs.Kept.{HeldAs, member_as, members_as}
+use Rattle.fst_determinize.specs.Kept.{HeldAs, member_as}
 use Rattle.fst_determinize.specs.Subsets.{AscendsBy, Member}
 use Rattle.fst_determinize.specs.Ways.{Way, arc_by, arcs_by, member_ways, single_arc, subsets, way_by, ways}
 use Rattle.fst_trim.specs.Weighed.{IsWeighed}
@@ -69,9 +69,9 @@ arcs_single kind (y ∷ ys) up = grouped_split (λ (z : Way). z.label) (arc_by k
     here z (inl e) = sym (ap (λ (u : Way). u.label) e)
     here z (inr none) = absurd none
 
--- The arcs of the first member of a subset that has no other.
-module _ {V R : Type 0} (kind : ArcType) (value : V → Cost) (m : Machine V) (kept : R → Cost) (first from : HeldAs R) (hs : List (HeldAs R)) (members : List Member) (arcs : List (Arc V ℕ))
-    (same : member_as kept first ∷ members_as kept hs ≡ members) (here : from ≡ first) (has : option_map (λ s. s.arcs) (slice_get m.states from.state) ≡ Some arcs) where
+-- The arcs of the only member of a subset.
+module _ {V R : Type 0} (kind : ArcType) (value : V → Cost) (m : Machine V) (kept : R → Cost) (first from : HeldAs R) (members : List Member) (arcs : List (Arc V ℕ))
+    (same : member_as kept first ∷ [] ≡ members) (here : from ≡ first) (has : option_map (λ s. s.arcs) (slice_get m.states from.state) ≡ Some arcs) where
   own : (graph_of (valued value m)).arcs first.state ≡ map (valued_arc value) arcs
   own = sym (ap (λ (h : HeldAs R). (graph_of (valued value m)).arcs h.state) here) ∙ graph_arcs value m from.state arcs has
 
@@ -92,12 +92,11 @@ module _ {V R : Type 0} (kind : ArcType) (value : V → Cost) (m : Machine V) (k
       one a k = ways_good kind value m h members good (way_by kind (member_as kept first) (valued_arc value a)) (there a k)
 
   -- where their labels ascend, the arcs of the subset are those of single ways
-  pub single_arcs : hs ≡ [] → AscendsBy (λ a. a.ilabel) arcs → map (single_arc kind) (map (way_by kind (member_as kept first)) (map (valued_arc value) arcs)) ≡ (subsets kind (graph_of (valued value m))).arcs members
-  single_arcs none up =
+  pub single_arcs : AscendsBy (λ a. a.ilabel) arcs → map (single_arc kind) (map (way_by kind (member_as kept first)) (map (valued_arc value) arcs)) ≡ (subsets kind (graph_of (valued value m))).arcs members
+  single_arcs up =
       let n : Member = member_as kept first in
       let made : List Way = map (way_by kind n) (map (valued_arc value) arcs) in
       let ascends : AscendsBy (λ (y : Way). y.label) made =
       ascends_map (λ (a : Arc Cost ℕ). a.ilabel) (λ (y : Way). y.label) (way_by kind n) (λ a. refl) (map (valued_arc value) arcs) (ascends_map (λ (a : Arc V ℕ). a.ilabel) (λ (a : Arc Cost ℕ). a.ilabel) (valued_arc value) (λ a. refl) arcs up) in
-      let alone : n ∷ [] ≡ members = sym (ap (λ (zs : List (HeldAs R)). n ∷ members_as kept zs) none) ∙ same in
       let whole : made ≡ ways kind (graph_of (valued value m)) (n ∷ []) = ap (map (way_by kind n)) (sym own) ∙ sym (append-nil (map (way_by kind n) ((graph_of (valued value m)).arcs first.state))) in
-      sym (arcs_single kind made ascends) ∙ ap (arcs_by kind) (whole ∙ ap (ways kind (graph_of (valued value m))) alone)
+      sym (arcs_single kind made ascends) ∙ ap (arcs_by kind) (whole ∙ ap (ways kind (graph_of (valued value m))) same)

@@ -3,7 +3,6 @@ pub mod Ways
 pub mod Theorem
 pub mod SubsetLaws
 pub mod Kept
-pub mod Others
 pub mod KeyLaws
 pub mod Listing
 pub mod Weighed

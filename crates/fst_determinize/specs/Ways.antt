@@ -1,13 +1,13 @@
 -- The graph of weighted subsets, made subset by subset. (Mohri 2009, weighted determinization: the arc on a label weighs
 -- the best, over the members and their arcs with it, of residual Times arc weight, and each residual of its end is the
 -- best that reaches a state, divided by that weight.)
-use Rattle.std.specs.Prelude.{◌≡◌, ◌≢◌, ℕ, List, [], ◌∷◌, Some, cond, map, nat_eq, nat_lt, slice_get}
+use Rattle.std.specs.Prelude.{◌≡◌, ℕ, List, [], ◌∷◌, Some, cond, map, nat_eq, nat_lt, slice_get}
 use Rattle.std.specs.List.{filter, flat_map}
 use Rattle.std.specs.Option.{option_map}
 use Rattle.fst_semiring.specs.Cost.{Cost, infinite, plus}
 use Rattle.fst_semiring.specs.declared.arc_type.ArcType.{ArcType}
 use Rattle.fst_semiring.specs.Division.{quotient}
-use Rattle.fst_semiring.specs.Semiring.{IsCost, one_of, times}
+use Rattle.fst_semiring.specs.Semiring.{one_of, times}
 use Rattle.fst_machine.specs.Graph.{Graph}
 use Rattle.fst_machine.specs.Machine.{Arc}
 use Rattle.fst_determinize.specs.Subsets.{Member}

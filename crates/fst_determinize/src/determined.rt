@@ -14,6 +14,7 @@ ghost use Rattle.fst_trim.specs.Weighed.{IsWeighed};
 
 use crate::determinizing::walk_subsets;
 use crate::fault::{ArcFault, DeterminizeFault};
+use crate::lists::{MemberList, SubsetWeight};
 use crate::on_demand::Subset;
 use crate::residual::{Broad, Narrow, Residual};
 use crate::subset::SubsetOf;
@@ -26,14 +27,14 @@ use std::marker::Model;
 
 /// Subsets, each once, in the order of the states that stand for them.
 #[derive(Drop)]
-pub struct Subsets<W: Weight> {
+pub struct Subsets<W: SubsetWeight> {
     /// Those whose residuals are in the form of weights.
-    narrow: NameTable<SubsetOf<Narrow<W>>>,
+    narrow: NameTable<SubsetOf<Narrow<W>, W::NarrowList>>,
     /// Those whose residuals are in the wide form, which stand behind. One of the two tables is empty.
-    broad: NameTable<SubsetOf<Broad<W, W::Wide>>>,
+    broad: NameTable<Subset<W>>,
 }
 
-impl<W: Weight> Model for Subsets<W> {
+impl<W: SubsetWeight> Model for Subsets<W> {
     ghost use Rattle.std.specs.Prelude.{◌≡◌, ◌⊎◌, List, [], ◌++◌};
     ghost use Rattle.fst_determinize.specs.Subsets.{Member};
 
@@ -44,7 +45,7 @@ impl<W: Weight> Model for Subsets<W> {
     ghost invariant = { λ s. (s.narrow ≡ []) ⊎ (s.broad ≡ []) };
 }
 
-impl<W: Weight> Subsets<W> {
+impl<W: SubsetWeight> Subsets<W> {
     /// How many subsets there are. Takes no memory.
     pub fn len(&self) -> usize
         ensures { result ≡ length self.now }
@@ -70,7 +71,10 @@ impl<W: Weight> Subsets<W> {
 }
 
 /// The member of a subset in a place: its state, and its residual in the wide form.
-fn member_at<W: Weight, R: Residual<W>>(subset: &SubsetOf<R>, place: usize) -> (u32, W::Wide)
+fn member_at<W: Weight, R: Residual<W>, L: MemberList<R>>(
+    subset: &SubsetOf<R, L>,
+    place: usize,
+) -> (u32, W::Wide)
     requires { place < length subset.now }
     ensures { slice_get subset.now place ≡ Some (record { state = result.0; residual = W.wide_value result.1 }) }
 {
@@ -80,7 +84,7 @@ fn member_at<W: Weight, R: Residual<W>>(subset: &SubsetOf<R>, place: usize) -> (
 
 /// A deterministic machine, and the subsets that its states stand for.
 #[derive(Drop)]
-pub struct Determined<W: Weight> {
+pub struct Determined<W: SubsetWeight> {
     /// The machine.
     pub fst: Fst<W>,
     /// The subsets, in the order of the numbers of their states.
@@ -99,7 +103,10 @@ fn stopped(fault: WalkFault) -> DeterminizeFault
 }
 
 /// The machine with subsets in the form of weights.
-fn narrowly<W: Weight>(alloc: Global, made: Walked<SubsetOf<Narrow<W>>, W>) -> Determined<W>
+fn narrowly<W: SubsetWeight>(
+    alloc: Global,
+    made: Walked<SubsetOf<Narrow<W>, W::NarrowList>, W>,
+) -> Determined<W>
     ensures fst { result.fst ≡ made.fst }
     ensures subsets { result.subsets ≡ made.names }
 {
@@ -113,7 +120,7 @@ fn narrowly<W: Weight>(alloc: Global, made: Walked<SubsetOf<Narrow<W>>, W>) -> D
 }
 
 /// The machine with subsets in the wide form.
-fn broadly<W: Weight>(alloc: Global, made: Walked<SubsetOf<Broad<W, W::Wide>>, W>) -> Determined<W>
+fn broadly<W: SubsetWeight>(alloc: Global, made: Walked<Subset<W>, W>) -> Determined<W>
     ensures fst { result.fst ≡ made.fst }
     ensures subsets { result.subsets ≡ made.names }
 {
@@ -127,7 +134,7 @@ fn broadly<W: Weight>(alloc: Global, made: Walked<SubsetOf<Broad<W, W::Wide>>, W
 }
 
 /// The deterministic machine with residuals in the wide form, or why there is none, with memory apart.
-fn made_broad<W: Weight>(
+fn made_broad<W: SubsetWeight>(
     alloc: Global,
     fst: &Fst<W>,
     max_states: u32,
@@ -139,7 +146,7 @@ fn made_broad<W: Weight>(
     ensures made { IfOk result (λ r. IfOk r (λ d. IsNamed (subsets W.KIND (graph_of (valued W.value fst.now))) d.subsets (valued W.value d.fst))) }
     ensures exact { IfOk result (IsExact W.KIND W.value fst.now max_states) }
 {
-    match walk_subsets::<W, Broad<W, W::Wide>>(alloc, fst, max_states) {
+    match walk_subsets::<W, Broad<W, W::Wide>, W::BroadList>(alloc, fst, max_states) {
         Ok(Ok(made)) => Ok(Ok(broadly(alloc, made))),
         Ok(Err(fault)) => Ok(Err(stopped(fault))),
         // Each residual has a wide form, so memory alone is lacking.
@@ -150,7 +157,7 @@ fn made_broad<W: Weight>(
 /// The deterministic machine or why there is none, with memory apart. Residuals are kept in the form of weights;
 /// where one does not fit, all is made again with residuals in the wide form. (It may lie on a way that leads to no
 /// final state, so that it says nothing of the weights of the result.)
-fn made_narrow<W: Weight>(
+fn made_narrow<W: SubsetWeight>(
     alloc: Global,
     fst: &Fst<W>,
     max_states: u32,
@@ -162,7 +169,7 @@ fn made_narrow<W: Weight>(
     ensures made { IfOk result (λ r. IfOk r (λ d. IsNamed (subsets W.KIND (graph_of (valued W.value fst.now))) d.subsets (valued W.value d.fst))) }
     ensures exact { IfOk result (IsExact W.KIND W.value fst.now max_states) }
 {
-    match walk_subsets::<W, Narrow<W>>(alloc, fst, max_states) {
+    match walk_subsets::<W, Narrow<W>, W::NarrowList>(alloc, fst, max_states) {
         Ok(Ok(made)) => Ok(Ok(narrowly(alloc, made))),
         Ok(Err(fault)) => Ok(Err(stopped(fault))),
         Err(ArcFault::NotKept) => made_broad(alloc, fst, max_states),
@@ -171,7 +178,7 @@ fn made_narrow<W: Weight>(
 }
 
 /// The same of any machine: of one that is no acceptor the first arc with two different labels.
-fn made_of_acceptor<W: Weight>(
+fn made_of_acceptor<W: SubsetWeight>(
     alloc: Global,
     fst: &Fst<W>,
     max_states: u32,
@@ -207,7 +214,7 @@ fn made_of_acceptor<W: Weight>(
 ///
 /// Time: for each subset that of its arcs, and of sorting them by label where they do not stand so. Space: the
 /// result, the subsets, and the arcs of one.
-pub fn determinize<W: Weight>(
+pub fn determinize<W: SubsetWeight>(
     alloc: Global,
     fst: &Fst<W>,
     max_states: u32,

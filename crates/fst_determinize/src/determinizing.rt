@@ -11,11 +11,12 @@ ghost use Rattle.fst_trim.specs.Weighed.{IsWeighed};
 ghost use Rattle.fst_determinize.specs.Weighed.{AreMembers, HasGoodArcs};
 
 use crate::fault::ArcFault;
+use crate::lists::MemberList;
 use crate::making::put_arcs;
 use crate::residual::Residual;
 use crate::single::{labels_ascend, put_single_arcs};
 use crate::subset::{Held, SubsetOf, subset_of_one};
-use crate::way::{WayOn, further_final, put_arc_ways, put_ways, sort_ways};
+use crate::way::{WayOn, further_final, put_ways, sort_ways};
 use fst_machine::Fst;
 use fst_semiring::Weight;
 use fst_walk::{NameArc, Names, Room, WalkFault, Walked, walk};
@@ -42,23 +43,27 @@ pub(crate) fn no_ways<R, V>(alloc: Global) -> Scratch<R, V> {
 }
 
 /// The subset of the empty word, if there is a start. Takes no memory.
-pub(crate) fn first_subset<W: Weight, R: Residual<W>>(fst: &Fst<W>) -> Option<SubsetOf<R>>
+pub(crate) fn first_subset<W: Weight, R: Residual<W>, L: MemberList<R>>(
+    alloc: Global,
+    fst: &Fst<W>,
+) -> Option<SubsetOf<R, L>>
     ensures { result ≡ (subsets W.KIND (graph_of (valued W.value fst.now))).start }
 {
     let state = fst.start()?;
     let residual = R::one();
-    Some(subset_of_one(Held { state, residual }))
+    Some(subset_of_one(alloc, Held { state, residual }))
 }
 
 /// The final weight of a subset: the best, over its members, of residual Times final weight. Takes no memory.
-pub(crate) fn last_weight<W: Weight, R: Residual<W>>(fst: &Fst<W>, subset: &SubsetOf<R>) -> W::Wide
+pub(crate) fn last_weight<W: Weight, R: Residual<W>, L: MemberList<R>>(
+    fst: &Fst<W>,
+    subset: &SubsetOf<R, L>,
+) -> W::Wide
     requires { AreMembers (length fst.now.states) subset.now }
     ensures { W.wide_value result ≡ final_by W.KIND (graph_of (valued W.value fst.now)) subset.now }
 {
-    let (first, rest) = subset.members();
-    let mut best = further_final(first.residual, fst.final_weight(first.state));
-    for place in 0..rest.len() {
-        let member = rest.item(place);
+    let mut best = W::zero().widen();
+    for member in subset.members() {
         let own = further_final(member.residual, fst.final_weight(member.state));
         best = W::wide_plus(best, own);
     }
@@ -66,20 +71,18 @@ pub(crate) fn last_weight<W: Weight, R: Residual<W>>(fst: &Fst<W>, subset: &Subs
 }
 
 /// Puts the arcs of a subset after the others, by way of all ways in order.
-fn put_sorted_arcs<W: Weight, R: Residual<W>>(
+fn put_sorted_arcs<W: Weight, R: Residual<W>, L: MemberList<R>>(
     scratch: &mut Scratch<R, W::Wide>,
-    out: &mut Vec<NameArc<SubsetOf<R>, W>>,
+    out: &mut Vec<NameArc<SubsetOf<R, L>, W>>,
     fst: &Fst<W>,
-    subset: &SubsetOf<R>,
+    subset: &SubsetOf<R, L>,
 ) -> Result<(), ArcFault>
     requires weighed { IsWeighed W.KIND W.value fst.now }
     requires members { AreMembers (length fst.now.states) subset.now }
     ensures { OnOk result (map (key_arc W.wide_value) out.new.items ≡ map (key_arc W.wide_value) out.old.items ++ (subsets W.KIND (graph_of (valued W.value fst.now))).arcs subset.now) }
 {
     scratch.ways.clear();
-    let (first, rest) = subset.members();
-    put_arc_ways(&mut scratch.ways, fst.arcs(first.state), first)?;
-    put_ways(&mut scratch.ways, fst, rest)?;
+    put_ways(&mut scratch.ways, fst, subset.members())?;
     sort_ways(&mut scratch.ways);
     put_arcs(
         out,
@@ -90,22 +93,23 @@ fn put_sorted_arcs<W: Weight, R: Residual<W>>(
 }
 
 /// Puts the arcs of a subset after the others.
-pub(crate) fn put_subset_arcs<W: Weight, R: Residual<W>>(
+pub(crate) fn put_subset_arcs<W: Weight, R: Residual<W>, L: MemberList<R>>(
     scratch: &mut Scratch<R, W::Wide>,
-    out: &mut Vec<NameArc<SubsetOf<R>, W>>,
+    out: &mut Vec<NameArc<SubsetOf<R, L>, W>>,
     fst: &Fst<W>,
-    subset: &SubsetOf<R>,
+    subset: &SubsetOf<R, L>,
 ) -> Result<(), ArcFault>
     requires weighed { IsWeighed W.KIND W.value fst.now }
     requires members { AreMembers (length fst.now.states) subset.now }
     ensures { OnOk result (map (key_arc W.wide_value) out.new.items ≡ map (key_arc W.wide_value) out.old.items ++ (subsets W.KIND (graph_of (valued W.value fst.now))).arcs subset.now) }
 {
-    let (first, rest) = subset.members();
-    if rest.len() == 0 {
-        let arcs = fst.arcs(first.state);
+    let members = subset.members();
+    if members.len() == 1 {
+        let member = members[0];
+        let arcs = fst.arcs(member.state);
         // Nothing is to be sorted or to be put together.
         if labels_ascend(arcs) {
-            return put_single_arcs(out, arcs, first);
+            return put_single_arcs(out, arcs, member, scratch.alloc);
         }
     }
     put_sorted_arcs(scratch, out, fst, subset)
@@ -113,13 +117,14 @@ pub(crate) fn put_subset_arcs<W: Weight, R: Residual<W>>(
 
 /// The graph of the subsets of a machine, with residuals in one form.
 #[derive(Drop)]
-struct Determinizing<'a, W: Weight, R: Residual<W>> {
+struct Determinizing<'a, W: Weight, R: Residual<W>, L: MemberList<R>> {
     fst: &'a Fst<W>,
-    form: PhantomData<R>,
+    alloc: Global,
+    form: PhantomData<SubsetOf<R, L>>,
 }
 
-impl<'a, W: Weight, R: Residual<W>> Names<W> for Determinizing<'a, W, R> {
-    type Key = SubsetOf<R>;
+impl<'a, W: Weight, R: Residual<W>, L: MemberList<R>> Names<W> for Determinizing<'a, W, R, L> {
+    type Key = SubsetOf<R, L>;
 
     type Fault = ArcFault;
 
@@ -131,8 +136,8 @@ impl<'a, W: Weight, R: Residual<W>> Names<W> for Determinizing<'a, W, R> {
 
     ghost holds = { λ s. IsWeighed W.KIND W.value s.fst.now × HasGoodArcs W.KIND (graph_of (valued W.value s.fst.now)) };
 
-    fn start(&self) -> Option<SubsetOf<R>> {
-        first_subset(self.fst)
+    fn start(&self) -> Option<SubsetOf<R, L>> {
+        first_subset(self.alloc, self.fst)
     }
 
     fn scratch(alloc: Global) -> Scratch<R, W::Wide> {
@@ -142,8 +147,8 @@ impl<'a, W: Weight, R: Residual<W>> Names<W> for Determinizing<'a, W, R> {
     fn put_part(
         &self,
         scratch: &mut Scratch<R, W::Wide>,
-        out: &mut Vec<NameArc<SubsetOf<R>, W>>,
-        key: &SubsetOf<R>,
+        out: &mut Vec<NameArc<SubsetOf<R, L>, W>>,
+        key: &SubsetOf<R, L>,
         _from: u32,
     ) -> Result<Option<u32>, ArcFault> {
         // A subset has one arc for each label, so they are put at once.
@@ -151,7 +156,7 @@ impl<'a, W: Weight, R: Residual<W>> Names<W> for Determinizing<'a, W, R> {
         Ok(None)
     }
 
-    fn final_weight(&self, key: &SubsetOf<R>) -> W::Wide {
+    fn final_weight(&self, key: &SubsetOf<R, L>) -> W::Wide {
         last_weight(self.fst, key)
     }
 
@@ -161,11 +166,11 @@ impl<'a, W: Weight, R: Residual<W>> Names<W> for Determinizing<'a, W, R> {
 }
 
 /// The machine of the subsets that the start reaches, with residuals in one form, or why there is none.
-pub(crate) fn walk_subsets<W: Weight, R: Residual<W>>(
+pub(crate) fn walk_subsets<W: Weight, R: Residual<W>, L: MemberList<R>>(
     alloc: Global,
     fst: &Fst<W>,
     max_states: u32,
-) -> Result<Result<Walked<SubsetOf<R>, W>, WalkFault>, ArcFault>
+) -> Result<Result<Walked<SubsetOf<R, L>, W>, WalkFault>, ArcFault>
     requires weighed { IsWeighed W.KIND W.value fst.now }
     requires some { 0 < max_states }
     requires few { max_states ≤ most_states }
@@ -178,7 +183,8 @@ pub(crate) fn walk_subsets<W: Weight, R: Residual<W>>(
     };
     let graph = Determinizing {
         fst,
-        form: PhantomData::<R>,
+        alloc,
+        form: PhantomData::<SubsetOf<R, L>>,
     };
     walk(alloc, &graph, room, max_states)
 }

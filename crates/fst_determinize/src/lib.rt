@@ -14,6 +14,7 @@ mod determinizing;
 mod fault;
 pub mod laws;
 mod listing;
+mod lists;
 mod making;
 mod on_demand;
 mod residual;
@@ -23,6 +24,7 @@ mod way;
 
 pub use determined::{Determined, Subsets, determinize};
 pub use fault::DeterminizeFault;
+pub use lists::{MemberList, SubsetWeight};
 pub use on_demand::{Subset, SubsetArc, start_subset, subset_arcs, subset_final};
 pub use residual::{Broad, Kept, Narrow, Residual};
 pub use subset::{Held, SubsetOf};

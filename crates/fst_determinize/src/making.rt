@@ -9,6 +9,7 @@ ghost use Rattle.fst_determinize.specs.Kept.{AreDivided, AreGoodWays, IsGoodWay,
 ghost use Rattle.fst_determinize.specs.Ways.{arc_by, arcs_by, best_of, members_of, single_arc};
 
 use crate::fault::ArcFault;
+use crate::lists::MemberList;
 use crate::residual::Residual;
 use crate::subset::{Held, SubsetOf, subset_of, subset_of_one};
 use crate::way::WayOn;
@@ -92,9 +93,10 @@ fn put_members<W: Weight, R: Residual<W>>(
 }
 
 /// The arc of a way that is the only one with its label: it leads to the subset of its state alone. Takes no memory.
-pub(crate) fn single_arc<W: Weight, R: Residual<W>>(
+pub(crate) fn single_arc<W: Weight, R: Residual<W>, L: MemberList<R>>(
     way: WayOn<W::Wide>,
-) -> Result<NameArc<SubsetOf<R>, W>, ArcFault>
+    alloc: Global,
+) -> Result<NameArc<SubsetOf<R, L>, W>, ArcFault>
     requires not_zero { W.wide_value way.weight ≢ infinite }
     requires wide { IsWide (W.wide_value way.weight) }
     ensures { IfOk result (λ a. key_arc W.wide_value a ≡ single_arc W.KIND (way_as W.wide_value way)) }
@@ -110,13 +112,13 @@ pub(crate) fn single_arc<W: Weight, R: Residual<W>>(
         ilabel: way.label,
         olabel: way.label,
         weight: way.weight,
-        next: subset_of_one(member),
+        next: subset_of_one(alloc, member),
     })
 }
 
 /// Puts the arcs of these ways after the others, by label. The members of each subset are made in a list.
-pub(crate) fn put_arcs<W: Weight, R: Residual<W>>(
-    out: &mut Vec<NameArc<SubsetOf<R>, W>>,
+pub(crate) fn put_arcs<W: Weight, R: Residual<W>, L: MemberList<R>>(
+    out: &mut Vec<NameArc<SubsetOf<R, L>, W>>,
     members: &mut Vec<Held<R>>,
     ways: &[WayOn<W::Wide>],
     alloc: Global,

@@ -9,6 +9,7 @@ ghost use Rattle.fst_trim.specs.Weighed.{IsWeighed};
 ghost use Rattle.fst_determinize.specs.Weighed.{AreMembers};
 
 use crate::determinizing::{first_subset, last_weight, no_ways, put_subset_arcs};
+use crate::lists::SubsetWeight;
 use crate::residual::Broad;
 use crate::subset::SubsetOf;
 use fst_machine::Fst;
@@ -17,17 +18,17 @@ use fst_walk::NameArc;
 use std::alloc::{AllocError, Global};
 
 /// A weighted subset: states by number, each with what is left of the best weight that reaches it when the best of
-/// all is divided off. One of one state takes no memory of its own.
-pub type Subset<W> = SubsetOf<Broad<W, <W as Weight>::Wide>>;
+/// all is divided off. One of up to two states takes no memory of its own.
+pub type Subset<W> = SubsetOf<Broad<W, <W as Weight>::Wide>, <W as SubsetWeight>::BroadList>;
 
 /// An arc to a subset; both labels are the same. Its weight is in the wide form.
 pub type SubsetArc<W> = NameArc<Subset<W>, W>;
 
 /// The subset of the empty word: the start with One. `None` exactly where there is no start. Takes no memory.
-pub fn start_subset<W: Weight>(fst: &Fst<W>) -> Option<Subset<W>>
+pub fn start_subset<W: SubsetWeight>(alloc: Global, fst: &Fst<W>) -> Option<Subset<W>>
     ensures { result ≡ (subsets W.KIND (graph_of (valued W.value fst.now))).start }
 {
-    first_subset(fst)
+    first_subset(alloc, fst)
 }
 
 /// The arcs of a subset: one for each label of an arc of its members, by label. Its weight is the best, over the
@@ -39,7 +40,7 @@ pub fn start_subset<W: Weight>(fst: &Fst<W>) -> Option<Subset<W>>
 /// 118. So it is of the subset of each word of fewer than 4,194,304 labels, by `laws::member_laws`.
 ///
 /// Time: that of sorting the arcs of the members by label, where they do not stand so. Space: linear in them.
-pub fn subset_arcs<W: Weight>(
+pub fn subset_arcs<W: SubsetWeight>(
     alloc: Global,
     fst: &Fst<W>,
     subset: &Subset<W>,
@@ -59,7 +60,7 @@ pub fn subset_arcs<W: Weight>(
 
 /// The final weight of a subset: the best, over its members, of residual Times final weight. The members are as for
 /// `subset_arcs`. Takes no memory.
-pub fn subset_final<W: Weight>(fst: &Fst<W>, subset: &Subset<W>) -> W::Wide
+pub fn subset_final<W: SubsetWeight>(fst: &Fst<W>, subset: &Subset<W>) -> W::Wide
     requires { AreMembers (length fst.now.states) subset.now }
     ensures { W.wide_value result ≡ final_by W.KIND (graph_of (valued W.value fst.now)) subset.now }
 {

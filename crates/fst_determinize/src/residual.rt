@@ -44,6 +44,13 @@ pub struct Narrow<W: Weight> {
     weight: W,
 }
 
+/// One. It fills the places of a list that have no member.
+impl<W: Weight> Default for Narrow<W> {
+    fn default() -> Narrow<W> {
+        Narrow { weight: W::one() }
+    }
+}
+
 impl<W: Weight> Kept for Narrow<W> {
     ghost value = { λ r. W.value r.weight };
 
@@ -76,6 +83,16 @@ impl<W: Weight> Residual<W> for Narrow<W> {
 pub struct Broad<W, V> {
     weight: V,
     of: PhantomData<W>,
+}
+
+/// One. It fills the places of a list that have no member.
+impl<W: Weight> Default for Broad<W, W::Wide> {
+    fn default() -> Broad<W, W::Wide> {
+        Broad {
+            weight: W::one().widen(),
+            of: PhantomData,
+        }
+    }
 }
 
 impl<W: Weight> Kept for Broad<W, W::Wide> {

@@ -10,6 +10,7 @@ ghost use Rattle.fst_determinize.specs.Subsets.{AscendsBy};
 ghost use Rattle.fst_determinize.specs.Ways.{single_arc, way_by};
 
 use crate::fault::ArcFault;
+use crate::lists::MemberList;
 use crate::making::{put, single_arc};
 use crate::residual::Residual;
 use crate::subset::{Held, SubsetOf};
@@ -17,6 +18,7 @@ use crate::way::way_of;
 use fst_machine::FstArc;
 use fst_semiring::Weight;
 use fst_walk::NameArc;
+use std::alloc::Global;
 
 /// Whether each of these arcs has a greater label than those before it.
 pub(crate) fn labels_ascend<W: Weight>(arcs: &[FstArc<W>]) -> bool
@@ -36,10 +38,11 @@ pub(crate) fn labels_ascend<W: Weight>(arcs: &[FstArc<W>]) -> bool
 
 /// Puts the arcs of a subset of one member after the others, each of one arc of the member: so they stand by label
 /// where its arcs do and no label stands twice.
-pub(crate) fn put_single_arcs<W: Weight, R: Residual<W>>(
-    out: &mut Vec<NameArc<SubsetOf<R>, W>>,
+pub(crate) fn put_single_arcs<W: Weight, R: Residual<W>, L: MemberList<R>>(
+    out: &mut Vec<NameArc<SubsetOf<R, L>, W>>,
     arcs: &[FstArc<W>],
     member: Held<R>,
+    alloc: Global,
 ) -> Result<(), ArcFault>
     requires modest { IsModest (R.value member.residual) }
     requires not_zero { All (λ a. times W.KIND (R.value member.residual) (W.value a.weight) ≢ infinite) arcs.now }
@@ -47,7 +50,7 @@ pub(crate) fn put_single_arcs<W: Weight, R: Residual<W>>(
     ensures { OnOk result (map (key_arc W.wide_value) out.new.items ≡ map (key_arc W.wide_value) out.old.items ++ map (single_arc W.KIND) (map (way_by W.KIND (member_as R.value member)) (map (valued_arc W.value) arcs.now))) }
 {
     for arc in arcs {
-        let next = single_arc(way_of(member, *arc))?;
+        let next = single_arc(way_of(member, *arc), alloc)?;
         put(out, next)?;
     }
     Ok(())

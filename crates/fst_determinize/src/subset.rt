@@ -1,21 +1,21 @@
 //! Weighted subsets as keys of a table.
 
-ghost use Rattle.std.specs.Prelude.{◌≡◌, ◌<◌, [], ◌∷◌, ◌++◌, IfOk, Some, fold, length, slice_get};
+ghost use Rattle.std.specs.Prelude.{◌≡◌, ◌<◌, [], ◌∷◌, IfOk, Some, fold, length, slice_get};
 ghost use Rattle.std.specs.Cmp.{on_equiv, on_per, partial_equiv_from_equiv};
 ghost use Rattle.fst_determinize.specs.Kept.{member_as, members_as, number_more, same_member, same_members, subset_number};
-ghost use Rattle.fst_determinize.specs.Others.{others_in};
-ghost use Rattle.std.specs.Bool.{Decides};
 ghost use Rattle.fst_determinize.specs.KeyLaws.{member_laws, same_decides, subset_laws};
 ghost use Rattle.fst_determinize.specs.Listing.{listed_apart, listed_decides, listed_of};
 
 use crate::listing::{Listed, Ranked};
+use crate::lists::MemberList;
 use crate::residual::Kept;
 use fst_keys::{Code, Coded};
 use std::alloc::{AllocError, Global};
-use std::marker::Model;
+use std::convert::AsSlice;
+use std::marker::{Model, PhantomData};
 
 /// A state with its residual.
-#[derive(Clone, Copy)]
+#[derive(Clone, Copy, Default)]
 pub struct Held<R> {
     /// The state.
     pub state: u32,
@@ -47,109 +47,34 @@ impl<R: Kept> Eq for Held<R> {
     ghost laws = { on_equiv (member_as R.value) member_laws };
 }
 
-/// The members of a subset behind the first. Up to two stand in place, so that most subsets take no memory of their own.
+/// A weighted subset: states by number, each with its residual. One of up to two states takes no memory of its own.
 #[derive(Drop)]
-pub(crate) enum Others<R> {
-    /// There are none.
-    None,
-    /// There is one.
-    One(Held<R>),
-    /// There are two.
-    Two(Held<R>, Held<R>),
-    /// Those of a list.
-    More(Vec<Held<R>>),
+pub struct SubsetOf<R: Kept, L: MemberList<R>> {
+    list: L,
+    form: PhantomData<R>,
 }
 
-impl<R: Kept> Others<R> {
-    /// How many there are. Takes no memory.
-    pub(crate) fn len(&self) -> usize
-        ensures { result ≡ length (others_in self.now) }
-    {
-        match self {
-            Others::None => 0,
-            Others::One(_) => 1,
-            Others::Two(_, _) => 2,
-            Others::More(list) => list.len(),
-        }
-    }
-
-    /// The one in a place, by state, from 0. Takes no memory.
-    pub(crate) fn item(&self, place: usize) -> Held<R>
-        requires { place < length (others_in self.now) }
-        ensures { slice_get (others_in self.now) place ≡ Some result }
-    {
-        match self {
-            Others::None => unreachable!(),
-            Others::One(second) => *second,
-            Others::Two(second, third) => { if place == 0 { *second } else { *third } }
-            Others::More(list) => list[place],
-        }
-    }
-
-    /// Whether they are the same.
-    fn same(&self, other: &Others<R>) -> bool
-        ensures { Decides result (members_as R.value (others_in self.now) ≡ members_as R.value (others_in other.now)) }
-    {
-        if self.len() != other.len() {
-            return false;
-        }
-        for place in 0..self.len() {
-            let ours = self.item(place);
-            let theirs = other.item(place);
-            if ours != theirs {
-                return false;
-            }
-        }
-        true
-    }
-}
-
-/// Those of a list.
-fn others_of<R: Kept>(alloc: Global, members: &[Held<R>]) -> Result<Others<R>, AllocError>
-    ensures { IfOk result (λ others. others_in others ≡ members.now) }
-{
-    match members.len() {
-        0 => Ok(Others::None),
-        1 => Ok(Others::One(members[0])),
-        2 => Ok(Others::Two(members[0], members[1])),
-        many => {
-            let mut list = Vec::with_capacity(alloc, many)?;
-            list.extend_from_slice(members)?;
-            Ok(Others::More(list))
-        }
-    }
-}
-
-/// A weighted subset that is not empty: states by number, each with its residual. One of up to three states takes no
-/// memory of its own.
-#[derive(Drop)]
-pub struct SubsetOf<R: Kept> {
-    first: Held<R>,
-    others: Others<R>,
-}
-
-impl<R: Kept> Model for SubsetOf<R> {
-    ghost use Rattle.std.specs.Prelude.{List, ◌∷◌};
+impl<R: Kept, L: MemberList<R>> Model for SubsetOf<R, L> {
+    ghost use Rattle.std.specs.Prelude.{List};
     ghost use Rattle.fst_determinize.specs.Subsets.{Member};
-    ghost use Rattle.fst_determinize.specs.Kept.{member_as, members_as};
-    ghost use Rattle.fst_determinize.specs.Others.{others_in};
+    ghost use Rattle.fst_determinize.specs.Kept.{members_as};
 
     ghost Value = { List Member };
 
-    ghost view = { λ s. member_as R.value s.first ∷ members_as R.value (others_in s.others) };
+    ghost view = { λ s. members_as R.value (L.items s.list) };
 }
 
-impl<R: Kept> PartialEq for SubsetOf<R> {
+impl<R: Kept, L: MemberList<R>> PartialEq for SubsetOf<R, L> {
     ghost eq = { same_members };
 
     ghost laws = { partial_equiv_from_equiv subset_laws };
 
-    fn eq(&self, other: &SubsetOf<R>) -> bool {
-        self.first == other.first && self.others.same(&other.others)
+    fn eq(&self, other: &SubsetOf<R, L>) -> bool {
+        self.members() == other.members()
     }
 }
 
-impl<R: Kept> Eq for SubsetOf<R> {
+impl<R: Kept, L: MemberList<R>> Eq for SubsetOf<R, L> {
     ghost laws = { subset_laws };
 }
 
@@ -173,8 +98,8 @@ fn number_more<R: Kept>(number: u64, member: Held<R>) -> u64
         .wrapping_add(u64::from(member.state))
 }
 
-/// A number with the members of a list more.
-fn numbered_list<R: Kept>(number: u64, members: &[Held<R>]) -> u64
+/// A number with these members more.
+fn numbered<R: Kept>(number: u64, members: &[Held<R>]) -> u64
     ensures { result ≡ fold number_more number (members_as R.value members.now) }
 {
     let mut so_far = number;
@@ -184,20 +109,11 @@ fn numbered_list<R: Kept>(number: u64, members: &[Held<R>]) -> u64
     so_far
 }
 
-/// A number with these members more.
-fn numbered<R: Kept>(number: u64, members: &Others<R>) -> u64
-    ensures { result ≡ fold number_more number (members_as R.value (others_in members.now)) }
-{
-    match members {
-        Others::None => number,
-        Others::One(second) => number_more(number, *second),
-        Others::Two(second, third) => number_more(number_more(number, *second), *third),
-        Others::More(list) => numbered_list(number, list.as_slice()),
-    }
-}
-
 /// The members of a subset as plain numbers.
-fn listed<R: Kept>(alloc: Global, subset: &SubsetOf<R>) -> Result<Listed, AllocError>
+fn listed<R: Kept, L: MemberList<R>>(
+    alloc: Global,
+    subset: &SubsetOf<R, L>,
+) -> Result<Listed, AllocError>
     ensures { IfOk result (λ l. l ≡ listed_of subset.now) }
 {
     let mut members = Vec::with_capacity(alloc, subset.len())?;
@@ -213,7 +129,7 @@ fn listed<R: Kept>(alloc: Global, subset: &SubsetOf<R>) -> Result<Listed, AllocE
 
 /// A subset is found by a number of its members. Where another subset has that number, it is looked up by the list of its
 /// members.
-impl<R: Kept> Coded for SubsetOf<R> {
+impl<R: Kept, L: MemberList<R>> Coded for SubsetOf<R, L> {
     type Whole = Listed;
 
     ghost code = { subset_number };
@@ -221,9 +137,8 @@ impl<R: Kept> Coded for SubsetOf<R> {
     ghost whole = { listed_of };
 
     fn code(&self) -> Code {
-        let first = number_more(0, self.first);
         Code {
-            number: numbered(first, &self.others),
+            number: numbered(0, self.members()),
             is_alone: false,
         }
     }
@@ -240,44 +155,44 @@ impl<R: Kept> Coded for SubsetOf<R> {
 }
 
 /// The subset of these members.
-pub(crate) fn subset_of<R: Kept>(
+pub(crate) fn subset_of<R: Kept, L: MemberList<R>>(
     alloc: Global,
     members: &[Held<R>],
-) -> Result<SubsetOf<R>, AllocError>
-    requires { 0 < length members.now }
+) -> Result<SubsetOf<R, L>, AllocError>
     ensures { IfOk result (λ s. s ≡ members_as R.value members.now) }
 {
-    let first = members[0];
-    let (_, others) = members.split_at(1);
     Ok(SubsetOf {
-        first,
-        others: others_of(alloc, others)?,
+        list: L::of(alloc, members)?,
+        form: PhantomData,
     })
 }
 
 /// The subset of one member. Takes no memory.
-pub(crate) fn subset_of_one<R: Kept>(member: Held<R>) -> SubsetOf<R>
+pub(crate) fn subset_of_one<R: Kept, L: MemberList<R>>(
+    alloc: Global,
+    member: Held<R>,
+) -> SubsetOf<R, L>
     ensures { result ≡ member_as R.value member ∷ [] }
 {
     SubsetOf {
-        first: member,
-        others: Others::None,
+        list: L::one(alloc, member),
+        form: PhantomData,
     }
 }
 
-impl<R: Kept> SubsetOf<R> {
-    /// Its first member, and the others, by state.
-    pub(crate) fn members(&self) -> (Held<R>, &Others<R>)
-        ensures { member_as R.value result.0 ∷ members_as R.value (others_in result.1.now) ≡ self.now }
+impl<R: Kept, L: MemberList<R>> SubsetOf<R, L> {
+    /// Its members, by state. Takes no memory.
+    pub(crate) fn members(&self) -> &[Held<R>]
+        ensures { members_as R.value result.now ≡ self.now }
     {
-        (self.first, &self.others)
+        self.list.as_slice()
     }
 
     /// How many members it has. Takes no memory.
     pub fn len(&self) -> usize
         ensures { result ≡ length self.now }
     {
-        self.others.len() + 1
+        self.members().len()
     }
 
     /// The member in a place, by state, from 0. Takes no memory.
@@ -285,9 +200,6 @@ impl<R: Kept> SubsetOf<R> {
         requires { index < length self.now }
         ensures { slice_get self.now index ≡ Some (member_as R.value result) }
     {
-        if index == 0 {
-            return self.first;
-        }
-        self.others.item(index - 1)
+        self.members()[index]
     }
 }

@@ -5,12 +5,11 @@ ghost use Rattle.fst_semiring.specs.Semiring.{Within, times};
 ghost use Rattle.fst_machine.specs.Graph.{graph_of};
 ghost use Rattle.fst_machine.specs.Machine.{valued, valued_arc};
 ghost use Rattle.fst_determinize.specs.Kept.{IsModest, member_as, members_as, rank, way_as, ways_as};
-ghost use Rattle.fst_determinize.specs.Others.{others_in};
 ghost use Rattle.fst_determinize.specs.Ways.{way_by, ways};
 ghost use Rattle.std.specs.List.Sorted.{IsNonDecreasingBy, IsPermutation};
 
 use crate::residual::Residual;
-use crate::subset::{Held, Others};
+use crate::subset::Held;
 use fst_machine::{Fst, FstArc};
 use fst_semiring::{Weight, is_zero};
 use std::alloc::AllocError;
@@ -89,15 +88,14 @@ pub(crate) fn put_arc_ways<W: Weight, R: Residual<W>>(
 pub(crate) fn put_ways<W: Weight, R: Residual<W>>(
     out: &mut Vec<WayOn<W::Wide>>,
     fst: &Fst<W>,
-    members: &Others<R>,
+    members: &[Held<R>],
 ) -> Result<(), AllocError>
-    requires states { All (λ h. h.state < length fst.now.states) (others_in members.now) }
-    requires modest { All (λ h. IsModest (R.value h.residual)) (others_in members.now) }
-    ensures { OnOk result (ways_as W.wide_value out.new.items ≡ ways_as W.wide_value out.old.items ++ ways W.KIND (graph_of (valued W.value fst.now)) (members_as R.value (others_in members.now))) }
+    requires states { All (λ h. h.state < length fst.now.states) members.now }
+    requires modest { All (λ h. IsModest (R.value h.residual)) members.now }
+    ensures { OnOk result (ways_as W.wide_value out.new.items ≡ ways_as W.wide_value out.old.items ++ ways W.KIND (graph_of (valued W.value fst.now)) (members_as R.value members.now)) }
 {
-    for place in 0..members.len() {
-        let member = members.item(place);
-        put_arc_ways(out, fst.arcs(member.state), member)?;
+    for member in members {
+        put_arc_ways(out, fst.arcs(member.state), *member)?;
     }
     Ok(())
 }

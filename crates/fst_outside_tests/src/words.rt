@@ -322,7 +322,32 @@ static COMMANDS_2: [(&[&str], &str); 33] = [
     (&["make"], "make -"),
 ];
 
-static COMMANDS_3: [(&[&str], &str); 4] = [
+static COMMANDS_3: [(&[&str], &str); 13] = [
+    (&["intersect", "a", "b"], "intersect a b -"),
+    (
+        &[
+            "fstintersect",
+            "a",
+            "--connect=false",
+            "b",
+            "--max_states=4194304",
+            "o",
+        ],
+        "intersect a b o --connect=false --max_states=4194304",
+    ),
+    (&["intersect", "a"], "usage"),
+    (
+        &["difference", "--connect", "true", "a", "-", "o"],
+        "difference a - o --connect=true",
+    ),
+    (&["difference", "a", "b", "o", "p"], "usage"),
+    (&["difference", "a", "b", "--max_states=0"], "usage"),
+    (&["equivalent", "-", "b"], "equivalent - b -"),
+    (
+        &["fstequivalent", "a", "b", "o", "--max_states=1"],
+        "equivalent a b o --max_states=1",
+    ),
+    (&["equivalent", "--delta=1", "a", "b"], "usage"),
     (
         &["make", "--seed=0", "--lines=10000", "s"],
         "make s --seed=0 --lines=10000",

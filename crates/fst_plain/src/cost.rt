@@ -20,17 +20,24 @@ pub enum PlainCost {
     Infinite,
 }
 
-/// The value of a weight.
-pub fn plain_cost<W: Weight>(weight: W) -> PlainCost
-    ensures value { cost_of result ≡ W.value weight }
-    ensures fits { Fits 1 (cost_of result) }
+/// The value of a wide weight.
+pub fn wide_cost<W: Weight>(wide: W::Wide) -> PlainCost
+    ensures { cost_of result ≡ W.wide_value wide }
 {
-    let key = W::key(weight.widen());
+    let key = W::key(wide);
     match key.class {
         0 => PlainCost::Best,
         1 => PlainCost::Finite(key.first, key.second),
         _ => PlainCost::Infinite,
     }
+}
+
+/// The value of a weight.
+pub fn plain_cost<W: Weight>(weight: W) -> PlainCost
+    ensures value { cost_of result ≡ W.value weight }
+    ensures fits { Fits 1 (cost_of result) }
+{
+    wide_cost::<W>(weight.widen())
 }
 
 /// One of an arc type.

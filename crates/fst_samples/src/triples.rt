@@ -75,13 +75,19 @@ pub fn put(triples: &mut Vec<Triple>, triple: Triple) -> Result<(), AllocError> 
     Ok(())
 }
 
-/// The triples of the successful paths of at most `ARCS` arcs, one for each path.
-pub fn said<W: Weight>(alloc: Global, fst: &Fst<W>) -> Result<Vec<Triple>, AllocError> {
+/// The triples that these paths say, one for each path.
+pub fn triples_of(alloc: Global, paths: &[PlainPath]) -> Result<Vec<Triple>, AllocError> {
     let mut triples = Vec::new(alloc);
-    for path in &successful_paths(alloc, fst, ARCS)? {
+    for path in paths {
         triples.push(triple_of(alloc, path)?)?;
     }
     Ok(triples)
+}
+
+/// The triples of the successful paths of at most `ARCS` arcs, one for each path.
+pub fn said<W: Weight>(alloc: Global, fst: &Fst<W>) -> Result<Vec<Triple>, AllocError> {
+    let paths = successful_paths(alloc, fst, ARCS)?;
+    triples_of(alloc, paths.as_slice())
 }
 
 /// The triples that the plain program lists, over successful paths of at most `ARCS` arcs.

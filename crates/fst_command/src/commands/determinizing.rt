@@ -14,8 +14,7 @@ use super::composing::limit_of;
 use crate::given::Given;
 use crate::made::Made;
 use crate::refusal::{Refusal, unmade};
-use fst_determinize::{DeterminizeFault, determinize};
-use fst_semiring::Weight;
+use fst_determinize::{DeterminizeFault, SubsetWeight, determinize};
 use fst_words::Options;
 use std::alloc::Global;
 
@@ -31,7 +30,7 @@ fn undetermined(alloc: Global, fault: DeterminizeFault) -> Refusal
 }
 
 /// `determinize`.
-pub(crate) fn determinized<W: Weight>(
+pub(crate) fn determinized<W: SubsetWeight>(
     alloc: Global,
     options: &Options,
     given: Given<W>,

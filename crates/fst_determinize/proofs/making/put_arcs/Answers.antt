@@ -1,10 +1,9 @@
-use Rattle.std.proofs.Common.{◌≢◌, Some, List, sym, ap, ◌∙◌, subst, length, arith}
+use Rattle.std.proofs.Common.{◌≢◌, Some, List, sym, ap, ◌∙◌, subst}
 use Rattle.std.specs.Option.{option_copied}
 use Rattle.fst_semiring.specs.Cost.{Cost, infinite}
 use Rattle.fst_semiring.specs.Semiring.{IsWide}
 use Rattle.fst_determinize.specs.Kept.{AreDivided, WayAs, members_as, ways_as}
 use Rattle.fst_determinize.specs.Ways.{best_of}
-use Rattle.fst_determinize.proofs.Holding.{some_members}
 use Rattle.fst_determinize.proofs.Puts.{arc_made, arc_put, label_parts}
 use Rattle.fst_determinize.proofs.Runs.{good_best}
 use Rattle.fst_determinize.proofs.making.put_arcs.Goals as goal
@@ -54,11 +53,3 @@ loop-first-preserved g c =
           (arc_made g.W.Weight.KIND value g.R.Kept.value c.split_at.result.0.now c.loop-first.out.items c.put.new.out.items c.first-in-Some.inside.label c.label_run-count.result.1 c.put_members.new.out.items c.clear.new.self.items c.in_ok-next.next c.clear.ensures.items c.in_ok-put_members.ensures (c.in_ok-next.ensures ∙ ap (members_as g.R.Kept.value) c.as_slice.ensures.value) best c.in_ok-put.ensures)
           c.loop-first.invariant.put;
     }
-
-pub subset_of-requires : goal.subset_of-requires
-subset_of-requires g c =
-    let value = g.W.Weight.wide_value in
-    let parts = label_parts g.W.Weight.KIND value c.loop-first.rest.now c.split_at.result.0.now c.split_at.result.1.now c.label_run-count.result.0 _ c.loop-first.invariant.ways
-    (sym c.first.ensures.value ∙ (ap option_copied c.in-Some.is ∙ ap Some (sym c.first-in-Some.view_is))) c.label_run-count.ensures.few c.label_run-count.ensures.same c.label_run-count.ensures.next c.split_at.ensures.front c.split_at.ensures.back in
-    let some = some_members g.W.Weight.KIND value g.R.Kept.value (value c.label_run-count.result.1) c.split_at.result.0.now c.put_members.new.out.items c.clear.new.self.items parts.some c.clear.ensures.items c.in_ok-put_members.ensures in
-    omega (arith, some, ap length c.as_slice.ensures.value)

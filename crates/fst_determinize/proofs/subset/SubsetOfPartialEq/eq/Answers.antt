@@ -1,9 +1,8 @@
-use Rattle.std.proofs.Common.{sym, ◌∙◌}
-use Rattle.fst_determinize.specs.Others.{others_in}
-use Rattle.fst_determinize.proofs.Forms.{same_then}
+use Rattle.std.proofs.Common.{sym, ap₂, ◌∙◌}
+use Rattle.std.specs.Cmp.Derive.Mapped.{pointwise-map}
+use Rattle.fst_determinize.specs.Kept.{member_as, same_member, same_members}
 use Rattle.fst_determinize.proofs.subset.SubsetOfPartialEq.eq.Goals as goal
 
-pub returns-then-eq : goal.returns-then-eq
-returns-then-eq g c =
-    same_then g.R.Kept.value c.self.inside.first c.other.inside.first (others_in c.self.inside.others) (others_in c.other.inside.others) c.args.self.now c.args.other.now c.same.result (sym c.eq.ensures ∙ c.if-eq.true) c.same.ensures
-    c.self.view_is c.other.view_is
+pub returns : goal.returns
+returns g c =
+    c.eq.ensures ∙ (sym (pointwise-map (member_as g.R.Kept.value) same_member c.members.result.now c.members-2.result.now) ∙ ap₂ same_members c.members.ensures c.members-2.ensures)

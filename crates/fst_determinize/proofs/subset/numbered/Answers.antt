@@ -2,7 +2,7 @@ use Rattle.std.proofs.Common.{fold, map, take, sym, ap, ◌∙◌}
 use Rattle.std.proofs.lemmas.List.Sums.{fold_push}
 use Rattle.fst_walk.proofs.Putting.{items_more}
 use Rattle.fst_determinize.specs.Kept.{member_as, number_more}
-use Rattle.fst_determinize.proofs.subset.numbered_list.Goals as goal
+use Rattle.fst_determinize.proofs.subset.numbered.Goals as goal
 
 pub loop-member-preserved : goal.loop-member-preserved
 loop-member-preserved g c =
