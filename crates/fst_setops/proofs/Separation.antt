@@ -16,7 +16,7 @@ use Rattle.fst_setops.specs.Led.{weight_of}
 use Rattle.fst_trim.specs.WordOrder.{IsSooner}
 use Rattle.fst_setops.specs.Separating.{IsSeparating}
 use Rattle.fst_setops.proofs.Led.{word_weight}
-use Rattle.fst_setops.specs.Closing.{Ascend, Differ, IsClosed, IsCovered, IsFirst, NoLater, Ratios}
+use Rattle.fst_setops.specs.Closing.{Ascend, Differ, IsClosed, IsCovered, IsFirstApart, NoLater, Ratios}
 use Rattle.fst_setops.proofs.Covering.{alike_weights, covered, equal_weights, somewhere}
 use Rattle.fst_setops.proofs.Words.{no_later_trans}
 
@@ -75,7 +75,7 @@ module _ {N M : Type 0} (kind : ArcType) (a : Graph N) (b : Graph M) where
               by_same (inr differs) = let e = earlier x differs in absurd (e.differs (all e.word e.has))
 
       -- the first that does is the separating word
-      pub separating : Ascend words → (x : List ℕ) → IsFirst kind a b words x → IsSeparating kind a b x (weight_of kind a x) (weight_of kind b x)
+      pub separating : Ascend words → (x : List ℕ) → IsFirstApart kind a b words x → IsSeparating kind a b x (weight_of kind a x) (weight_of kind b x)
       separating ascend x first = record {
         separates = record {
           first = (word_weight kind a single_a values_a x (weight_of kind a x)).1 refl;

@@ -8,14 +8,11 @@ use Rattle.fst_semiring.specs.declared.arc_type.ArcType.{ArcType}
 use Rattle.fst_machine.specs.BreadthFirst.{Has}
 use Rattle.fst_machine.specs.Graph.{Graph}
 use Rattle.fst_setops.specs.Closing.{IsNowhere}
-use Rattle.fst_setops.specs.Found.{IsFound}
-use Rattle.fst_setops.specs.Kept.{AreSlots, IsKnown, IsKnownTwice, Node, Slot, word_total}
+use Rattle.fst_setops.specs.Kept.{AreSlots, IsKnown, IsKnownTwice, IsPutOrCovered, Node, Slot, word_total}
 use Rattle.fst_setops.specs.Led.{begin_of}
 use Rattle.fst_setops.specs.PairNumbers.{same_pair}
 use Rattle.fst_setops.specs.Separating.{Pair}
 use Rattle.fst_setops.specs.Sought.{AreWords, HasWord, IsSought}
-use Rattle.fst_setops.specs.declared.search.Found.{Found}
-use Rattle.fst_setops.specs.declared.search.Found.TheVariants.{Put, Known}
 use Rattle.fst_setops.proofs.Searching.{search_begins}
 
 -- the first pair is put
@@ -24,9 +21,9 @@ first_pair limit old new key None some empty put full = absurd (let f = (full re
 first_pair limit old new key (Some r) some empty put full = put ∙ ap (λ ps. with_key same_pair ps key) empty
 
 -- and the first word
-pub first_put : {V : Type 0} (kind : ArcType) (value : V → Cost) (old new : List (Node V)) (n : Node V) (found : Found) → old ≡ [] → IsFound kind value old new n found → new ≡ n ∷ []
-first_put kind value old new n Put empty h = h ∙ ap (λ ns. ns ++ n ∷ []) empty
-first_put {V} kind value old new n Known empty h = absurd (by h.1)
+pub first_put : {V : Type 0} (kind : ArcType) (value : V → Cost) (old new : List (Node V)) (n : Node V) → old ≡ [] → IsPutOrCovered kind value old new n → new ≡ n ∷ []
+first_put kind value old new n empty (inl h) = h ∙ ap (λ ns. ns ++ n ∷ []) empty
+first_put {V} kind value old new n empty (inr h) = absurd (by h.1)
   where
     never : (i : ℕ) (m : Node V) → slice_get old i ≡ Some m → ⊥
     never i m at = let f : None ≡ Some m = sym (ap (λ ns. slice_get ns i) empty) ∙ at in cc

@@ -11,7 +11,7 @@ use Rattle.fst_machine.proofs.Elements.{Apart_within, Has_at, at_Has}
 use Rattle.fst_trim.specs.Weighed.{IsWeighted}
 use Rattle.fst_trim.specs.WordWeights.{IsSingle, SameWords}
 use Rattle.fst_trim.proofs.Rearranged.{read_inside}
-use Rattle.fst_setops.specs.Closing.{IsClosed, IsFirst, pair_of}
+use Rattle.fst_setops.specs.Closing.{IsClosed, IsFirstApart, pair_of}
 use Rattle.fst_setops.specs.Kept.{Node, Slot, most_words}
 use Rattle.fst_setops.specs.Led.{weight_of}
 use Rattle.fst_setops.specs.Separating.{HasMorePairs, IsSeparating, Pair}
@@ -90,7 +90,7 @@ module _ {V : Type 0} (kind : ArcType) (value : V → Cost) (g h : Graph ℕ) (m
     ended_separates place is word one other spelled weights =
         let n : IsNoted kind g h (words_of nodes) e.taken (Some place) = subst (IsNoted kind g h (words_of nodes) e.taken) is e.noted in
         let a = around (words_of nodes) place n.0 n.1 in
-        let first : IsFirst kind g h (words_of nodes) n.0 = record { before = a.before; behind = a.behind; parts = a.parts; same = λ y has. (let k = a.early y has in n.3 k.0 y k.1 k.2); differs = n.2 } in
+        let first : IsFirstApart kind g h (words_of nodes) n.0 = record { before = a.before; behind = a.behind; parts = a.parts; same = λ y has. (let k = a.early y has in n.3 k.0 y k.1 k.2); differs = n.2 } in
         let found = separating kind g h weighted_g weighted_h cancel (words_of nodes) closed e.sought.searching.begins single_g single_h e.sought.searching.ascend n.0 first in
         let same : n.0 ≡ word = sym (spelled ∙ get_or_from_slice_get (words_of nodes) place n.0 [] n.1) in
         let w = weights n.0 n.1 in

@@ -75,7 +75,7 @@ module _ {N M : Type 0} (kind : ArcType) (a : Graph N) (b : Graph M) where
   Differ w = weight_of kind a w ≢ weight_of kind b w
 
   -- the words before it have the same weights, and its own differ
-  pub record IsFirst (words : List (List ℕ)) (x : List ℕ) : Type 0 where
+  pub record IsFirstApart (words : List (List ℕ)) (x : List ℕ) : Type 0 where
     pub before : List (List ℕ)
     pub behind : List (List ℕ)
     pub parts : words ≡ before ++ x ∷ behind

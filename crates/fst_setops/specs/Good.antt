@@ -15,6 +15,7 @@ use Rattle.fst_machine.proofs.Valued.{IsMachine-valued}
 use Rattle.fst_trim.proofs.Weighed.{machine_arc}
 use Rattle.fst_walk.specs.Names.{IsGoodArc, IsNear}
 use Rattle.fst_setops.specs.Difference.{Rest, followed, next_by, rest_arc, subtraction}
+use Rattle.fst_setops.specs.SameStates.{own_state, tells_state}
 
 -- the states of a name are states of these machines
 abbrev pub IsInside : {V : Type 0} → Machine V → Machine V → Rest ℕ ℕ → Type 0
@@ -41,7 +42,9 @@ module _ {V : Type 0} (value : V → Cost) (a b : Machine V) (left : IsMachine v
   followed_inside : (label : ℕ) (s : Option ℕ) → IfSome s (λ q. q < length b.states) → IfSome (followed (graph_of (valued value b)) label s) (λ q. q < length b.states)
   followed_inside zero s inside = inside
   followed_inside (suc l) None inside = tt
-  followed_inside (suc l) (Some q) inside = next_inside (length b.states) (suc l) ((graph_of (valued value b)).arcs q) (λ k x at. subst (λ (n : ℕ). x.next < n) (length-map b.states (valued_state value)) (second_arc q k x at).next)
+  followed_inside (suc l) (Some q) inside =
+      next_inside (length b.states) (suc l) ((graph_of (valued value b)).arcs q)
+      (λ k x at. subst (λ (n : ℕ). x.next < n) (length-map b.states (valued_state value)) (second_arc q k x at).next)
 
   -- an arc of a name comes from one of its first state
   from_first : (n : Rest ℕ ℕ) (k : ℕ) (arc : Arc Cost (Rest ℕ ℕ)) → slice_get ((subtraction value a b).arcs n) k ≡ Some arc
@@ -79,17 +82,6 @@ module _ {V : Type 0} (value : V → Cost) (a b : Machine V) (left : IsMachine v
 abbrev pub same_name : Rest ℕ ℕ → Rest ℕ ℕ → Bool
 same_name a b = eqb a.first b.first && option_eq eqb a.second b.second
 
--- second parts that compare as equal are one
-same_second : (s t : Option ℕ) → option_eq eqb s t ≡ true → s ≡ t
-same_second None None e = refl
-same_second None (Some q) e = absurd (cc)
-same_second (Some p) None e = absurd (cc)
-same_second (Some p) (Some q) e = ap Some (eqb-true p q e)
-
-own_second : (s : Option ℕ) → option_eq eqb s s ≡ true
-own_second None = refl
-own_second (Some p) = eq-eqb p p refl
-
 -- names that compare as equal are one
 pub same_decides : (a b : Rest ℕ ℕ) → Decides (same_name a b) (a ≡ b)
 same_decides a b = (tells, λ e. subst (λ (n : Rest ℕ ℕ). same_name a n ≡ true) e own)
@@ -97,7 +89,7 @@ same_decides a b = (tells, λ e. subst (λ (n : Rest ℕ ℕ). same_name a n ≡
     tells : same_name a b ≡ true → a ≡ b
     tells e =
         let both = and_parts _ _ e in
-        λ i. record { first = eqb-true a.first b.first both.0 i; second = same_second a.second b.second both.1 i }
+        λ i. record { first = eqb-true a.first b.first both.0 i; second = tells_state a.second b.second both.1 i }
 
     own : same_name a a ≡ true
-    own = rw (eq-eqb a.first a.first refl, own_second a.second) refl
+    own = rw (eq-eqb a.first a.first refl, own_state a.second) refl

@@ -4,7 +4,7 @@ pub mod Verdicts
 pub mod Led
 pub mod Closing
 pub mod Kept
-pub mod Found
+pub mod SameStates
 pub mod PairNumbers
 pub mod Ways
 pub mod Sought

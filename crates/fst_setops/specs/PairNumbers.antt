@@ -1,8 +1,9 @@
 -- The number by which a pair of states is found.
-use Rattle.std.proofs.Common.{◌≡◌, ℕ, ◌+◌, ◌*◌, Bool, true, Option, None, Some, ◌&&◌, eqb, nat_lt, if◌then◌else◌, refl, ap, subst}
+use Rattle.std.proofs.Common.{◌≡◌, ℕ, ◌+◌, ◌*◌, Bool, true, Option, None, Some, ◌&&◌, eqb, nat_lt, if◌then◌else◌, refl, subst}
 use Rattle.std.specs.Bool.{Decides}
 use Rattle.std.specs.Option.{option_eq}
-use Rattle.std.proofs.lemmas.Bool.{and_parts, eq-eqb, eqb-true}
+use Rattle.std.proofs.lemmas.Bool.{and_parts}
+use Rattle.fst_setops.specs.SameStates.{own_state, tells_state}
 use Rattle.fst_setops.specs.Separating.{Pair}
 
 -- a state as a part of a number: 0 where there is none, and else the state after it, where it has room
@@ -22,16 +23,6 @@ pair_number p = parts_number (part_of p.first) (part_of p.second)
 -- whether two pairs are one
 abbrev pub same_pair : Pair ℕ ℕ → Pair ℕ ℕ → Bool
 same_pair a b = option_eq eqb a.first b.first && option_eq eqb a.second b.second
-
-tells_state : (a b : Option ℕ) → option_eq eqb a b ≡ true → a ≡ b
-tells_state None None e = refl
-tells_state None (Some b) e = absurd (cc)
-tells_state (Some a) None e = absurd (cc)
-tells_state (Some a) (Some b) e = ap Some (eqb-true a b e)
-
-own_state : (a : Option ℕ) → option_eq eqb a a ≡ true
-own_state None = refl
-own_state (Some a) = eq-eqb a a refl
 
 -- pairs that compare as equal are one
 pub pair_decides : (a b : Pair ℕ ℕ) → Decides (same_pair a b) (a ≡ b)

@@ -23,10 +23,14 @@ words_of [] = []
 words_of (n ∷ nodes) = words_behind ([] ∷ []) nodes
 
 module _ (kind : ArcType) (g h : Graph ℕ) where
-  -- No word before this place separates; or the one in the place noted does, and none before it.
+  -- no word before this place separates
+  abbrev pub NoneBefore : List (List ℕ) → ℕ → Type 0
+  NoneBefore words place = (i : ℕ) (u : List ℕ) → i < place → slice_get words i ≡ Some u → weight_of kind g u ≡ weight_of kind h u
+
+  -- no word that was taken separates; or the one in the place noted does, and none before it
   abbrev pub IsNoted : List (List ℕ) → ℕ → Option ℕ → Type 0
-  IsNoted words taken None = (i : ℕ) (u : List ℕ) → i < taken → slice_get words i ≡ Some u → weight_of kind g u ≡ weight_of kind h u
-  IsNoted words taken (Some place) = (x : List ℕ) × (slice_get words place ≡ Some x) × Differ kind g h x × ((i : ℕ) (u : List ℕ) → i < place → slice_get words i ≡ Some u → weight_of kind g u ≡ weight_of kind h u)
+  IsNoted words taken None = NoneBefore words taken
+  IsNoted words taken (Some place) = (x : List ℕ) × (slice_get words place ≡ Some x) × Differ kind g h x × NoneBefore words place
 
 module _ {V : Type 0} (kind : ArcType) (value : V → Cost) (g h : Graph ℕ) where
   -- The node is that of a word: it has its pair, and the two products with which the word leads there.
@@ -55,17 +59,18 @@ module _ {V : Type 0} (kind : ArcType) (value : V → Cost) (g h : Graph ℕ) wh
     pub nowhere : (n : Pair ℕ ℕ) → Has pairs n → IsNowhere n → (g.start ≡ None) × (h.start ≡ None)
     pub words : AreWords pairs nodes
 
-  -- The word of this node is being taken, whose states have these arcs: the labels of those before two places are behind it.
-  pub record IsTaking {W : Type 0} (weight : W → Cost) (most : ℕ) (pairs : List (Pair ℕ ℕ)) (slots : List Slot) (nodes : List (Node V)) (taken : ℕ) (node : Node V) (firsts seconds : List (Arc W ℕ)) (x y : ℕ) : Type 0 where
-    pub label : ℕ
-    pub pair : Pair ℕ ℕ
-    pub there : slice_get nodes taken ≡ Some node
-    pub of : slice_get pairs node.pair ≡ Some pair
-    pub sought : IsSought most pairs slots nodes taken label
-    pub first_arcs : map (valued_arc weight) firsts ≡ arcs_of g pair.first
-    pub second_arcs : map (valued_arc weight) seconds ≡ arcs_of h pair.second
-    pub first : IsCut (arcs_of g pair.first) x label
-    pub second : IsCut (arcs_of h pair.second) y label
+  module _ {W : Type 0} (weight : W → Cost) (most : ℕ) (pairs : List (Pair ℕ ℕ)) (slots : List Slot) (nodes : List (Node V)) (taken : ℕ) where
+    -- The word of this node is being taken, whose states have these arcs: the labels of those before two places are behind it.
+    pub record IsTaking (node : Node V) (firsts seconds : List (Arc W ℕ)) (x y : ℕ) : Type 0 where
+      pub label : ℕ
+      pub pair : Pair ℕ ℕ
+      pub there : slice_get nodes taken ≡ Some node
+      pub of : slice_get pairs node.pair ≡ Some pair
+      pub sought : IsSought most pairs slots nodes taken label
+      pub first_arcs : map (valued_arc weight) firsts ≡ arcs_of g pair.first
+      pub second_arcs : map (valued_arc weight) seconds ≡ arcs_of h pair.second
+      pub first : IsCut (arcs_of g pair.first) x label
+      pub second : IsCut (arcs_of h pair.second) y label
 
   -- the weights of the word in a place
   abbrev pub AreWeights : List (List ℕ) → ℕ → V → V → Type 0

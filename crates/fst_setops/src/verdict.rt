@@ -15,7 +15,7 @@ pub enum Verdict<W: Weight> {
     Separated {
         /// The word.
         word: Labels,
-        /// Its weight in the first acceptor, Zero where no successful path has it. Its numbers have absolute value below 2
+        /// Its weight in the first acceptor, Zero where no successful path has it. Its numbers have absolute value at most 2
         /// to the 84.
         first: W::Wide,
         /// Its weight in the second.

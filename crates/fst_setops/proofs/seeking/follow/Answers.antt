@@ -4,7 +4,7 @@ use Rattle.fst_setops.specs.Followed.{ArePut, ends}
 use Rattle.fst_semiring.specs.Semiring.{times}
 use Rattle.fst_setops.specs.Kept as kept
 use Rattle.fst_setops.specs.Ways.{arc_weight}
-use Rattle.fst_setops.proofs.Putting.{not_listed, pair_put, word_found}
+use Rattle.fst_setops.proofs.Putting.{not_listed, pair_put}
 use Rattle.fst_setops.proofs.seeking.follow.Goals as goal
 
 pub returns-in_default-clause-followed : goal.returns-in_default-clause-followed
@@ -29,5 +29,5 @@ returns-clause-followed g c =
       label_is = refl;
       first = c.product.ensures.product ∙ ap (λ v. times g.W.Weight.KIND (g.W.Weight.wide_value v) (arc_weight g.W.Weight.value c.args.way.first)) first;
       second = c.product-2.ensures.product ∙ ap (λ v. times g.W.Weight.KIND (g.W.Weight.wide_value v) (arc_weight g.W.Weight.value c.args.way.second)) second;
-      found = word_found g.W.Weight.KIND g.W.Weight.wide_value c.args.search.now.nodes.items c.put_word.new.nodes.items word c.in_ok-put_word.field-0 c.in_ok-put_word.ensures.word;
+      found = c.in_ok-put_word.ensures.word;
     }
