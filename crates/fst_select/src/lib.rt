@@ -7,9 +7,13 @@
 
 mod fault;
 pub mod laws;
+mod outlook;
 mod pruning;
+mod refusing;
 mod surveying;
 mod thinning;
+mod unique_fault;
 
 pub use fault::PruneFault;
 pub use pruning::prune;
+pub use unique_fault::UniqueFault;

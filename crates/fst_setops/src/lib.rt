@@ -34,4 +34,5 @@ pub use equivalent_fault::EquivalentFault;
 pub use fault::{DifferenceFault, IntersectFault};
 pub use intersecting::intersect;
 pub use subtracting::difference;
+pub use unweighted::epsilon_at;
 pub use verdict::{Labels, Verdict};
