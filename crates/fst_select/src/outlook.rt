@@ -13,7 +13,7 @@ ghost use Rattle.fst_determinize.specs.Kept.{IsModest, member_as};
 ghost use Rattle.fst_determinize.specs.Subsets.{IsSubset};
 ghost use Rattle.fst_determinize.specs.Weighed.{AreMembers};
 ghost use Rattle.fst_nbest.specs.FirstPaths.{IfImproving};
-ghost use Rattle.fst_nbest.specs.Ready.{count_in, dist_in};
+ghost use Rattle.fst_nbest.specs.Ready.{count_in, dist_in, most_distance};
 ghost use Rattle.fst_select.specs.Keys.{IsShortest, best_total};
 ghost use Rattle.fst_select.specs.Outlook.{IsDue, IsOutlook, most_by};
 
@@ -100,6 +100,15 @@ impl<'a, W: SubsetWeight> Outlook<'a, W> {
         self.fst
     }
 
+    /// The distance of a state to the final states.
+    fn distance(&self, state: u32) -> W::Wide
+        requires { state < length self.now.machine.states }
+        ensures same { W.wide_value result ≡ dist_in W.wide_value self.now.dist state }
+        ensures range { Within most_distance (W.wide_value result) }
+    {
+        self.dist[state as usize]
+    }
+
     /// The weight of the best way on from a member, behind a prefix with this product.
     fn through(&self, by: W::Wide, member: &Held<W::Wide>) -> W::Wide
         requires state { member.now.state < length self.now.machine.states }
@@ -107,8 +116,8 @@ impl<'a, W: SubsetWeight> Outlook<'a, W> {
         requires range { Within most_by (W.wide_value by) }
         ensures { W.wide_value result ≡ times W.KIND (W.wide_value by) (times W.KIND (W.wide_value member.now.residual) (dist_in W.wide_value self.now.dist member.now.state)) }
     {
-        let ahead = self.dist[member.state as usize];
-        W::wide_times(by, W::wide_times(member.residual, ahead))
+        let rest = W::wide_times(member.residual, self.distance(member.state));
+        W::wide_times(by, rest)
     }
 
     /// The weight of the best string that begins with a prefix, which has this product and this subset; Zero where there
