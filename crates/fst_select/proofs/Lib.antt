@@ -5,3 +5,6 @@ pub mod PrunedPaths
 pub mod SurveyedGraph
 pub mod ThinnedPaths
 pub mod ThinnedMachine
+pub mod Prefixes
+pub mod StateCounts
+pub mod LeastLeft

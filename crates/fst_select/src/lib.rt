@@ -7,9 +7,15 @@
 
 mod fault;
 pub mod laws;
+mod outlook;
 mod pruning;
+mod refusing;
+mod strings;
 mod surveying;
 mod thinning;
+mod unique_fault;
 
 pub use fault::PruneFault;
 pub use pruning::prune;
+pub use strings::{StringWeight, Strings};
+pub use unique_fault::UniqueFault;
