@@ -1,7 +1,8 @@
 //! The n best paths of a weighted machine.
 //!
 //! `nbest` lists the first n successful paths: by weight, then by the number of arcs, then by the places of the arcs.
-//! `chains` makes a machine of listed paths, in which each path is a chain of states of its own.
+//! `chains` makes a machine of listed paths, in which each path is a chain of states of its own. `chain_machine` makes it of
+//! chains from any source.
 //!
 //! Inside, a machine is seen as a graph of names whose words are its paths, by the trait `System`: where factors cancel
 //! as a whole, with the distances of its states (`path_system`), and in min-max one total weight after the other
@@ -9,6 +10,7 @@
 #![tactic(auto)]
 
 mod by_class;
+mod chain_source;
 mod chaining;
 mod class_back;
 mod class_system;
@@ -23,6 +25,7 @@ mod laws;
 mod measured;
 mod naming;
 mod orders;
+mod path_chains;
 mod path_system;
 mod sweeping;
 mod system;
@@ -33,7 +36,9 @@ mod turns;
 mod values;
 mod walking;
 
-pub use chaining::{ChainsFault, chains};
+pub use chain_source::ChainSource;
+pub use chaining::{ChainsFault, chain_machine};
 pub use fault::NbestFault;
 pub use first_paths::{nbest, nbest_wide};
 pub use laws::one_answer;
+pub use path_chains::chains;
