@@ -5,3 +5,4 @@ pub mod PrunedPaths
 pub mod SurveyedGraph
 pub mod ThinnedPaths
 pub mod ThinnedMachine
+pub mod StringChains
