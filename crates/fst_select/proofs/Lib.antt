@@ -8,3 +8,4 @@ pub mod ThinnedMachine
 pub mod Prefixes
 pub mod StateCounts
 pub mod LeastLeft
+pub mod StringChains

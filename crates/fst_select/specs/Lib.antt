@@ -6,6 +6,7 @@ pub mod Keys
 pub mod Outlook
 pub mod Pruned
 pub mod Refusals
+pub mod StringChains
 pub mod Strings
 pub mod Surveyed
 pub mod Thinned

@@ -3,8 +3,12 @@
 //! `prune` keeps what good paths meet: those whose weight is no worse than the best Times a threshold. What a good path
 //! is, and what is kept, stands in `specs/Good.antt` and `specs/Pruned.antt`; that two distances of each state say which
 //! arcs lie on good paths is a law over graphs of any kind of name, which `laws` asks for.
+//!
+//! `string_chains` makes a machine of listed strings, in which each string is a chain of states of its own, as `chains` of
+//! `fst_nbest` does of listed paths (`specs/StringChains.antt`).
 #![tactic(auto)]
 
+mod chaining;
 mod fault;
 pub mod laws;
 mod outlook;
@@ -15,6 +19,7 @@ mod surveying;
 mod thinning;
 mod unique_fault;
 
+pub use chaining::{StringChainsFault, string_chains};
 pub use fault::PruneFault;
 pub use pruning::prune;
 pub use strings::{StringWeight, Strings};
