@@ -8,8 +8,16 @@
 mod fault;
 pub mod laws;
 mod pruning;
+mod string_chains;
+mod strings;
 mod surveying;
 mod thinning;
+mod unique;
+mod unique_fault;
 
 pub use fault::PruneFault;
 pub use pruning::prune;
+pub use string_chains::{StringChainsFault, string_chains};
+pub use strings::{StringWeight, Strings};
+pub use unique::unique_nbest;
+pub use unique_fault::UniqueFault;

@@ -1,0 +1,10 @@
+use Rattle.std.proofs.Common.{◌≡◌, ◌<◌, ◌+◌, drop, map}
+use Rattle.fst_machine.specs.Machine.{most_states}
+use Rattle.fst_select.specs.Strings.{labels_listed, weighted}
+use Rattle.fst_select.proofs.string_chains.are_too_long.Given as goal
+
+abbrev pub invariant-loop-i : goal.invariant-loop-i
+invariant-loop-i g l = record {
+  counted : l.count + labels_listed (map (weighted g.W.Weight.wide_value) (drop l.i l.strings)) ≡ labels_listed (map (weighted g.W.Weight.wide_value) l.strings);
+  few : l.count < most_states;
+}
