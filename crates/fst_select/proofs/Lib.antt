@@ -5,3 +5,11 @@ pub mod PrunedPaths
 pub mod SurveyedGraph
 pub mod ThinnedPaths
 pub mod ThinnedMachine
+pub mod SubsetKeys
+pub mod Countings
+pub mod BranchFronts
+pub mod PlainStrings
+pub mod Frontiers
+pub mod SearchFronts
+pub mod Stricts
+pub mod Reorders

@@ -8,8 +8,10 @@
 mod fault;
 pub mod laws;
 mod pruning;
+mod strings;
 mod surveying;
 mod thinning;
 
 pub use fault::PruneFault;
 pub use pruning::prune;
+pub use strings::{StringWeight, Strings};
