@@ -13,3 +13,8 @@ pub mod Frontiers
 pub mod SearchFronts
 pub mod Stricts
 pub mod Reorders
+pub mod PrefixBounds
+pub mod PrefixArcs
+pub mod Shortest
+pub mod OpenParts
+pub mod Parted

@@ -8,3 +8,4 @@ pub mod Refusals
 pub mod Strings
 pub mod Surveyed
 pub mod Thinned
+pub mod Parting
