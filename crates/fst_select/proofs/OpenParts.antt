@@ -27,6 +27,15 @@ at_end : {X : Type 0} (xs : List X) (x : X) → slice_get (xs ++ x ∷ []) (leng
 at_end [] x = refl
 at_end (y ∷ xs) x = at_end xs x
 
+-- one element less is left of a list, and one more is done
+pub one_done : {X Y : Type 0} (f : X → Y) (all done : List Y) (left rest : List X) (x : X) → left ≡ rest ++ x ∷ [] → all ≡ map f left ++ done → all ≡ map f rest ++ f x ∷ done
+one_done f all done left rest x e h =
+    h ∙ (ap (λ (xs : List _). map f xs ++ done) e ∙ (ap (λ (ys : List _). ys ++ done) (map-append f rest (x ∷ [])) ∙ append_assoc (map f rest) (f x ∷ []) done))
+
+-- an element stands where it is between others
+pub between : {X : Type 0} (all front back : List X) (x : X) → all ≡ front ++ x ∷ back → Has all x
+between all front back x e = subst (λ (xs : List _). Has xs x) (sym e) (Has-append_right front (x ∷ back) x (inl refl))
+
 -- numbers that are one more than others are apart where these are
 apart_more : {X : Type 0} (f h : X → ℕ) (xs : List X) → ((x : X) → Has xs x → h x ≡ suc (f x)) → Apart (map f xs) → Apart (map h xs)
 apart_more f h [] same apart = tt
@@ -80,14 +89,16 @@ module _ {D : Type 0} (kind : ArcType) (g : Graph ℕ) (d : ℕ → Cost) (due :
         each = λ f h. each f (Has-append_cases parts (e ∷ []) f h);
         labels = λ f h. labels f (Has-append_cases parts (e ∷ []) f h);
         all = all;
-        apart = subst (λ (ns : List ℕ). Apart ns) (sym (map-append (λ (f : Entry D). f.tail) parts (e ∷ []))) (Apart-push (map (λ (f : Entry D). f.tail) parts) e.tail before.apart (λ h. again (map_Has (λ (f : Entry D). f.tail) parts e.tail h)));
+        apart = subst (λ (ns : List ℕ). Apart ns) (sym (map-append (λ (f : Entry D). f.tail) parts (e ∷ [])))
+            (Apart-push (map (λ (f : Entry D). f.tail) parts) e.tail before.apart (λ h. again (map_Has (λ (f : Entry D). f.tail) parts e.tail h)));
       }
         where
           own : IsOpenPart kind g d due value x owner depth (subsets ++ a.next ∷ []) e
           own = record {
             members = a.next;
             there = ap (slice_get (subsets ++ a.next ∷ [])) slot ∙ at_end subsets a.next;
-            subset = subst (λ (w : Cost). IsSubset kind g (x ++ e.tail ∷ []) w a.next) (sym weight) (subst (λ (l : ℕ). IsSubset kind g (x ++ l ∷ []) (times kind best a.weight) a.next) (sym tail) leads);
+            subset = subst (λ (w : Cost). IsSubset kind g (x ++ e.tail ∷ []) w a.next) (sym weight)
+                (subst (λ (l : ℕ). IsSubset kind g (x ++ l ∷ []) (times kind best a.weight) a.next) (sym tail) leads);
             goes = goes;
           }
 
@@ -160,7 +171,8 @@ module _ {D : Type 0} (kind : ArcType) (g : Graph ℕ) (d : ℕ → Cost) (due :
         subset = is;
         each = λ f there. each f (Has-append_cases parts (e ∷ []) f there);
         apart = subst (λ (ns : List ℕ). Apart ns) (sym (map-append part_number parts (e ∷ [])))
-            (Apart-push (map part_number parts) (part_number e) (apart_more (λ (f : Entry D). f.tail) part_number parts number_is h.apart) (λ there. again (map_Has part_number parts (part_number e) there)));
+            (Apart-push (map part_number parts) (part_number e) (apart_more (λ (f : Entry D). f.tail) part_number parts number_is h.apart)
+            (λ there. again (map_Has part_number parts (part_number e) there)));
         stops = λ w says. (e, Has-append_right parts (e ∷ []) e (inl refl), closed.closed);
         goes = λ label rest w says. let f = goes label rest w says in (f.0, Has-append_left parts (e ∷ []) f.0 f.1, f.2, f.3);
       }

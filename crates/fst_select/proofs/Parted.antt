@@ -233,7 +233,8 @@ module _ {D : Type 0} (kind : ArcType) (g : Graph ℕ) (weighted : IsWeighted ki
       let rest = faces es (λ k there. inside k (inr there)) apart.1 in
       let apart_from : (f : Front) → Has rest.fronts f → Disjoint own.0 f = λ f there.
           let k = rest.from f there in
-          faces_disjoint e k.0 own.0 f (inside e (inl refl)) (inside k.0 (inr k.1)) own.1 k.2 (λ equal. apart.0 (subst (λ (n : ℕ). Has (map part_number es) n) (sym equal) (Has_map part_number es k.0 k.1))) in
+          faces_disjoint e k.0 own.0 f (inside e (inl refl)) (inside k.0 (inr k.1)) own.1 k.2
+          (λ equal. apart.0 (subst (λ (n : ℕ). Has (map part_number es) n) (sym equal) (Has_map part_number es k.0 k.1))) in
       record {
         fronts = own.0 ∷ rest.fronts;
         entries = (own.1.entry, rest.entries);
@@ -255,6 +256,9 @@ module _ {D : Type 0} (kind : ArcType) (g : Graph ℕ) (weighted : IsWeighted ki
       (core : Entry D) (others : List (Entry D)) (moved : IsPermutation parts (core ∷ others)) (least : All (λ e. is_gt (sibling_cmp value core e) ≡ false) others) where
     inside_parts : (e : Entry D) → Has (core ∷ others) e → Has parts e
     inside_parts e there = Has-permutation parts (core ∷ others) e moved there
+
+    among : (e : Entry D) → Has parts e → Has (core ∷ others) e
+    among e there = Has-permutation (core ∷ others) parts e (IsPermutation-sym parts (core ∷ others) moved) there
 
     core_there : Has parts core
     core_there = inside_parts core (inl refl)
@@ -285,10 +289,12 @@ module _ {D : Type 0} (kind : ArcType) (g : Graph ℕ) (weighted : IsWeighted ki
         let holder = in_some word.0 whole.total says.0 in
         let face = has_face holder.0 holder.1 in
         let covers = covers_back holder.0 face.0 holder.1 face.1 word.0 holder.2 in
-        let low : NoLess (value holder.0.total) 0 whole.total 0 = subst (λ (t : Cost). NoLess t 0 whole.total 0) face.1.entry.total (weights_only face.0.total whole.total face.0.long _ (face.1.key.least (x ++ word.0) whole.total covers says)) in
-        let down = NoLess-trans (value core.total) (value holder.0.total) whole.total 0 0 0 (no_worse holder.0 (Has-permutation (core ∷ others) parts holder.0 (IsPermutation-sym parts (core ∷ others) moved) holder.1)) low in
+        let low : NoLess (value holder.0.total) 0 whole.total 0 = subst (λ (t : Cost). NoLess t 0 whole.total 0) face.1.entry.total
+            (weights_only face.0.total whole.total face.0.long _ (face.1.key.least (x ++ word.0) whole.total covers says)) in
+        let down = NoLess-trans (value core.total) (value holder.0.total) whole.total 0 0 0 (no_worse holder.0 (among holder.0 holder.1)) low in
         let best_word = own.1.key in
-        let high = weights_only whole.total own.0.total whole.long _ (key.least best_word.word own.0.total (inside_whole core own.0 core_there own.1 best_word.word best_word.inside) best_word.weighs) in
+        let high = weights_only whole.total own.0.total whole.long _
+            (key.least best_word.word own.0.total (inside_whole core own.0 core_there own.1 best_word.word best_word.inside) best_word.weighs) in
         let up : NoLess whole.total 0 (value core.total) 0 = subst (λ (t : Cost). NoLess whole.total 0 t 0) own.1.entry.total high in
         (NoLess-antisym (value core.total) whole.total 0 0 down up).0
 
@@ -346,7 +352,7 @@ module _ {D : Type 0} (kind : ArcType) (g : Graph ℕ) (weighted : IsWeighted ki
     all b says covers =
         let word = from_whole b.word covers in
         let e = in_some word.0 b.weight (subst (λ (y : List ℕ). WordWeighs kind g y b.weight) word.1 says.0) in
-        let f = find e.0 (Has-permutation (core ∷ others) parts e.0 (IsPermutation-sym parts (core ∷ others) moved) e.1) in
+        let f = find e.0 (among e.0 e.1) in
         (f.0, f.1, subst (Covers f.0) (sym word.1) (covers_back e.0 f.0 e.1 f.2 word.0 e.2))
       where
         find : (e : Entry D) → Has (core ∷ others) e → (f : Front) × Has (front_of value words core ∷ rest_faces.fronts) f × IsFace e f

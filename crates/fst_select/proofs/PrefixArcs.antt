@@ -28,7 +28,8 @@ module _ (kind : ArcType) (g : Graph ℕ) (members : List Member) where
   pub labels_ascend : (front back : List (Arc Cost (List Member))) (a : Arc Cost (List Member)) → arcs_of kind g members ≡ front ++ a ∷ back
       → (b : Arc Cost (List Member)) → Has back b → a.ilabel < b.ilabel
   labels_ascend front back a parts b h =
-      let up : AscendsBy (λ (c : Arc Cost (List Member)). c.ilabel) (arcs_of kind g members) = grouped_ascends (λ (y : Way). y.label) (arc_by kind) (λ c. c.ilabel) (λ label ys. refl) (ways kind g members) in
+      let up : AscendsBy (λ (c : Arc Cost (List Member)). c.ilabel) (arcs_of kind g members)
+            = grouped_ascends (λ (y : Way). y.label) (arc_by kind) (λ c. c.ilabel) (λ label ys. refl) (ways kind g members) in
       ascends_behind (λ c. c.ilabel) front a back (subst (λ (cs : List (Arc Cost (List Member))). AscendsBy (λ c. c.ilabel) cs) parts up) b h
 
   module _ (weighted : IsWeighted kind g) (x : List ℕ) (best : Cost) (is : IsSubset kind g x best members) where
@@ -50,4 +51,5 @@ arc_wide kind value m h members good a there =
     let ys = ways kind (graph_of (valued value m)) members in
     let from = grouped_Has (λ (y : Way). y.label) (arc_by kind) ys a there in
     subst (λ (b : Arc Cost (List Member)). IsWide b.weight) from.2
-    (best_holds (λ (y : Way). y.weight) (λ v. IsWide v) tt (having (λ (y : Way). y.label) from.0.label ys) (λ z k. (ways_good kind value m h members good z (having_Has (λ (y : Way). y.label) from.0.label ys z k).0).1))
+    (best_holds (λ (y : Way). y.weight) (λ v. IsWide v) tt (having (λ (y : Way). y.label) from.0.label ys)
+    (λ z k. (ways_good kind value m h members good z (having_Has (λ (y : Way). y.label) from.0.label ys z k).0).1))

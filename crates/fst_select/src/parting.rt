@@ -38,7 +38,8 @@ fn stop_total<W: SubsetWeight>(fst: &Fst<W>, by: W::Wide, subset: &Subset<W>) ->
     for place in 0..subset.len() {
         let member = member_at::<W>(subset, place);
         let last = fst.final_weight(member.state).widen();
-        let own = W::wide_times(by, W::wide_times(member.residual, last));
+        let rest = W::wide_times(member.residual, last);
+        let own = W::wide_times(by, rest);
         best = W::wide_plus(best, own);
     }
     best
