@@ -18,3 +18,5 @@ pub mod PrefixArcs
 pub mod Shortest
 pub mod OpenParts
 pub mod Parted
+pub mod StateCounts
+pub mod LeastLeft

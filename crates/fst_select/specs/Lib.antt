@@ -3,9 +3,11 @@ pub mod Counting
 pub mod Frontier
 pub mod Good
 pub mod Keys
+pub mod Outlook
 pub mod Pruned
 pub mod Refusals
 pub mod Strings
 pub mod Surveyed
 pub mod Thinned
 pub mod Parting
+pub mod UniqueRefusals

@@ -5,13 +5,19 @@
 //! arcs lie on good paths is a law over graphs of any kind of name, which `laws` asks for.
 #![tactic(auto)]
 
+mod entry;
 mod fault;
 pub mod laws;
+mod outlook;
+mod parting;
 mod pruning;
+mod refusing;
 mod strings;
 mod surveying;
 mod thinning;
+mod unique_fault;
 
 pub use fault::PruneFault;
 pub use pruning::prune;
 pub use strings::{StringWeight, Strings};
+pub use unique_fault::UniqueFault;

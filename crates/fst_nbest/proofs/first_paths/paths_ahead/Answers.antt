@@ -3,7 +3,7 @@ use Rattle.fst_machine.specs.Machine.{valued}
 use Rattle.fst_machine.specs.Graph.{graph_of}
 use Rattle.fst_machine.specs.Steps.{written}
 use Rattle.fst_nbest.specs.FirstPaths.{AreFirstPaths}
-use Rattle.fst_nbest.proofs.first_paths.first_paths.Goals as goal
+use Rattle.fst_nbest.proofs.first_paths.paths_ahead.Goals as goal
 
 pub returns-in_default-clause-first : goal.returns-in_default-clause-first
 returns-in_default-clause-first g c =

@@ -1,5 +1,5 @@
 use Rattle.fst_nbest.proofs.BestHops.{tight_ready}
-use Rattle.fst_nbest.proofs.first_paths.counts_ahead.Goals as goal
+use Rattle.fst_nbest.proofs.looking.counts_ahead.Goals as goal
 
 pub returns : goal.returns
 returns g c =
