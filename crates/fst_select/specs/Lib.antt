@@ -10,4 +10,5 @@ pub mod StringChains
 pub mod Strings
 pub mod Surveyed
 pub mod Thinned
+pub mod Parting
 pub mod UniqueRefusals
