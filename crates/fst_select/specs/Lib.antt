@@ -1,5 +1,13 @@
+pub mod Branches
+pub mod Counting
+pub mod Entries
+pub mod Frontier
 pub mod Good
+pub mod Keys
+pub mod Outlook
 pub mod Pruned
 pub mod Refusals
+pub mod Strings
 pub mod Surveyed
+pub mod Tables
 pub mod Thinned
