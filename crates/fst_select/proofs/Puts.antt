@@ -1,0 +1,80 @@
+-- Elements that are put into two lists, one after the other.
+use Rattle.std.proofs.Common.{◌≡◌, List, [], ◌∷◌, ◌++◌, refl, sym, ap, subst, ◌∙◌, append_assoc, append-nil}
+use Rattle.std.specs.List.{All}
+use Rattle.std.specs.List.Sorted.{IsPermutation}
+use Rattle.std.proofs.lemmas.List.Elements.{All-append, All-cons, All-nil}
+use Rattle.std.proofs.lemmas.List.Sorted.{IsPermutation-append, IsPermutation-append_comm, IsPermutation-append_left, IsPermutation-append_right, IsPermutation-refl, IsPermutation-sym, IsPermutation-trans}
+use Rattle.fst_select.specs.Tables.{ArePut}
+
+module _ {X : Type 0} (Passes : X → Type 0) where
+  pub none_put : (first second : List X) → ArePut Passes [] first second first second
+  none_put first second = record {
+    passing = [];
+    others = [];
+    all = IsPermutation-refl [];
+    pass = All-nil Passes;
+    fail = All-nil (λ (x : X). Passes x → ⊥);
+    first = IsPermutation-refl first;
+    second = IsPermutation-refl second;
+  }
+
+  pub passing_put : (x : X) (first second new : List X) → Passes x → IsPermutation (x ∷ first) new → ArePut Passes (x ∷ []) first second new second
+  passing_put x first second new here put = record {
+    passing = x ∷ [];
+    others = [];
+    all = IsPermutation-refl (x ∷ []);
+    pass = All-cons Passes x [] here (All-nil Passes);
+    fail = All-nil (λ (y : X). Passes y → ⊥);
+    first = put;
+    second = IsPermutation-refl second;
+  }
+
+  pub other_put : (x : X) (first second new : List X) → (Passes x → ⊥) → IsPermutation (x ∷ second) new → ArePut Passes (x ∷ []) first second first new
+  other_put x first second new here put = record {
+    passing = [];
+    others = x ∷ [];
+    all = IsPermutation-refl (x ∷ []);
+    pass = All-nil Passes;
+    fail = All-cons (λ (y : X). Passes y → ⊥) x [] here (All-nil (λ (y : X). Passes y → ⊥));
+    first = IsPermutation-refl first;
+    second = put;
+  }
+
+  -- what is put, then more
+  pub put_then : (xs ys first second mid other new last : List X) → ArePut Passes xs first second mid other → ArePut Passes ys mid other new last → ArePut Passes (xs ++ ys) first second new last
+  put_then xs ys first second mid other new last one two = record {
+    passing = two.passing ++ one.passing;
+    others = two.others ++ one.others;
+    all = IsPermutation-trans (xs ++ ys) (ys ++ xs) ((two.passing ++ one.passing) ++ (two.others ++ one.others)) (IsPermutation-append_comm xs ys)
+        (IsPermutation-trans (ys ++ xs) ((two.passing ++ two.others) ++ (one.passing ++ one.others)) ((two.passing ++ one.passing) ++ (two.others ++ one.others))
+        (IsPermutation-append ys (two.passing ++ two.others) xs (one.passing ++ one.others) two.all one.all)
+        (exchanged two.passing two.others one.passing one.others));
+    pass = All-append Passes two.passing one.passing two.pass one.pass;
+    fail = All-append (λ (x : X). Passes x → ⊥) two.others one.others two.fail one.fail;
+    first = joined one.passing two.passing first mid new one.first two.first;
+    second = joined one.others two.others second other last one.second two.second;
+  }
+    where
+      joined : (us vs zs mid new : List X) → IsPermutation (us ++ zs) mid → IsPermutation (vs ++ mid) new → IsPermutation ((vs ++ us) ++ zs) new
+      joined us vs zs mid new p q =
+          subst (λ (l : List X). IsPermutation l new) (sym (append_assoc vs us zs)) (IsPermutation-trans (vs ++ (us ++ zs)) (vs ++ mid) new (IsPermutation-append_right vs (us ++ zs) mid p) q)
+
+      exchanged : (as bs cs ds : List X) → IsPermutation ((as ++ bs) ++ (cs ++ ds)) ((as ++ cs) ++ (bs ++ ds))
+      exchanged as bs cs ds =
+          let inner : IsPermutation (bs ++ (cs ++ ds)) (cs ++ (bs ++ ds))
+                = subst (λ (l : List X). IsPermutation l (cs ++ (bs ++ ds))) (append_assoc bs cs ds)
+                  (subst (λ (l : List X). IsPermutation ((bs ++ cs) ++ ds) l) (append_assoc cs bs ds) (IsPermutation-append_left ds (bs ++ cs) (cs ++ bs) (IsPermutation-append_comm bs cs))) in
+          subst (λ (l : List X). IsPermutation l ((as ++ cs) ++ (bs ++ ds))) (sym (append_assoc as bs (cs ++ ds)))
+          (subst (λ (l : List X). IsPermutation (as ++ (bs ++ (cs ++ ds))) l) (sym (append_assoc as cs (bs ++ ds))) (IsPermutation-append_right as (bs ++ (cs ++ ds)) (cs ++ (bs ++ ds)) inner))
+
+  -- the same elements in another order
+  pub put_permuted : (xs ys first second new last : List X) → IsPermutation ys xs → ArePut Passes xs first second new last → ArePut Passes ys first second new last
+  put_permuted xs ys first second new last same h = record {
+    passing = h.passing;
+    others = h.others;
+    all = IsPermutation-trans ys xs (h.passing ++ h.others) same h.all;
+    pass = h.pass;
+    fail = h.fail;
+    first = h.first;
+    second = h.second;
+  }
