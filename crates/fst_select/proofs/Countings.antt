@@ -101,10 +101,12 @@ module _ (kind : ArcType) (g : Graph ℕ) (weighted : IsWeighted kind g) (d : �
         long = s.long ∙ h.same;
         least = λ m other has goes.
             let inner : plus (times kind m.residual goes.0) total ≡ times kind m.residual goes.0
-                  = subst (λ (z : Cost). plus (times kind m.residual goes.0) z ≡ times kind m.residual goes.0) (times_comm kind (times kind m.residual goes.0) by ∙ goes.2) (times_worsens kind (times kind m.residual goes.0) by cancel) in
+                  = subst (λ (z : Cost). plus (times kind m.residual goes.0) z ≡ times kind m.residual goes.0) (times_comm kind (times kind m.residual goes.0) by ∙ goes.2)
+                    (times_worsens kind (times kind m.residual goes.0) by cancel) in
             let res : plus m.residual total ≡ m.residual = plus_trans _ _ _ (times_worsens kind m.residual goes.0 cancel) inner in
             let rest : plus goes.0 total ≡ goes.0
-                  = plus_trans _ (times kind m.residual goes.0) _ (subst (λ (z : Cost). plus goes.0 z ≡ goes.0) (times_comm kind goes.0 m.residual) (times_worsens kind goes.0 m.residual cancel)) inner in
+                  = plus_trans _ (times kind m.residual goes.0) _
+                    (subst (λ (z : Cost). plus goes.0 z ≡ goes.0) (times_comm kind goes.0 m.residual) (times_worsens kind goes.0 m.residual cancel)) inner in
             let far_on : plus (d m.state) total ≡ d m.state = plus_trans _ goes.0 _ (ahead_below m other goes.0 has goes.1) rest in
             let own = counts m has far_on in
             let low = own.least other goes.0 goes.1 rest in

@@ -1,6 +1,6 @@
 -- A frontier stays one when an open prefix is taken apart, and when a closed one that comes first is listed.
 use Rattle.std.proofs.Common.{◌≡◌, ◌⊎◌, inl, inr, sym, refl, ap, ap₂, ◌∙◌, subst, ℕ, ◌<◌, ◌≤◌, List, [], ◌∷◌, ◌++◌, length, Bool, true, false, append_assoc, append-nil, arith}
-use Rattle.std.proofs.Common.{Ordering, Less, Equal, Greater}
+use Rattle.std.proofs.Common.{Less, Equal, Greater}
 use Rattle.std.specs.Ordering.{nat_cmp, ordering_then}
 use Rattle.std.specs.Cmp.Lexicographic.{slice_cmp}
 use Rattle.std.proofs.lemmas.List.{length-append}
@@ -202,13 +202,15 @@ module _ (Weighs : List ℕ → Cost → Type 0) where
           let same : listing e ≡ b = λ i. record { word = sym word i; weight = sym weight i } in
           Has-append_right listed (listing e ∷ []) b (inl same)
 
-      found : (b : WeightedWord) → Weighs b.word b.weight → Has listed b ⊎ ((f : Front) × Has (e ∷ es) f × Covers f b.word) → Has (listed ++ listing e ∷ []) b ⊎ ((f : Front) × Has es f × Covers f b.word)
+      found : (b : WeightedWord) → Weighs b.word b.weight → Has listed b ⊎ ((f : Front) × Has (e ∷ es) f × Covers f b.word)
+          → Has (listed ++ listing e ∷ []) b ⊎ ((f : Front) × Has es f × Covers f b.word)
       found b says (inl has) = inl (Has-append_left listed (listing e ∷ []) b has)
       found b says (inr (f, (inl same), inside)) = inl (here b says (subst (λ (z : Front). Covers z b.word) (sym same) inside))
       found b says (inr (f, (inr has), inside)) = inr (f, has, inside)
 
   -- the parts of an open front come in its place, and the first of them comes first where it did
-  pub parts_open : (listed : List WeightedWord) (e : Front) (es : List Front) (first : Front) (others : List Front) → IsFrontier Weighs listed (e ∷ es) → ComesFirst e es → IsParted Weighs e first others
+  pub parts_open : (listed : List WeightedWord) (e : Front) (es : List Front) (first : Front) (others : List Front)
+      → IsFrontier Weighs listed (e ∷ es) → ComesFirst e es → IsParted Weighs e first others
       → IsFrontier Weighs listed (first ∷ (others ++ es)) × ComesFirst first (others ++ es)
   parts_open listed e es first others h leads p = (record {
     ascends = h.ascends;
@@ -230,7 +232,8 @@ module _ (Weighs : List ℕ → Cost → Type 0) where
       in_parts : (b : WeightedWord) → (f : Front) × Has (first ∷ others) f × Covers f b.word → (f : Front) × Has ((first ∷ others) ++ es) f × Covers f b.word
       in_parts b (f, has, inside) = (f, Has-append_left (first ∷ others) es f has, inside)
 
-      found : (b : WeightedWord) → Weighs b.word b.weight → Has listed b ⊎ ((f : Front) × Has (e ∷ es) f × Covers f b.word) → Has listed b ⊎ ((f : Front) × Has ((first ∷ others) ++ es) f × Covers f b.word)
+      found : (b : WeightedWord) → Weighs b.word b.weight → Has listed b ⊎ ((f : Front) × Has (e ∷ es) f × Covers f b.word)
+          → Has listed b ⊎ ((f : Front) × Has ((first ∷ others) ++ es) f × Covers f b.word)
       found b says (inl has) = inl has
       found b says (inr (f, (inl same), inside)) = inr (in_parts b (p.all b says (subst (λ (z : Front). Covers z b.word) (sym same) inside)))
       found b says (inr (f, (inr has), inside)) = inr (f, Has-append_right (first ∷ others) es f has, inside)

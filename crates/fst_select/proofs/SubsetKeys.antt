@@ -1,5 +1,5 @@
 -- The subset of a prefix tells what is ahead of it.
-use Rattle.std.proofs.Common.{◌≡◌, ◌≢◌, ◌⊎◌, inl, inr, sym, refl, ap, ap₂, ◌∙◌, subst, ℕ, ◌≤◌, List, [], ◌∷◌, ◌++◌, length, append-nil}
+use Rattle.std.proofs.Common.{◌≡◌, ◌≢◌, ◌⊎◌, inl, inr, sym, refl, ap, ap₂, ◌∙◌, subst, ℕ, ◌≤◌, List, [], ◌++◌, length, append-nil}
 use Rattle.fst_semiring.specs.Cost.{Cost, infinite, plus}
 use Rattle.fst_semiring.specs.declared.arc_type.ArcType.{ArcType}
 use Rattle.fst_semiring.specs.Semiring.{times}
@@ -22,7 +22,7 @@ use Rattle.fst_determinize.proofs.Best.{best_least, least_reached}
 use Rattle.fst_determinize.proofs.Members.{member_stands}
 use Rattle.fst_determinize.proofs.Spelling.{no_word, spells_weighs, word_split}
 use Rattle.fst_distance.proofs.Potential.{zero_or_not}
-use Rattle.fst_select.specs.Keys.{GoesTo, IsShortest, PrefixLaws, best_total}
+use Rattle.fst_select.specs.Keys.{IsShortest, PrefixLaws, best_total}
 use Rattle.fst_select.specs.Strings.{PrefixWeighs}
 use Rattle.fst_select.proofs.GoodPaths.{product_solid}
 
@@ -79,9 +79,12 @@ module _ (kind : ArcType) (g : Graph ℕ) (weighted : IsWeighted kind g) where
       leads = IsPath-append g s.path c.path s.first q c.last s.leads c.leads;
       final = c.final;
       word = sym (ap label_word (letters-append s.path c.path) ∙ (label_word-append (letters s.path) (letters c.path) ∙ ap₂ (◌++◌) s.reads (sym c.word)));
-      weight = ap₂ (times kind) s.weight c.weight ∙ (sym (times_assoc kind _ _ _) ∙ ap (λ (z : Cost). times kind z (g.final c.last)) (sym (ap (product kind) (letters-append s.path c.path) ∙ product-append kind (letters s.path) (letters c.path))));
+      weight = ap₂ (times kind) s.weight c.weight ∙ (sym (times_assoc kind _ _ _) ∙ ap (λ (z : Cost). times kind z (g.final c.last)) (sym products));
     };
   }
+    where
+      products : product kind (letters (s.path ++ c.path)) ≡ times kind (product kind (letters s.path)) (product kind (letters c.path))
+      products = ap (product kind) (letters-append s.path c.path) ∙ product-append kind (letters s.path) (letters c.path)
 
   module _ (x : List ℕ) (by : Cost) (members : List Member) (is : IsSubset kind g x by members) where
     -- what a member stands for: the best weight by which the word reaches its state
@@ -115,7 +118,9 @@ module _ (kind : ArcType) (g : Graph ℕ) (weighted : IsWeighted kind g) where
           let back = least_below (Goes q) (ahead q) u (surest q v s) goes in
           let both : plus (times kind (times kind by has.0) (ahead q)) (times kind v u) ≡ times kind (times kind by has.0) (ahead q)
                 = plus_trans _ (times kind v (ahead q)) _ (keeps_times kind (ahead q) _ v front) (times_keeps kind v (ahead q) u back) in
-          let own : plus (weigh m) w ≡ weigh m = subst (λ (z : Cost). plus z w ≡ z) (times_assoc kind by has.0 (ahead q)) (subst (λ (z : Cost). plus (times kind (times kind by has.0) (ahead q)) z ≡ times kind (times kind by has.0) (ahead q)) (sym weight) both) in
+          let outer : plus (times kind (times kind by has.0) (ahead q)) w ≡ times kind (times kind by has.0) (ahead q)
+                = subst (λ (z : Cost). plus (times kind (times kind by has.0) (ahead q)) z ≡ times kind (times kind by has.0) (ahead q)) (sym weight) both in
+          let own : plus (weigh m) w ≡ weigh m = subst (λ (z : Cost). plus z w ≡ z) (times_assoc kind by has.0 (ahead q)) outer in
           plus_trans (best_by weigh members) (weigh m) w (least_below _ (best_by weigh members) (weigh m) (best_least weigh members) (m, has.1, refl)) own
 
       not_left : (a b : Cost) → times kind a b ≢ infinite → a ≢ infinite
@@ -170,11 +175,15 @@ module _ (kind : ArcType) (g : Graph ℕ) (weighted : IsWeighted kind g) where
         final_of u c =
             let none = no_word c.path (sym c.word) in
             let here : q ≡ c.last = subst (λ (ts : List (Transition ℕ)). IsPath g q ts c.last) none c.leads in
-            (c.weight ∙ (ap₂ (times kind) (ap (λ (ts : List (Transition ℕ)). product kind (letters ts)) none) (ap g.final (sym here)) ∙ one_times kind (g.final q)), λ e. c.final (ap g.final (sym here) ∙ e))
+            let product_one = ap (λ (ts : List (Transition ℕ)). product kind (letters ts)) none in
+            (c.weight ∙ (ap₂ (times kind) product_one (ap g.final (sym here)) ∙ one_times kind (g.final q)), λ e. c.final (ap g.final (sym here) ∙ e))
 
         by_zero : (g.final q ≡ infinite) ⊎ (g.final q ≢ infinite) → IsLeast (Weighs kind g q []) (g.final q)
         by_zero (inl e) = inl ((λ u c. (final_of u c).1 e), e)
-        by_zero (inr not) = inr (record { path = []; last = q; leads = refl; final = not; word = refl; weight = sym (one_times kind (g.final q)) }, λ u c. ap (plus (g.final q)) (final_of u c).0 ∙ plus_same (g.final q))
+        by_zero (inr not) = inr (
+            record { path = []; last = q; leads = refl; final = not; word = refl; weight = sym (one_times kind (g.final q)) },
+            λ u c. ap (plus (g.final q)) (final_of u c).0 ∙ plus_same (g.final q),
+        )
 
     -- the weight of the string itself
     pub weighs_least : IsLeast (WordWeighs kind g x) (best_total kind g.final by members)
@@ -221,7 +230,8 @@ module _ (kind : ArcType) (g : Graph ℕ) (weighted : IsWeighted kind g) where
         let same : times kind (times kind by has.0) c.back ≡ total = plus_antisym _ total one two in
         h.least m rest has.1 (c.back, c.weighs, sym (times_assoc kind by has.0 c.back) ∙ same)
 
-  pub prefix_laws : (d : ℕ → Cost) → ((q : ℕ) → IsAccessible g q → IsFinalDistance kind g q (d q)) → (x : List ℕ) (by : Cost) (members : List Member) → IsSubset kind g x by members → PrefixLaws kind g d x by members
+  pub prefix_laws : (d : ℕ → Cost) → ((q : ℕ) → IsAccessible g q → IsFinalDistance kind g q (d q))
+      → (x : List ℕ) (by : Cost) (members : List Member) → IsSubset kind g x by members → PrefixLaws kind g d x by members
   prefix_laws d far x by members is = record {
     weighs = weighs_least x by members is;
     ahead = ahead_least x by members is d far;
