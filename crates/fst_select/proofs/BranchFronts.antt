@@ -22,7 +22,7 @@ use Rattle.fst_select.specs.Strings.{IsSpelled, PrefixWeighs}
 use Rattle.fst_select.specs.Keys.{IsShortest, PrefixLaws, best_total}
 use Rattle.fst_select.specs.Frontier.{IsKey}
 use Rattle.fst_select.specs.Branches.{Branch, closed_front, open_front}
-use Rattle.fst_select.proofs.SubsetKeys.{cut_word, least_below, member_at, prefix_laws, word_solid}
+use Rattle.fst_select.proofs.SubsetKeys.{cut_word, least_below, member_there, prefix_laws, word_solid}
 
 -- what is no worse than a value is better than it or the same
 no_worse_cases : (d v : Cost) → plus d v ≡ d → (cost_cmp d v ≡ Less) ⊎ (d ≡ v)
@@ -96,7 +96,7 @@ pub in_branch : (kind : ArcType) (g : Graph ℕ) (weighted : IsWeighted kind g) 
     → (a : ℕ) (rest : List ℕ) (w : Cost) → WordWeighs kind g (x ++ a ∷ rest) w → (k : Branch) × Has branches k × (k.label ≡ a) × (best_total kind d k.by k.members ≢ infinite)
 in_branch kind g weighted d far x by members is branches steps every a rest w h =
     let c = cut_word kind g weighted x (a ∷ rest) w h in
-    let has = member_at kind g weighted x by members is c.state c.front c.spells in
+    let has = member_there kind g weighted x by members is c.state c.front c.spells in
     let t = word_first c.weighs.path a rest (sym c.weighs.word) in
     let leaves = subst (λ (ts : List (Transition ℕ)). IsPath g c.state ts c.weighs.last) t.2 c.weighs.leads in
     let k = every (record { state = c.state; residual = has.0 }) t.0.place t.0.arc has.1 leaves.0.1 in

@@ -20,7 +20,7 @@ module _ {N : Type 0} (kind : ArcType) (g : Graph N) (plain : IsPlain g) where
       let rest = path_strings path t.arc.next q leads.1 in
       let label = plain.1 p t.place t.arc leads.0.1 in
       let same : before t.arc.olabel (output (letters path)) ≡ before t.arc.ilabel (output (letters path))
-            = ap (λ (n : ℕ). before n (output (letters path))) (sym (plain.0 p t.place t.arc leads.0.1)) in
+      = ap (λ (n : ℕ). before n (output (letters path))) (sym (plain.0 p t.place t.arc leads.0.1)) in
       (put t.arc.ilabel _ _ label rest.0, same ∙ put t.arc.ilabel _ _ label rest.1)
 
   spelled : (x : List ℕ) (w : Cost) → Rel kind g x x w → WordWeighs kind g x w

@@ -25,8 +25,8 @@ to_places (x ∷ es) h (suc i) (suc j) e f at_i at_j other = to_places es h.1 i 
 from_places : (es : List Front) → PlacesDisjoint es → AllDisjoint es
 from_places [] h = tt
 from_places (x ∷ es) h = (
-    (λ f has. let at = Has_at es f has in h 0 (suc at.0) x f refl at.1 (λ s. cc)),
-    from_places es (λ i j e f at_i at_j other. h (suc i) (suc j) e f at_i at_j (λ s. other (omega (arith, s)))),
+  (λ f has. let at = Has_at es f has in h 0 (suc at.0) x f refl at.1 (λ s. cc)),
+  from_places es (λ i j e f at_i at_j other. h (suc i) (suc j) e f at_i at_j (λ s. other (omega (arith, s)))),
 )
 
 pub disjoint_permuted : (xs ys : List Front) → IsPermutation xs ys → AllDisjoint xs → AllDisjoint ys

@@ -61,11 +61,11 @@ module _ (Weighs : List ℕ → Cost → Type 0) where
   first_same e first others key keys inside all leads =
       let holder = all (record { word = key.word; weight = e.total }) key.weighs key.inside in
       let one : NoLess holder.0.total holder.0.long e.total e.long
-            = subst (λ (n : ℕ). NoLess holder.0.total holder.0.long e.total n) key.long ((keys holder.0 holder.1).least key.word e.total holder.2 key.weighs) in
+      = subst (λ (n : ℕ). NoLess holder.0.total holder.0.long e.total n) key.long ((keys holder.0 holder.1).least key.word e.total holder.2 key.weighs) in
       let down : NoLess first.total first.long e.total e.long = NoLess-trans first.total holder.0.total e.total first.long holder.0.long e.long (lead holder.0 holder.1) one in
       let own = keys first (inl refl) in
       let up : NoLess e.total e.long first.total first.long
-            = subst (λ (n : ℕ). NoLess e.total e.long first.total n) own.long (key.least own.word first.total (inside first own.word (inl refl) own.inside) own.weighs) in
+      = subst (λ (n : ℕ). NoLess e.total e.long first.total n) own.long (key.least own.word first.total (inside first own.word (inl refl) own.inside) own.weighs) in
       NoLess-antisym first.total e.total first.long e.long down up
     where
       lead : (f : Front) → Has (first ∷ others) f → NoLess first.total first.long f.total f.long
