@@ -1,5 +1,5 @@
 -- The keys of fronts from subsets, and that the branches of a prefix and its own string have all strings that begin so.
-use Rattle.std.proofs.Common.{◌≡◌, ◌≢◌, ◌⊎◌, inl, inr, sym, refl, ap, ◌∙◌, subst, ℕ, ◌+◌, List, [], ◌∷◌, ◌++◌, length, Some, slice_get, append_assoc, append-nil, arith}
+use Rattle.std.proofs.Common.{◌≡◌, ◌≢◌, ◌⊎◌, inl, inr, sym, refl, ap, ◌∙◌, subst, ℕ, ◌+◌, List, [], ◌∷◌, ◌++◌, length, Some, slice_get, append_assoc, arith}
 use Rattle.std.proofs.Common.{Ordering, Less, Equal, Greater}
 use Rattle.std.specs.Ordering.{ordering_reverse}
 use Rattle.std.proofs.lemmas.List.{length-append}
@@ -22,7 +22,7 @@ use Rattle.fst_select.specs.Strings.{IsSpelled, PrefixWeighs}
 use Rattle.fst_select.specs.Keys.{IsShortest, PrefixLaws, best_total}
 use Rattle.fst_select.specs.Frontier.{IsKey}
 use Rattle.fst_select.specs.Branches.{Branch, closed_front, open_front}
-use Rattle.fst_select.proofs.SubsetKeys.{cut_word, least_below, member_at, prefix_laws, word_solid}
+use Rattle.fst_select.proofs.SubsetKeys.{cut_word, least_below, member_there, prefix_laws, word_solid}
 
 -- what is no worse than a value is better than it or the same
 no_worse_cases : (d v : Cost) → plus d v ≡ d → (cost_cmp d v ≡ Less) ⊎ (d ≡ v)
@@ -48,17 +48,16 @@ module _ (kind : ArcType) (g : Graph ℕ) (weighted : IsWeighted kind g) (d : �
         inside = (s.0, refl);
         weighs = (s.1, λ v h. no_better s.0 v h);
         long = length-append x s.0 ∙ ap (λ (n : ℕ). length x + n) s.2;
-        least = λ y v inside h. by_order v inside.0 (cut y inside.0 v inside.1 h.0) (ap length inside.1 ∙ length-append x inside.0) (no_worse_cases _ v (no_better inside.0 v (cut y inside.0 v inside.1 h.0)));
+        least = λ y v inside h.
+            let whole = subst (λ (t : List ℕ). WordWeighs kind g t v) inside.1 h.0 in
+            by_order v inside.0 whole (ap length inside.1 ∙ length-append x inside.0) (no_worse_cases _ v (no_better inside.0 v whole));
       }
     where
       no_better : (rest : List ℕ) (v : Cost) → WordWeighs kind g (x ++ rest) v → plus (best_total kind d by members) v ≡ best_total kind d by members
       no_better rest v h = least_below (PrefixWeighs kind g x) _ v laws.ahead (record { rest = rest; whole = h })
 
-      cut : (y rest : List ℕ) (v : Cost) → y ≡ x ++ rest → WordWeighs kind g y v → WordWeighs kind g (x ++ rest) v
-      cut y rest v same h = subst (λ (t : List ℕ). WordWeighs kind g t v) same h
-
-      by_order : {n : ℕ} (v : Cost) (rest : List ℕ) → WordWeighs kind g (x ++ rest) v → n ≡ length x + length rest → (cost_cmp (best_total kind d by members) v ≡ Less) ⊎ (best_total kind d by members ≡ v)
-          → NoLess (best_total kind d by members) (length x + count) v n
+      by_order : {n : ℕ} (v : Cost) (rest : List ℕ) → WordWeighs kind g (x ++ rest) v → n ≡ length x + length rest
+          → (cost_cmp (best_total kind d by members) v ≡ Less) ⊎ (best_total kind d by members ≡ v) → NoLess (best_total kind d by members) (length x + count) v n
       by_order v rest h long (inl less) = inl less
       by_order v rest h long (inr same) =
           let few = laws.least count rest short (subst (WordWeighs kind g (x ++ rest)) (sym same) h) in
@@ -76,7 +75,8 @@ module _ (kind : ArcType) (g : Graph ℕ) (weighted : IsWeighted kind g) (d : �
         least = λ y v inside h. by_order v (ap length inside) (no_worse_cases _ v (own.1 v (subst (λ (t : List ℕ). WordWeighs kind g t v) inside h.0)));
       }
     where
-      by_order : {n : ℕ} (v : Cost) → n ≡ length x → (cost_cmp (best_total kind g.final by members) v ≡ Less) ⊎ (best_total kind g.final by members ≡ v) → NoLess (best_total kind g.final by members) (length x) v n
+      by_order : {n : ℕ} (v : Cost) → n ≡ length x → (cost_cmp (best_total kind g.final by members) v ≡ Less) ⊎ (best_total kind g.final by members ≡ v)
+          → NoLess (best_total kind g.final by members) (length x) v n
       by_order v long (inl less) = inl less
       by_order v long (inr same) = inr (same, omega (arith, long))
 
@@ -96,7 +96,7 @@ pub in_branch : (kind : ArcType) (g : Graph ℕ) (weighted : IsWeighted kind g) 
     → (a : ℕ) (rest : List ℕ) (w : Cost) → WordWeighs kind g (x ++ a ∷ rest) w → (k : Branch) × Has branches k × (k.label ≡ a) × (best_total kind d k.by k.members ≢ infinite)
 in_branch kind g weighted d far x by members is branches steps every a rest w h =
     let c = cut_word kind g weighted x (a ∷ rest) w h in
-    let has = member_at kind g weighted x by members is c.state c.front c.spells in
+    let has = member_there kind g weighted x by members is c.state c.front c.spells in
     let t = word_first c.weighs.path a rest (sym c.weighs.word) in
     let leaves = subst (λ (ts : List (Transition ℕ)). IsPath g c.state ts c.weighs.last) t.2 c.weighs.leads in
     let k = every (record { state = c.state; residual = has.0 }) t.0.place t.0.arc has.1 leaves.0.1 in

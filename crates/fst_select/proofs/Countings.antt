@@ -70,10 +70,10 @@ module _ (kind : ArcType) (g : Graph ℕ) (weighted : IsWeighted kind g) (d : �
         least = λ m other has goes.
             let solid = spells_weighs kind g weighted x m.state _ (member_spells kind g weighted x by members is m has) in
             let one : plus (weigh m) total ≡ weigh m
-                  = subst (λ (z : Cost). plus (weigh m) z ≡ weigh m) goes.2 (times_keeps kind by _ _ (times_keeps kind m.residual (d m.state) goes.0 (ahead_below m other goes.0 has goes.1))) in
+            = subst (λ (z : Cost). plus (weigh m) z ≡ weigh m) goes.2 (times_keeps kind by _ _ (times_keeps kind m.residual (d m.state) goes.0 (ahead_below m other goes.0 has goes.1))) in
             let tight : weigh m ≡ total = plus_antisym _ _ one (total_below m has) in
             let equal : times kind (times kind by m.residual) (d m.state) ≡ times kind (times kind by m.residual) goes.0
-                  = times_assoc kind by m.residual (d m.state) ∙ (tight ∙ (sym goes.2 ∙ sym (times_assoc kind by m.residual goes.0))) in
+            = times_assoc kind by m.residual (d m.state) ∙ (tight ∙ (sym goes.2 ∙ sym (times_assoc kind by m.residual goes.0))) in
             let same : d m.state ≡ goes.0 = times_cancels kind (times kind by m.residual) (d m.state) goes.0 cancel solid.0 solid.1 equal in
             let own = counts m has (lives m tight) in
             let low = own.least other goes.0 goes.1 (sym same) in
@@ -92,7 +92,7 @@ module _ (kind : ArcType) (g : Graph ℕ) (weighted : IsWeighted kind g) (d : �
   count_worst count c cancel not counts h =
       let s = counts h.member h.there h.passes.1 in
       let up : plus (times kind by (times kind h.member.residual s.weight)) total ≡ times kind by (times kind h.member.residual s.weight)
-            = both_no_worse kind by _ _ cancel front (both_no_worse kind h.member.residual s.weight _ cancel h.passes.0 s.counts) in
+      = both_no_worse kind by _ _ cancel front (both_no_worse kind h.member.residual s.weight _ cancel h.passes.0 s.counts) in
       record {
         member = h.member;
         there = h.there;
@@ -101,10 +101,12 @@ module _ (kind : ArcType) (g : Graph ℕ) (weighted : IsWeighted kind g) (d : �
         long = s.long ∙ h.same;
         least = λ m other has goes.
             let inner : plus (times kind m.residual goes.0) total ≡ times kind m.residual goes.0
-                  = subst (λ (z : Cost). plus (times kind m.residual goes.0) z ≡ times kind m.residual goes.0) (times_comm kind (times kind m.residual goes.0) by ∙ goes.2) (times_worsens kind (times kind m.residual goes.0) by cancel) in
+            = subst (λ (z : Cost). plus (times kind m.residual goes.0) z ≡ times kind m.residual goes.0) (times_comm kind (times kind m.residual goes.0) by ∙ goes.2)
+            (times_worsens kind (times kind m.residual goes.0) by cancel) in
             let res : plus m.residual total ≡ m.residual = plus_trans _ _ _ (times_worsens kind m.residual goes.0 cancel) inner in
             let rest : plus goes.0 total ≡ goes.0
-                  = plus_trans _ (times kind m.residual goes.0) _ (subst (λ (z : Cost). plus goes.0 z ≡ goes.0) (times_comm kind goes.0 m.residual) (times_worsens kind goes.0 m.residual cancel)) inner in
+            = plus_trans _ (times kind m.residual goes.0) _
+            (subst (λ (z : Cost). plus goes.0 z ≡ goes.0) (times_comm kind goes.0 m.residual) (times_worsens kind goes.0 m.residual cancel)) inner in
             let far_on : plus (d m.state) total ≡ d m.state = plus_trans _ goes.0 _ (ahead_below m other goes.0 has goes.1) rest in
             let own = counts m has far_on in
             let low = own.least other goes.0 goes.1 rest in

@@ -19,7 +19,8 @@ module _ {N : Type 0} (kind : ArcType) (g : Graph N) (plain : IsPlain g) where
   path_strings (t ∷ path) p q leads =
       let rest = path_strings path t.arc.next q leads.1 in
       let label = plain.1 p t.place t.arc leads.0.1 in
-      let same : before t.arc.olabel (output (letters path)) ≡ before t.arc.ilabel (output (letters path)) = ap (λ (n : ℕ). before n (output (letters path))) (sym (plain.0 p t.place t.arc leads.0.1)) in
+      let same : before t.arc.olabel (output (letters path)) ≡ before t.arc.ilabel (output (letters path))
+      = ap (λ (n : ℕ). before n (output (letters path))) (sym (plain.0 p t.place t.arc leads.0.1)) in
       (put t.arc.ilabel _ _ label rest.0, same ∙ put t.arc.ilabel _ _ label rest.1)
 
   spelled : (x : List ℕ) (w : Cost) → Rel kind g x x w → WordWeighs kind g x w
@@ -35,7 +36,11 @@ module _ {N : Type 0} (kind : ArcType) (g : Graph N) (plain : IsPlain g) where
   related x w h =
       let c = h.weighs in
       let same = path_strings c.path h.first c.last c.leads in
-      record { first = h.first; starts = h.starts; says = record { path = c.path; last = c.last; leads = c.leads; final = c.final; reads = c.word ∙ sym same.0; writes = c.word ∙ sym same.1; weight = c.weight } }
+      record {
+        first = h.first;
+        starts = h.starts;
+        says = record { path = c.path; last = c.last; leads = c.leads; final = c.final; reads = c.word ∙ sym same.0; writes = c.word ∙ sym same.1; weight = c.weight };
+      }
 
   pub plain_strings : (x : List ℕ) (w : Cost) → IsWeight kind g x x w ↔ IsSpelled kind g x w
   plain_strings x w = (

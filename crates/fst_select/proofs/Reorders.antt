@@ -1,5 +1,5 @@
 -- A frontier does not ask in which order its fronts stand.
-use Rattle.std.proofs.Common.{◌≡◌, ◌⊎◌, inl, inr, ℕ, ◌<◌, zero, suc, List, [], ◌∷◌, ◌++◌, Some, length, slice_get, sym, refl, ap, subst, arith}
+use Rattle.std.proofs.Common.{◌≡◌, ◌⊎◌, inl, inr, ℕ, ◌<◌, zero, suc, List, [], ◌∷◌, ◌++◌, Some, length, slice_get, refl, ap, subst, arith}
 use Rattle.std.specs.List.{swap}
 use Rattle.std.specs.List.Sorted.{IsPermutation}
 use Rattle.std.proofs.lemmas.List.Sorted.{IsPermutation-append, IsPermutation-keeps, IsPermutation-sym}
@@ -24,7 +24,10 @@ to_places (x ∷ es) h (suc i) (suc j) e f at_i at_j other = to_places es h.1 i 
 
 from_places : (es : List Front) → PlacesDisjoint es → AllDisjoint es
 from_places [] h = tt
-from_places (x ∷ es) h = ((λ f has. let at = Has_at es f has in h 0 (suc at.0) x f refl at.1 (λ s. cc)), from_places es (λ i j e f at_i at_j other. h (suc i) (suc j) e f at_i at_j (λ s. other (omega (arith, s)))))
+from_places (x ∷ es) h = (
+  (λ f has. let at = Has_at es f has in h 0 (suc at.0) x f refl at.1 (λ s. cc)),
+  from_places es (λ i j e f at_i at_j other. h (suc i) (suc j) e f at_i at_j (λ s. other (omega (arith, s)))),
+)
 
 pub disjoint_permuted : (xs ys : List Front) → IsPermutation xs ys → AllDisjoint xs → AllDisjoint ys
 disjoint_permuted xs ys p apart = from_places ys (IsPermutation-keeps xs PlacesDisjoint (to_places xs apart) step ys p)

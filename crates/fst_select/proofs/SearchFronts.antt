@@ -1,5 +1,5 @@
 -- How a search over fronts begins and ends, and that the first part of a front has the weight and the length of the whole.
-use Rattle.std.proofs.Common.{◌≡◌, ◌⊎◌, inl, inr, sym, refl, ap, subst, ℕ, ◌<◌, ◌≤◌, List, [], ◌∷◌, ◌++◌, length, Bool, true, false, arith}
+use Rattle.std.proofs.Common.{◌≡◌, ◌⊎◌, inl, inr, sym, refl, ap, subst, ℕ, ◌≤◌, List, [], ◌∷◌, ◌++◌, length, Bool, false, arith}
 use Rattle.std.proofs.Common.{Less}
 use Rattle.fst_semiring.specs.Cost.{Cost, cost_cmp}
 use Rattle.fst_semiring.specs.declared.arc_type.ArcType.{ArcType}
@@ -38,7 +38,8 @@ module _ (Weighs : List ℕ → Cost → Type 0) where
       → (b : WeightedWord) → Weighs b.word b.weight → Has listed b ⊎ ((length listed ≡ n) × ((a : WeightedWord) → Has listed a → word_cmp a b ≡ Less))
   ends_all listed es n done h b says = by_case done (h.all b says)
     where
-      by_case : (length listed ≡ n) ⊎ (es ≡ []) → Has listed b ⊎ ((e : Front) × Has es e × Covers e b.word) → Has listed b ⊎ ((length listed ≡ n) × ((a : WeightedWord) → Has listed a → word_cmp a b ≡ Less))
+      by_case : (length listed ≡ n) ⊎ (es ≡ []) → Has listed b ⊎ ((e : Front) × Has es e × Covers e b.word)
+          → Has listed b ⊎ ((length listed ≡ n) × ((a : WeightedWord) → Has listed a → word_cmp a b ≡ Less))
       by_case k (inl has) = inl has
       by_case (inl full) (inr (e, has, inside)) = inr (full, λ a there. h.after e b a has inside says there)
       by_case (inr none) (inr (e, has, inside)) = absurd (subst (λ (l : List Front). Has l e) none has)
@@ -53,14 +54,18 @@ module _ (Weighs : List ℕ → Cost → Type 0) where
       by_case (inr (g, (inr tie))) = inr (g, omega (arith, tie.0))
 
   -- of fronts that have all strings of a front, and no others, the first has its weight and its length
-  pub first_same : (e first : Front) (others : List Front) → IsKey Weighs e → ((f : Front) → Has (first ∷ others) f → IsKey Weighs f) → ((f : Front) (x : List ℕ) → Has (first ∷ others) f → Covers f x → Covers e x)
-      → ((b : WeightedWord) → Weighs b.word b.weight → Covers e b.word → (f : Front) × Has (first ∷ others) f × Covers f b.word) → ComesFirst first others → (first.total ≡ e.total) × (first.long ≡ e.long)
+  pub first_same : (e first : Front) (others : List Front) → IsKey Weighs e → ((f : Front) → Has (first ∷ others) f → IsKey Weighs f)
+      → ((f : Front) (x : List ℕ) → Has (first ∷ others) f → Covers f x → Covers e x)
+      → ((b : WeightedWord) → Weighs b.word b.weight → Covers e b.word → (f : Front) × Has (first ∷ others) f × Covers f b.word)
+      → ComesFirst first others → (first.total ≡ e.total) × (first.long ≡ e.long)
   first_same e first others key keys inside all leads =
       let holder = all (record { word = key.word; weight = e.total }) key.weighs key.inside in
-      let one : NoLess holder.0.total holder.0.long e.total e.long = subst (λ (n : ℕ). NoLess holder.0.total holder.0.long e.total n) key.long ((keys holder.0 holder.1).least key.word e.total holder.2 key.weighs) in
+      let one : NoLess holder.0.total holder.0.long e.total e.long
+      = subst (λ (n : ℕ). NoLess holder.0.total holder.0.long e.total n) key.long ((keys holder.0 holder.1).least key.word e.total holder.2 key.weighs) in
       let down : NoLess first.total first.long e.total e.long = NoLess-trans first.total holder.0.total e.total first.long holder.0.long e.long (lead holder.0 holder.1) one in
       let own = keys first (inl refl) in
-      let up : NoLess e.total e.long first.total first.long = subst (λ (n : ℕ). NoLess e.total e.long first.total n) own.long (key.least own.word first.total (inside first own.word (inl refl) own.inside) own.weighs) in
+      let up : NoLess e.total e.long first.total first.long
+      = subst (λ (n : ℕ). NoLess e.total e.long first.total n) own.long (key.least own.word first.total (inside first own.word (inl refl) own.inside) own.weighs) in
       NoLess-antisym first.total e.total first.long e.long down up
     where
       lead : (f : Front) → Has (first ∷ others) f → NoLess first.total first.long f.total f.long

@@ -1,5 +1,5 @@
 -- The subset of a prefix tells what is ahead of it.
-use Rattle.std.proofs.Common.{◌≡◌, ◌≢◌, ◌⊎◌, inl, inr, sym, refl, ap, ap₂, ◌∙◌, subst, ℕ, ◌≤◌, List, [], ◌∷◌, ◌++◌, length, append-nil}
+use Rattle.std.proofs.Common.{◌≡◌, ◌≢◌, ◌⊎◌, inl, inr, sym, refl, ap, ap₂, ◌∙◌, subst, ℕ, ◌≤◌, List, [], ◌++◌, length, append-nil}
 use Rattle.fst_semiring.specs.Cost.{Cost, infinite, plus}
 use Rattle.fst_semiring.specs.declared.arc_type.ArcType.{ArcType}
 use Rattle.fst_semiring.specs.Semiring.{times}
@@ -22,7 +22,7 @@ use Rattle.fst_determinize.proofs.Best.{best_least, least_reached}
 use Rattle.fst_determinize.proofs.Members.{member_stands}
 use Rattle.fst_determinize.proofs.Spelling.{no_word, spells_weighs, word_split}
 use Rattle.fst_distance.proofs.Potential.{zero_or_not}
-use Rattle.fst_select.specs.Keys.{GoesTo, IsShortest, PrefixLaws, best_total}
+use Rattle.fst_select.specs.Keys.{IsShortest, PrefixLaws, best_total}
 use Rattle.fst_select.specs.Strings.{PrefixWeighs}
 use Rattle.fst_select.proofs.GoodPaths.{product_solid}
 
@@ -44,7 +44,7 @@ module _ (kind : ArcType) (g : Graph ℕ) (weighted : IsWeighted kind g) where
   word_solid x w h = weighs_solid h.first x w h.weighs
 
   -- A word with a weight, cut behind x.
-  pub record IsCut (x rest : List ℕ) (w : Cost) : Type 0 where
+  pub record WordParts (x rest : List ℕ) (w : Cost) : Type 0 where
     pub state : ℕ
     pub front : Cost
     pub back : Cost
@@ -52,13 +52,13 @@ module _ (kind : ArcType) (g : Graph ℕ) (weighted : IsWeighted kind g) where
     pub weighs : Weighs kind g state rest back
     pub weight : w ≡ times kind front back
 
-  pub cut_word : (x rest : List ℕ) (w : Cost) → WordWeighs kind g (x ++ rest) w → IsCut x rest w
+  pub cut_word : (x rest : List ℕ) (w : Cost) → WordWeighs kind g (x ++ rest) w → WordParts x rest w
   cut_word x rest w h =
       let c = h.weighs in
       let parts = word_split c.path x rest (sym c.word) in
       let way = IsPath-split g parts.0 parts.1 h.first c.last (subst (λ (ts : List (Transition ℕ)). IsPath g h.first ts c.last) parts.2 c.leads) in
       let products : product kind (letters c.path) ≡ times kind (product kind (letters parts.0)) (product kind (letters parts.1))
-            = ap (λ (ts : List (Transition ℕ)). product kind (letters ts)) parts.2 ∙ (ap (product kind) (letters-append parts.0 parts.1) ∙ product-append kind (letters parts.0) (letters parts.1)) in
+      = ap (λ (ts : List (Transition ℕ)). product kind (letters ts)) parts.2 ∙ (ap (product kind) (letters-append parts.0 parts.1) ∙ product-append kind (letters parts.0) (letters parts.1)) in
       record {
         state = way.0;
         front = product kind (letters parts.0);
@@ -79,9 +79,12 @@ module _ (kind : ArcType) (g : Graph ℕ) (weighted : IsWeighted kind g) where
       leads = IsPath-append g s.path c.path s.first q c.last s.leads c.leads;
       final = c.final;
       word = sym (ap label_word (letters-append s.path c.path) ∙ (label_word-append (letters s.path) (letters c.path) ∙ ap₂ (◌++◌) s.reads (sym c.word)));
-      weight = ap₂ (times kind) s.weight c.weight ∙ (sym (times_assoc kind _ _ _) ∙ ap (λ (z : Cost). times kind z (g.final c.last)) (sym (ap (product kind) (letters-append s.path c.path) ∙ product-append kind (letters s.path) (letters c.path))));
+      weight = ap₂ (times kind) s.weight c.weight ∙ (sym (times_assoc kind _ _ _) ∙ ap (λ (z : Cost). times kind z (g.final c.last)) (sym products));
     };
   }
+    where
+      products : product kind (letters (s.path ++ c.path)) ≡ times kind (product kind (letters s.path)) (product kind (letters c.path))
+      products = ap (product kind) (letters-append s.path c.path) ∙ product-append kind (letters s.path) (letters c.path)
 
   module _ (x : List ℕ) (by : Cost) (members : List Member) (is : IsSubset kind g x by members) where
     -- what a member stands for: the best weight by which the word reaches its state
@@ -92,8 +95,8 @@ module _ (kind : ArcType) (g : Graph ℕ) (weighted : IsWeighted kind g) where
     member_least m v has s = let st = member_stands kind g weighted x by members is m has in subst (λ (z : Cost). plus z v ≡ z) (sym st.undone) (st.least v s)
 
     -- and each state that the word reaches has its member
-    pub member_at : (q : ℕ) (v : Cost) → Spells kind g x q v → (r : Cost) × Has members (record { state = q; residual = r })
-    member_at q v s = is.all q v s (spells_weighs kind g weighted x q v s).1
+    pub member_there : (q : ℕ) (v : Cost) → Spells kind g x q v → (r : Cost) × Has members (record { state = q; residual = r })
+    member_there q v s = is.all q v s (spells_weighs kind g weighted x q v s).1
 
     pub member_accessible : (q : ℕ) (v : Cost) → Spells kind g x q v → IsAccessible g q
     member_accessible q v s = record { first = s.first; path = s.path; starts = s.starts; leads = s.leads }
@@ -109,13 +112,15 @@ module _ (kind : ArcType) (g : Graph ℕ) (weighted : IsWeighted kind g) where
 
       together_below : (w : Cost) → Together w → plus (best_by weigh members) w ≡ best_by weigh members
       together_below w (q, v, u, s, goes, weight) =
-          let has = member_at q v s in
+          let has = member_there q v s in
           let m : Member = record { state = q; residual = has.0 } in
           let front = member_least m v has.1 s in
           let back = least_below (Goes q) (ahead q) u (surest q v s) goes in
           let both : plus (times kind (times kind by has.0) (ahead q)) (times kind v u) ≡ times kind (times kind by has.0) (ahead q)
-                = plus_trans _ (times kind v (ahead q)) _ (keeps_times kind (ahead q) _ v front) (times_keeps kind v (ahead q) u back) in
-          let own : plus (weigh m) w ≡ weigh m = subst (λ (z : Cost). plus z w ≡ z) (times_assoc kind by has.0 (ahead q)) (subst (λ (z : Cost). plus (times kind (times kind by has.0) (ahead q)) z ≡ times kind (times kind by has.0) (ahead q)) (sym weight) both) in
+          = plus_trans _ (times kind v (ahead q)) _ (keeps_times kind (ahead q) _ v front) (times_keeps kind v (ahead q) u back) in
+          let outer : plus (times kind (times kind by has.0) (ahead q)) w ≡ times kind (times kind by has.0) (ahead q)
+          = subst (λ (z : Cost). plus (times kind (times kind by has.0) (ahead q)) z ≡ times kind (times kind by has.0) (ahead q)) (sym weight) both in
+          let own : plus (weigh m) w ≡ weigh m = subst (λ (z : Cost). plus z w ≡ z) (times_assoc kind by has.0 (ahead q)) outer in
           plus_trans (best_by weigh members) (weigh m) w (least_below _ (best_by weigh members) (weigh m) (best_least weigh members) (m, has.1, refl)) own
 
       not_left : (a b : Cost) → times kind a b ≢ infinite → a ≢ infinite
@@ -151,16 +156,16 @@ module _ (kind : ArcType) (g : Graph ℕ) (weighted : IsWeighted kind g) where
           by_zero (inl e) = inl (none e, e)
           by_zero (inr not) = inr (together_there not, together_below)
 
-    abbrev GoesOn : ℕ → Cost → Type 0
-    GoesOn q u = (rest : List ℕ) × Weighs kind g q rest u
+    abbrev OnwardWeighs : ℕ → Cost → Type 0
+    OnwardWeighs q u = (rest : List ℕ) × Weighs kind g q rest u
 
-    goes_on_least : (d : ℕ → Cost) → ((q : ℕ) → IsAccessible g q → IsFinalDistance kind g q (d q)) → (q : ℕ) (v : Cost) → Spells kind g x q v → IsLeast (GoesOn q) (d q)
-    goes_on_least d far q v s = least_same (Finishes kind g q) (GoesOn q) (d q) to from (far q (member_accessible q v s))
+    goes_on_least : (d : ℕ → Cost) → ((q : ℕ) → IsAccessible g q → IsFinalDistance kind g q (d q)) → (q : ℕ) (v : Cost) → Spells kind g x q v → IsLeast (OnwardWeighs q) (d q)
+    goes_on_least d far q v s = least_same (Finishes kind g q) (OnwardWeighs q) (d q) to from (far q (member_accessible q v s))
       where
-        to : (u : Cost) → Finishes kind g q u → GoesOn q u
+        to : (u : Cost) → Finishes kind g q u → OnwardWeighs q u
         to u f = (label_word (letters f.path), record { path = f.path; last = f.last; leads = f.leads; final = f.final; word = refl; weight = f.weight })
 
-        from : (u : Cost) → GoesOn q u → Finishes kind g q u
+        from : (u : Cost) → OnwardWeighs q u → Finishes kind g q u
         from u (rest, c) = record { last = c.last; path = c.path; leads = c.leads; final = c.final; weight = c.weight }
 
     stops_least : (q : ℕ) (v : Cost) → Spells kind g x q v → IsLeast (Weighs kind g q []) (g.final q)
@@ -170,11 +175,15 @@ module _ (kind : ArcType) (g : Graph ℕ) (weighted : IsWeighted kind g) where
         final_of u c =
             let none = no_word c.path (sym c.word) in
             let here : q ≡ c.last = subst (λ (ts : List (Transition ℕ)). IsPath g q ts c.last) none c.leads in
-            (c.weight ∙ (ap₂ (times kind) (ap (λ (ts : List (Transition ℕ)). product kind (letters ts)) none) (ap g.final (sym here)) ∙ one_times kind (g.final q)), λ e. c.final (ap g.final (sym here) ∙ e))
+            let product_one = ap (λ (ts : List (Transition ℕ)). product kind (letters ts)) none in
+            (c.weight ∙ (ap₂ (times kind) product_one (ap g.final (sym here)) ∙ one_times kind (g.final q)), λ e. c.final (ap g.final (sym here) ∙ e))
 
         by_zero : (g.final q ≡ infinite) ⊎ (g.final q ≢ infinite) → IsLeast (Weighs kind g q []) (g.final q)
         by_zero (inl e) = inl ((λ u c. (final_of u c).1 e), e)
-        by_zero (inr not) = inr (record { path = []; last = q; leads = refl; final = not; word = refl; weight = sym (one_times kind (g.final q)) }, λ u c. ap (plus (g.final q)) (final_of u c).0 ∙ plus_same (g.final q))
+        by_zero (inr not) = inr (
+          record { path = []; last = q; leads = refl; final = not; word = refl; weight = sym (one_times kind (g.final q)) },
+          λ u c. ap (plus (g.final q)) (final_of u c).0 ∙ plus_same (g.final q),
+        )
 
     -- the weight of the string itself
     pub weighs_least : IsLeast (WordWeighs kind g x) (best_total kind g.final by members)
@@ -189,13 +198,13 @@ module _ (kind : ArcType) (g : Graph ℕ) (weighted : IsWeighted kind g) where
 
     -- the best weight of all strings that begin so
     pub ahead_least : (d : ℕ → Cost) → ((q : ℕ) → IsAccessible g q → IsFinalDistance kind g q (d q)) → IsLeast (PrefixWeighs kind g x) (best_total kind d by members)
-    ahead_least d far = least_same (Together GoesOn d (goes_on_least d far)) (PrefixWeighs kind g x) (best_total kind d by members) to from
-        (together_least GoesOn d (goes_on_least d far) (λ q u c. weighs_solid q c.0 u c.1))
+    ahead_least d far = least_same (Together OnwardWeighs d (goes_on_least d far)) (PrefixWeighs kind g x) (best_total kind d by members) to from
+        (together_least OnwardWeighs d (goes_on_least d far) (λ q u c. weighs_solid q c.0 u c.1))
       where
-        to : (w : Cost) → Together GoesOn d (goes_on_least d far) w → PrefixWeighs kind g x w
+        to : (w : Cost) → Together OnwardWeighs d (goes_on_least d far) w → PrefixWeighs kind g x w
         to w (q, v, u, s, c, weight) = record { rest = c.0; whole = subst (WordWeighs kind g (x ++ c.0)) (sym weight) (join_word x c.0 q v u s c.1) }
 
-        from : (w : Cost) → PrefixWeighs kind g x w → Together GoesOn d (goes_on_least d far) w
+        from : (w : Cost) → PrefixWeighs kind g x w → Together OnwardWeighs d (goes_on_least d far) w
         from w h = let c = cut_word x h.rest w h.whole in (c.state, c.front, c.back, c.spells, (h.rest, c.weighs), c.weight)
 
     -- the least number of labels that are left is that of a string
@@ -211,17 +220,18 @@ module _ (kind : ArcType) (g : Graph ℕ) (weighted : IsWeighted kind g) where
     shortest_least d far count rest h spelled =
         let total = best_total kind d by members in
         let c = cut_word x rest total spelled in
-        let has = member_at c.state c.front c.spells in
+        let has = member_there c.state c.front c.spells in
         let m : Member = record { state = c.state; residual = has.0 } in
         let front = member_least m c.front has.1 c.spells in
         let one : plus (times kind (times kind by has.0) c.back) total ≡ times kind (times kind by has.0) c.back
-              = subst (λ (z : Cost). plus (times kind (times kind by has.0) c.back) z ≡ times kind (times kind by has.0) c.back) (sym c.weight) (keeps_times kind c.back _ c.front front) in
+        = subst (λ (z : Cost). plus (times kind (times kind by has.0) c.back) z ≡ times kind (times kind by has.0) c.back) (sym c.weight) (keeps_times kind c.back _ c.front front) in
         let joined : PrefixWeighs kind g x (times kind (times kind by has.0) c.back) = record { rest = rest; whole = join_word x rest c.state _ c.back (member_spells m has.1) c.weighs } in
         let two : plus total (times kind (times kind by has.0) c.back) ≡ total = least_below (PrefixWeighs kind g x) total _ (ahead_least d far) joined in
         let same : times kind (times kind by has.0) c.back ≡ total = plus_antisym _ total one two in
         h.least m rest has.1 (c.back, c.weighs, sym (times_assoc kind by has.0 c.back) ∙ same)
 
-  pub prefix_laws : (d : ℕ → Cost) → ((q : ℕ) → IsAccessible g q → IsFinalDistance kind g q (d q)) → (x : List ℕ) (by : Cost) (members : List Member) → IsSubset kind g x by members → PrefixLaws kind g d x by members
+  pub prefix_laws : (d : ℕ → Cost) → ((q : ℕ) → IsAccessible g q → IsFinalDistance kind g q (d q))
+      → (x : List ℕ) (by : Cost) (members : List Member) → IsSubset kind g x by members → PrefixLaws kind g d x by members
   prefix_laws d far x by members is = record {
     weighs = weighs_least x by members is;
     ahead = ahead_least x by members is d far;

@@ -1,7 +1,7 @@
 -- What the subset of a prefix says of the strings that begin with it. (Mohri 2009, weighted determinization: what a
 -- subset leaves over is in its residuals.)
-use Rattle.std.specs.Prelude.{◌≡◌, ◌≢◌, ◌≤◌, ℕ, List, length, ◌++◌}
-use Rattle.fst_semiring.specs.Cost.{Cost, infinite}
+use Rattle.std.specs.Prelude.{◌≡◌, ◌≤◌, ℕ, List, length, ◌++◌}
+use Rattle.fst_semiring.specs.Cost.{Cost}
 use Rattle.fst_semiring.specs.declared.arc_type.ArcType.{ArcType}
 use Rattle.fst_semiring.specs.Semiring.{times}
 use Rattle.fst_machine.specs.BreadthFirst.{Has}

@@ -1,5 +1,5 @@
-//! The laws of pruning and of strings. Each stands on the contract of a function with nothing to do, so that it is proved; crates above
-//! cite the lemmas in `proofs`.
+//! The laws of pruning and of strings. Each stands on the contract of a function with nothing to do, so that it is proved;
+//! crates above cite the lemmas in `proofs`.
 
 ghost use Rattle.fst_semiring.specs.Cost.{Cost};
 ghost use Rattle.fst_semiring.specs.declared.arc_type.ArcType.{ArcType};
