@@ -5,6 +5,5 @@ pub mod PrunedPaths
 pub mod SurveyedGraph
 pub mod ThinnedPaths
 pub mod ThinnedMachine
-pub mod Prefixes
 pub mod StateCounts
 pub mod LeastLeft
