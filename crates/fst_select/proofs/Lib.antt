@@ -5,5 +5,13 @@ pub mod PrunedPaths
 pub mod SurveyedGraph
 pub mod ThinnedPaths
 pub mod ThinnedMachine
+pub mod SubsetKeys
+pub mod Countings
 pub mod StateCounts
 pub mod LeastLeft
+pub mod BranchFronts
+pub mod PlainStrings
+pub mod Frontiers
+pub mod SearchFronts
+pub mod Stricts
+pub mod Reorders

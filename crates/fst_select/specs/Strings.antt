@@ -1,6 +1,6 @@
 -- Strings of an acceptor by their weights, and the first of them. (Mohri 2009, section 3.1: the weight of a string is
 -- that of a best path with it. The order of strings is this project's own choice, as that of paths is.)
-use Rattle.std.specs.Prelude.{◌≡◌, ◌⊎◌, ◌↔◌, ℕ, ◌≤◌, List, ◌++◌, length, sum_by}
+use Rattle.std.specs.Prelude.{◌≡◌, ◌⊎◌, ℕ, ◌≤◌, List, ◌++◌, length, sum_by}
 use Rattle.std.specs.declared.cmp.Ordering.TheVariants.{Less}
 use Rattle.fst_semiring.specs.Cost.{Cost, plus}
 use Rattle.fst_semiring.specs.declared.arc_type.ArcType.{ArcType}
@@ -43,7 +43,3 @@ module _ {N : Type 0} (kind : ArcType) (g : Graph N) where
 -- the best weight of the successful paths with this label word, of which there are some
 abbrev pub IsSpelled : {N : Type 0} → ArcType → Graph N → List ℕ → Cost → Type 0
 IsSpelled kind g x w = WordWeighs kind g x w × ((v : Cost) → WordWeighs kind g x v → plus w v ≡ w)
-
--- the strings of an acceptor without epsilon are its label words
-abbrev pub PlainLaw : ArcType → Graph ℕ → Type 0
-PlainLaw kind g = IsPlain g → (x : List ℕ) (w : Cost) → IsWeight kind g x x w ↔ IsSpelled kind g x w
