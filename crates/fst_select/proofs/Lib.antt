@@ -20,12 +20,12 @@ pub mod Reorders
 pub mod SearchFronts
 pub mod EntryPrefixes
 pub mod EntryLists
+pub mod Puts
+pub mod Moving
+pub mod Beginnings
 pub mod OpenParts
 pub mod Parted
 pub mod Walking
 pub mod SearchSteps
 pub mod OneStrings
 pub mod StringChains
-pub mod Beginnings
-pub mod Moving
-pub mod Puts
