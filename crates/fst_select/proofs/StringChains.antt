@@ -150,7 +150,7 @@ module _ {V X : Type 0} (kind : ArcType) (value : X → Cost) where
         let writes : a.word ≡ y = sym (r.says.writes ∙ (ap output said ∙ output_word kind a.word labels)) in
         let weighs : a.weight ≡ w = sym (one.3 ∙ (ap (λ (c : Chain). times kind (product kind c.letters) c.last) (sym from.2) ∙ string_weight kind a.word a.weight)) in
         let last : w ≡ (graph_of m).final r.says.last =
-            r.says.weight ∙ (ap (λ (ls : List Letter). times kind (product kind ls) ((graph_of m).final r.says.last)) said ∙ string_weight kind a.word ((graph_of m).final r.says.last)) in
+        r.says.weight ∙ (ap (λ (ls : List Letter). times kind (product kind ls) ((graph_of m).final r.says.last)) said ∙ string_weight kind a.word ((graph_of m).final r.says.last)) in
         (sym reads ∙ writes, (λ e. r.says.final (sym last ∙ e)), subst (λ (b : WeightedWord). Has (map (weighted value) strings) b) (λ i. record { word = reads i; weight = weighs i }) from.1)
 
     rel_of : (x y : List ℕ) (w : Cost) → (x ≡ y) × (w ≢ infinite) × Has (map (weighted value) strings) (record { word = x; weight = w }) → Rel kind (graph_of m) x y w

@@ -113,7 +113,11 @@ fn end_out<W: Weight>(string: &StringWeight<W>, labels: u32) -> Option<u32>
         return None;
     }
     let len = string.word.len() as u32;
-    if len == 0 { Some(0) } else { Some(labels + len) }
+    if len == 0 {
+        Some(0)
+    } else {
+        Some(labels + len)
+    }
 }
 
 /// The lesser of two states, where there are two.
