@@ -5,19 +5,19 @@
 //! arcs lie on good paths is a law over graphs of any kind of name, which `laws` asks for.
 #![tactic(auto)]
 
+mod chaining;
 mod fault;
 pub mod laws;
 mod pruning;
-mod string_chains;
 mod strings;
 mod surveying;
 mod thinning;
 mod unique;
 mod unique_fault;
 
+pub use chaining::{StringChainsFault, string_chains};
 pub use fault::PruneFault;
 pub use pruning::prune;
-pub use string_chains::{StringChainsFault, string_chains};
 pub use strings::{StringWeight, Strings};
 pub use unique::unique_nbest;
 pub use unique_fault::UniqueFault;

@@ -1,7 +1,7 @@
 use Rattle.std.proofs.Common.{◌≡◌, ◌<◌, ◌+◌, drop, map}
 use Rattle.fst_machine.specs.Machine.{most_states}
 use Rattle.fst_select.specs.Strings.{labels_listed, weighted}
-use Rattle.fst_select.proofs.string_chains.are_too_long.Given as goal
+use Rattle.fst_select.proofs.chaining.are_too_long.Given as goal
 
 abbrev pub invariant-loop-i : goal.invariant-loop-i
 invariant-loop-i g l = record {
