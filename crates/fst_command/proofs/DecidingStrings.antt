@@ -23,9 +23,19 @@ use Rattle.fst_command.specs.OneOutcome.{One}
 use Rattle.fst_command.specs.declared.commands.listing.Unlisted.{Unlisted}
 use Rattle.fst_command.specs.declared.commands.listing.Unlisted.TheVariants.{NotAcceptor, HasEpsilon, ImprovingCycle, TooManyStates, Overflow}
 
+-- the strings have too many labels for a machine
+abbrev IsLong : List WeightedWord → Type 0
+IsLong strings = most_states < labels_listed strings + 1
+
 -- a cycle that is listed stands against what has none
-uncycled : (kind : ArcType) (m : Machine Cost) (cycle : List Step) → IsListed kind (graph_of m) (IsUseful (graph_of m)) cycle → NoneImproves kind (graph_of m) (IsUseful (graph_of m)) → ⊥
+uncycled : (kind : ArcType) (m : Machine Cost) (cycle : List Step)
+    → IsListed kind (graph_of m) (IsUseful (graph_of m)) cycle → NoneImproves kind (graph_of m) (IsUseful (graph_of m)) → ⊥
 uncycled kind m cycle l none = none l.state l.cycle l.counts l.improves
+
+-- a fact of the first strings holds of each list of them
+at_strings : (kind : ArcType) (n : ℕ) (m : Machine Cost) (P : List WeightedWord → Type 0) (xs ys : List WeightedWord)
+    → AreFirstStrings kind (graph_of m) n xs → AreFirstStrings kind (graph_of m) n ys → P xs → P ys
+at_strings kind n m P xs ys one two h = subst P (one_first_strings kind (graph_of m) n xs ys one two) h
 
 -- there is one least end
 one_least_end : (strings : List WeightedWord) (s t : ℕ) → IsLeastEnd strings s → IsLeastEnd strings t → s ≡ t
@@ -54,30 +64,29 @@ module _ (kind : ArcType) (n : ℕ) (m : Machine Cost) where
   one_unlisted_unique TooManyStates ImprovingCycle one two = absurd (uncycled kind m two.0 two.1.2 one.0.2)
   one_unlisted_unique TooManyStates TooManyStates one two = refl
   one_unlisted_unique TooManyStates (Overflow t) (listable, long) (also, large) =
-      absurd (large.fits (subst (λ (strings : List WeightedWord). most_states < labels_listed strings + 1) (one_first_strings kind (graph_of m) n long.strings large.strings long.first large.first) long.long))
+      absurd (large.fits (at_strings kind n m IsLong long.strings large.strings long.first large.first long.long))
   one_unlisted_unique (Overflow s) (NotAcceptor t q) one two = absurd (one.0.0 t q two.0)
   one_unlisted_unique (Overflow s) (HasEpsilon t q) one two = absurd (one.0.1 t q two.1.0)
   one_unlisted_unique (Overflow s) ImprovingCycle one two = absurd (uncycled kind m two.0 two.1.2 one.0.2)
   one_unlisted_unique (Overflow s) TooManyStates (listable, large) (also, long) =
-      absurd (large.fits (subst (λ (strings : List WeightedWord). most_states < labels_listed strings + 1) (one_first_strings kind (graph_of m) n long.strings large.strings long.first large.first) long.long))
+      absurd (large.fits (at_strings kind n m IsLong long.strings large.strings long.first large.first long.long))
   one_unlisted_unique (Overflow s) (Overflow t) (listable, one) (also, two) =
-      ap Overflow (one_least_end two.strings s t (subst (λ (strings : List WeightedWord). IsLeastEnd strings s) (one_first_strings kind (graph_of m) n one.strings two.strings one.first two.first) one.least) two.least)
+      ap Overflow (one_least_end two.strings s t (at_strings kind n m (λ strings. IsLeastEnd strings s) one.strings two.strings one.first two.first one.least) two.least)
 
   -- one machine is that of the first strings
   pub one_lists_strings : One (ListsStrings kind n m)
   one_lists_strings r q one two =
-      one.made ∙ (ap (λ (strings : List WeightedWord). chained (map (string_chain kind) strings)) (one_first_strings kind (graph_of m) n one.strings two.strings one.first two.first) ∙ sym two.made)
+      let same : one.strings ≡ two.strings = one_first_strings kind (graph_of m) n one.strings two.strings one.first two.first in
+      one.made ∙ (ap (λ (strings : List WeightedWord). chained (map (string_chain kind) strings)) same ∙ sym two.made)
 
   module _ (strings : List WeightedWord) (first : AreFirstStrings kind (graph_of m) n strings) where
     -- nothing stands against strings that are listed, whose labels are not too many and whose weights are in range
-    pub strings_pass : IsListable kind m → (most_states < labels_listed strings + 1 → ⊥) → ((state : ℕ) → EndsOut 0 strings state → ⊥) → (why : Unlisted) → IsUnlistedUnique kind n m why → ⊥
+    pub strings_pass : IsListable kind m → (IsLong strings → ⊥) → ((state : ℕ) → EndsOut 0 strings state → ⊥) → (why : Unlisted) → IsUnlistedUnique kind n m why → ⊥
     strings_pass listable fits small (NotAcceptor s p) h = listable.0 s p h.0
     strings_pass listable fits small (HasEpsilon s p) h = listable.1 s p h.1.0
     strings_pass listable fits small ImprovingCycle h = uncycled kind m h.0 h.1.2 listable.2
-    strings_pass listable fits small TooManyStates (also, long) =
-        fits (subst (λ (words : List WeightedWord). most_states < labels_listed words + 1) (one_first_strings kind (graph_of m) n long.strings strings long.first first) long.long)
-    strings_pass listable fits small (Overflow s) (also, large) =
-        small s (subst (λ (words : List WeightedWord). EndsOut 0 words s) (one_first_strings kind (graph_of m) n large.strings strings large.first first) large.least.0)
+    strings_pass listable fits small TooManyStates (also, long) = fits (at_strings kind n m IsLong long.strings strings long.first first long.long)
+    strings_pass listable fits small (Overflow s) (also, large) = small s (at_strings kind n m (λ words. EndsOut 0 words s) large.strings strings large.first first large.least.0)
 
     -- the machine of listed strings
     pub lists_strings : IsMachine (λ (v : Cost). v) m → (r : Machine Cost) → r ≡ chained (map (string_chain kind) strings)
