@@ -6,6 +6,7 @@ pub mod EntryPrefixes
 pub mod Frontiers
 pub mod GoodPaths
 pub mod LeastLeft
+pub mod Leasts
 pub mod MarkedDistances
 pub mod Moving
 pub mod OnePruned
