@@ -175,6 +175,18 @@ class Operations(unittest.TestCase):
         self.prints(fst.shortestpath(fst.compile("0 1 1 1 2\n0 1 2 2 1\n1\n")), "0 1 2 2 1\n1\n")
         self.assertEqual(len(fst.parts(fst.shortestpath(fst.compile("0 1 1 1 2\n0 1 2 2 1\n1\n"), nshortest=9)).arcs), 2)
 
+    @needs("shortestpath")
+    def test_best_strings(self):
+        machine = fst.compile("0 0 a 1\n0 1 b 3\n0 1 b 2\n1\n", acceptor=True, isymbols=TABLE, osymbols=TABLE, keep_isymbols=True, keep_osymbols=True)
+        self.assertEqual([path[:2] for path in fst.strings(machine, nshortest=3)], [(2, "b"), (3, "b"), (3, "ab")])
+        self.assertEqual([path[:2] for path in fst.strings(machine, nshortest=3, unique=True)], [(2, "b"), (3, "ab"), (4, "aab")])
+        self.prints(fst.shortestpath(fst.compile("0 1 1 2\n0 1 1 1\n1 5\n", acceptor=True), nshortest=9, unique=True), "0 1 1 1\n1 6\n")
+        for cause, text in ("not an acceptor at state 0 arc 0", "0 1 1 2\n1\n"), ("epsilon at state 0 arc 0", "0 1 0 0\n1\n"):
+            with self.assertRaisesRegex(fst.Refusal, f"^fst: {cause}$"):
+                fst.shortestpath(fst.compile(text), unique=True)
+        with self.assertRaisesRegex(ValueError, "^unique wants to know how many"):
+            list(fst.strings(machine, unique=True))
+
     @needs("push")
     def test_push(self):
         machine = fst.compile("0 1 1\n0 2 2\n1 3 3 5\n2 3 3 2\n3\n", acceptor=True)

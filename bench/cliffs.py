@@ -55,6 +55,15 @@ PATHS = [
         8,
         theirs="shortestpath --nshortest=1000 {fan} {out}",
     ),
+    Row("shortestpath, a thousand strings of 10^5 arcs", "shortestpath --unique --nshortest=1000 {small_confusion} {out}", 0.2, 0.5),
+    # Distances take most of the time, and the best path needs them too.
+    Row(
+        "shortestpath, a thousand strings (OpenFst: fst, one path)",
+        "shortestpath --unique --nshortest=1000 {confusion} {out}",
+        2.0,
+        2.0,
+        beside="shortestpath {confusion} {out}",
+    ),
 ]
 CLIFFS = [*FANS, *ORDERS, *BETWEEN, *CHAINS, *DOUBLES, *NAMED, *PATHS]
 # It takes gigabytes.

@@ -55,6 +55,7 @@ RECIPES = [
     Recipe("--words", ("other_words",), lambda size: [size // 2, 2]),
     Recipe("--acceptors", ("many", "few"), lambda size: [max(1, size // (FEW_STATES * FEW_FAN)), FEW_STATES, FEW_FAN]),
     Recipe("--confusion", ("confusion",)),
+    Recipe("--confusion", ("small_confusion",), lambda size: [100_000]),
     Recipe("--classes", ("classes",)),
     Recipe("--cycle", ("cycle",)),
     # A batch, of as many lines as the size.

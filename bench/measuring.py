@@ -2,6 +2,7 @@
 import ctypes
 import os
 import re
+import signal
 import subprocess
 import sys
 import time
@@ -11,7 +12,7 @@ from typing import NamedTuple
 # Of prctl: orphans of this process's children become its own children.
 SUBREAPER = 36
 # The shell waits for a word before it becomes the program, so that the shell that began it has ended by then.
-WAITING = 'exec 3<&0; out=$1; shift; { read -r go <&3; exec "$@" < /dev/null > "$out" 3<&-; } & echo $!'
+WAITING = 'exec 3<&0; out=$1 limit=$2; shift 2; { read -r go <&3; [ -z "$limit" ] || ulimit -S -t "$limit"; exec "$@" < /dev/null > "$out" 3<&-; } & echo $!'
 # Statuses of a run that has an answer: 2 is that of `equivalent` where a word has two weights, in OpenFst's tool too.
 ANSWERS = 0, 2
 # Seconds of both programs' runs behind which there are no more rounds.
@@ -19,11 +20,12 @@ LONG = 40
 
 
 class Run(NamedTuple):
-    """Processor seconds, user and system, the peak resident KiB, and seconds by the clock."""
+    """Processor seconds, user and system, the peak resident KiB, seconds by the clock, and whether a limit of seconds ended it."""
 
     seconds: float
     peak: int
     clock: float
+    is_cut: bool = False
 
 
 class Sides(NamedTuple):
@@ -54,6 +56,10 @@ class Sides(NamedTuple):
         """The ratio of the fastest runs."""
         return min(run.seconds for run in self.ours) / min(run.seconds for run in self.theirs)
 
+    def is_cut(self):
+        """Whether a limit ended a run of the second, which takes more than is known of it."""
+        return any(run.is_cut for run in self.theirs)
+
     def spread(self):
         """The least and the greatest ratio of time of two runs of one turn."""
         ratios = [ours.seconds / theirs.seconds for ours, theirs in zip(self.ours, self.theirs)]
@@ -66,40 +72,43 @@ def adopt():
         sys.exit("this system does not give orphans to a process: " + os.strerror(ctypes.get_errno()))
 
 
-def measured(argv, stdout="/dev/null"):
-    """One run of a program.
+def measured(argv, stdout="/dev/null", limit=None):
+    """One run of a program, which a limit of processor seconds may end.
 
     A peak includes what the process held that made it. So a shell makes it, which is small, and ends, whereupon the program
     is this process's own.
     """
-    with subprocess.Popen(["sh", "-c", WAITING, "sh", stdout, *argv], stdin=subprocess.PIPE, stdout=subprocess.PIPE) as shell:
+    with subprocess.Popen(["sh", "-c", WAITING, "sh", stdout, str(limit or ""), *argv], stdin=subprocess.PIPE, stdout=subprocess.PIPE) as shell:
         child = int(shell.stdout.readline())
         shell.wait()
         began = time.monotonic()
         shell.stdin.write(b"go\n")
     _, status, usage = os.wait4(child, 0)
-    if os.waitstatus_to_exitcode(status) not in ANSWERS:
-        sys.exit(f"{' '.join(argv)} ended with status {os.waitstatus_to_exitcode(status)}")
-    return Run(usage.ru_utime + usage.ru_stime, usage.ru_maxrss, time.monotonic() - began)
+    ended = os.waitstatus_to_exitcode(status)
+    is_cut = limit is not None and ended == -signal.SIGXCPU
+    if ended not in ANSWERS and not is_cut:
+        sys.exit(f"{' '.join(argv)} ended with status {ended}")
+    return Run(usage.ru_utime + usage.ru_stime, usage.ru_maxrss, time.monotonic() - began, is_cut)
 
 
-def in_turn(commands, rounds, long=LONG):
-    """The runs of commands in turn, the other way round by turns; so many, or fewer where they take long, but one at least."""
+def in_turn(commands, rounds, long=LONG, limits=None):
+    """The runs of commands in turn, the other way round by turns; so many, or fewer where they take long, but one at least. Each
+    command may have a limit of seconds."""
     runs = [[] for _ in commands]
     spent = 0.0
     for turn in range(rounds):
         if turn and spent > long:
             break
-        order = list(zip(runs, commands))
-        for own, argv in order if turn % 2 == 0 else reversed(order):
-            own.append(measured(argv))
+        order = list(zip(runs, commands, limits or [None] * len(commands)))
+        for own, argv, limit in order if turn % 2 == 0 else reversed(order):
+            own.append(measured(argv, limit=limit))
             spent += own[-1].seconds
     return runs
 
 
-def compared(ours, theirs, rounds, long=LONG):
-    """The runs of two programs in turn."""
-    return Sides(*in_turn([ours, theirs], rounds, long))
+def compared(ours, theirs, rounds, long=LONG, limit=None):
+    """The runs of two programs in turn, of which the second may have a limit of seconds."""
+    return Sides(*in_turn([ours, theirs], rounds, long, [None, limit]))
 
 
 def lacks(argv):

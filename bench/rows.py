@@ -1,5 +1,5 @@
 """The rows: a command on an input, the words of both programs, and how much of OpenFst's time and memory it may take."""
-from typing import NamedTuple
+from typing import NamedTuple, Optional
 
 from inputs import CALL, MOST_STATES, ROOT
 
@@ -10,17 +10,21 @@ MOST = f"--max_states={MOST_STATES}"
 
 
 class Row(NamedTuple):
-    """A command: the words of our program, in which names in braces are inputs (`inputs.py`), and of OpenFst's where they differ."""
+    """A command: the words of our program, in which names in braces are inputs (`inputs.py`), and of OpenFst's where they differ;
+    or the words of our own program that it is measured beside. OpenFst's tool may have a limit of processor seconds."""
 
     name: str
     words: str
     time: float = TIME
     memory: float = MEMORY
     theirs: str = ""
+    beside: str = ""
+    limit: Optional[int] = None
 
     def argv(self, inputs):
-        """The words of both programs with the files of these inputs."""
-        return inputs.words(self.words, "ours"), inputs.words(self.theirs or self.words, "theirs")
+        """The words of both programs, or of both commands, with the files of these inputs."""
+        ours = inputs.words(self.words, "ours")
+        return ours, inputs.words(self.beside, "ours") if self.beside else inputs.words(self.theirs or self.words, "theirs")
 
 
 NAMES = "--isymbols={table.text} --osymbols={table.text}"
@@ -80,6 +84,8 @@ ALGEBRA = [
     Row("shortestpath", "shortestpath {lattice} {out}", 1.0),
     Row("shortestpath, ten", "shortestpath --nshortest=10 {lattice} {out}"),
     Row("shortestpath, a thousand", "shortestpath --nshortest=1000 {lattice} {out}"),
+    # OpenFst's tool is not known to end at 10^6 arcs.
+    Row("shortestpath, a thousand strings", "shortestpath --unique --nshortest=1000 {confusion} {out}", 0.2, 0.5, limit=60),
     Row("determinize, words", f"determinize {MOST} {{words}} {{out}}", theirs="determinize {words} {out}"),
     Row("determinize, a confusion network", f"determinize {MOST} {{confusion}} {{out}}", theirs="determinize {confusion} {out}"),
     Row("push, a trie", "push --push_weights {trie} {out}"),

@@ -50,7 +50,7 @@ def compare(rows, inputs, rounds, tell):
     found = {}
     for row in rows:
         ours, theirs = row.argv(inputs)
-        found[row.name] = None if lacks(ours) else compared(ours, theirs, rounds)
+        found[row.name] = None if lacks(ours) else compared(ours, theirs, rounds, limit=row.limit)
         tell(inputs.size, row.name, found[row.name])
     return found
 

@@ -13,12 +13,17 @@ def head(*names):
     return "| " + " | ".join(names) + " |\n" + "|---" * len(names) + "|"
 
 
+def marks(sides):
+    """What stands before the seconds and MiB of the second program, and before the ratios, where a limit ended a run of it."""
+    return ("over ", "below ") if sides.is_cut() else ("", "")
+
+
 def side_by_side_line(size, name, sides):
     """A row: seconds and MiB of both programs, and their ratios."""
-    (s, t), (k, m) = sides.seconds(), sides.peaks()
+    (s, t), (k, m), (over, below) = sides.seconds(), sides.peaks(), marks(sides)
     least, most = sides.spread()
-    seconds = f"{s:.3f}, {k / 1024:.0f} | {t:.3f}, {m / 1024:.0f}"
-    return f"| {size} | {name} | {seconds} | {sides.time():.2f} | {least:.2f} to {most:.2f} | {sides.memory():.2f} |"
+    seconds = f"{s:.3f}, {k / 1024:.0f} | {over}{t:.3f}, {over}{m / 1024:.0f}"
+    return f"| {size} | {name} | {seconds} | {below}{sides.time():.2f} | {least:.2f} to {most:.2f} | {below}{sides.memory():.2f} |"
 
 
 def floor_line(size, name, theirs, floor, ours):
@@ -52,9 +57,9 @@ def all_commands(found):
         if sides is None:
             continue
         ratios = [f"{found[size][name].time():.2f}, {found[size][name].memory():.2f}" for size in lesser]
-        (s, t), (k, m), (least, most) = sides.seconds(), sides.peaks(), sides.spread()
-        figures = [f"{s:.3f}, {k / 1024:.0f}", f"{t:.3f}, {m / 1024:.0f}", f"{sides.time():.2f}", f"{least:.2f} to {most:.2f}"]
-        lines.append("| " + " | ".join([name, *ratios, *figures, f"{sides.best():.2f}", f"{sides.memory():.2f}"]) + " |")
+        (s, t), (k, m), (least, most), (over, below) = sides.seconds(), sides.peaks(), sides.spread(), marks(sides)
+        figures = [f"{s:.3f}, {k / 1024:.0f}", f"{over}{t:.3f}, {over}{m / 1024:.0f}", f"{below}{sides.time():.2f}", f"{least:.2f} to {most:.2f}"]
+        lines.append("| " + " | ".join([name, *ratios, *figures, f"{below}{sides.best():.2f}", f"{below}{sides.memory():.2f}"]) + " |")
     return "\n".join(lines)
 
 

@@ -34,7 +34,7 @@ _fst() {
     compose | intersect | difference) options='--connect= --max_states=' ;;
     rmepsilon) options='--connect= --queue_type=' ;;
     shortestdistance) options='--reverse --queue_type=' ;;
-    shortestpath) options='--nshortest=' ;;
+    shortestpath) options='--nshortest= --unique' ;;
     push) options='--push_weights --remove_total_weight --queue_type=' ;;
     encode) options='--encode_labels --encode_weights --decode' ;;
     determinize | equivalent) options='--max_states=' ;;

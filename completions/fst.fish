@@ -43,6 +43,6 @@ __fst_row replace 'puts rules in place of their calls'
 __fst_row reverse 'turns every path round'
 __fst_row rmepsilon 'removes epsilon arcs' $connect $queue
 __fst_row shortestdistance 'the distance of each state' --reverse $queue
-__fst_row shortestpath 'the best paths' --nshortest=
+__fst_row shortestpath 'the best paths' --nshortest= --unique
 __fst_row union 'the paths of both'
 functions -e __fst_row

@@ -325,9 +325,16 @@ def _names(table: Optional[Table]) -> Dict[int, str]:
         return {int(fields[1]): fields[0] for fields in map(str.split, lines) if len(fields) == 2 and fields[1].isdigit()}
 
 
-def strings(machine: bytes, *, isymbols: Optional[Table] = None, osymbols: Optional[Table] = None, between: Optional[str] = None) -> Iterator[Path]:
+def strings(machine: bytes, *, isymbols: Optional[Table] = None, osymbols: Optional[Table] = None, between: Optional[str] = None,
+            nshortest: Optional[int] = None, unique: bool = False) -> Iterator[Path]:
     """The strings of each successful path, in the order of the arcs, epsilons left out. Between labels stands `between`, if not
-    given nothing between names and a blank between numbers. A cycle has no end of paths: ValueError names a state on it."""
+    given nothing between names and a blank between numbers. A cycle has no end of paths: ValueError names a state on it.
+    With `nshortest` the strings of so many best paths, best first, or, `unique`, so many different strings of an acceptor
+    without epsilon."""
+    if nshortest is not None:
+        machine = shortestpath(machine, nshortest=nshortest, unique=unique)
+    elif unique:
+        raise ValueError("unique wants to know how many: nshortest=9, say")
     isymbols, osymbols = _shown(machine, isymbols, osymbols)
     start, arcs, finals = parts(machine, isymbols=isymbols, osymbols=osymbols)
     arc_type, leaving = _arc_type(machine), {}  # type: str, Dict[int, List[Arc]]
@@ -359,7 +366,7 @@ def _refuse_cycles(start: int, leaving: Mapping[int, List[Arc]]) -> None:
             on_way.discard(state)
             done.add(state)
         elif arc[1] in on_way:
-            raise ValueError(f"state {arc[1]} lies on a cycle: shortestpath(machine, nshortest=9), say, gives the best paths")
+            raise ValueError(f"state {arc[1]} lies on a cycle: nshortest=9, say, gives the strings of the best paths")
         elif arc[1] not in done:
             on_way.add(arc[1])
             way.append((arc[1], iter(leaving.get(arc[1], []))))
@@ -508,9 +515,9 @@ def shortestdistance(machine: bytes, *, reverse: bool = False, queue_type: Optio
     return [weight_of(line.split("\t")[1]) for line in lines]
 
 
-def shortestpath(machine: bytes, *, nshortest: int = 1) -> Machine:
-    """The best paths, best first."""
-    return _unary("shortestpath", machine, f"--nshortest={nshortest}")
+def shortestpath(machine: bytes, *, nshortest: int = 1, unique: bool = False) -> Machine:
+    """The best paths, best first, or the best different strings of an acceptor without epsilon."""
+    return _unary("shortestpath", machine, f"--nshortest={nshortest}", *_options(unique=unique))
 
 
 def push(machine: bytes, *, remove_total_weight: bool = False, queue_type: Optional[str] = None) -> Machine:

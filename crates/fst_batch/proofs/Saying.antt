@@ -23,7 +23,7 @@ use Rattle.fst_nbest.specs.Chains.{Chain, chain_of}
 use Rattle.fst_nbest.specs.FirstPaths.{AreFirstPaths}
 use Rattle.fst_nbest.specs.Listing.{AreAllSteps, AreSuccessfulWalks, IsSuccessfulWalk}
 use Rattle.fst_nbest.proofs.Chained.{path_last, path_letters}
-use Rattle.fst_nbest.proofs.Remaining.{all_steps}
+use Rattle.fst_nbest.proofs.PathChains.{all_steps}
 use Rattle.fst_delayed.proofs.Keys.{Has-map}
 use Rattle.fst_lattice.specs.Lattice.{HasNoZero, Point, lattice}
 use Rattle.fst_batch.specs.BestPaths.{Improves, first_not_text, labels_of, told_of}

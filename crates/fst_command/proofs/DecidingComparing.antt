@@ -1,49 +1,22 @@
 -- `equivalent` has one outcome: a word has one weight, and one word is the least.
-use Rattle.std.proofs.Common.{◌≡◌, ◌⊎◌, inl, inr, ℕ, List, [], ◌∷◌, length, refl, sym, ap, ap₂, ◌∙◌, subst}
-use Rattle.std.proofs.lemmas.Option.{same_Some}
+use Rattle.std.proofs.Common.{◌≡◌, ◌⊎◌, inl, inr, ℕ, List, length, refl, sym, ap, ◌∙◌, subst}
 use Rattle.fst_semiring.specs.declared.arc_type.ArcType.{ArcType}
 use Rattle.fst_semiring.specs.Cost.{Cost}
-use Rattle.fst_semiring.specs.Semiring.{times}
-use Rattle.fst_machine.specs.Graph.{Graph, graph_of}
-use Rattle.fst_machine.specs.Machine.{Arc, Machine}
+use Rattle.fst_machine.specs.Graph.{graph_of}
+use Rattle.fst_machine.specs.Machine.{Machine}
 use Rattle.fst_binary.specs.Sides.{neither}
 use Rattle.fst_trim.specs.WordOrder.{IsSooner}
-use Rattle.fst_trim.specs.WordWeights.{IsSingle, IsWordWeight, SameWords, Weighs, WordWeighs}
+use Rattle.fst_trim.specs.WordWeights.{IsSingle, IsWordWeight, SameWords}
 use Rattle.fst_trim.proofs.WordOrder.{sooner_once}
-use Rattle.fst_minimize.proofs.Spelling.{starts_with, word_ends}
 use Rattle.fst_setops.specs.Separating.{IsSeparating, Separates}
 use Rattle.fst_setops.specs.Verdicts.{IsSaid}
 use Rattle.fst_setops.specs.declared.verdict.Verdict.{Verdict}
 use Rattle.fst_setops.specs.declared.verdict.Verdict.TheVariants.{Equivalent, Separated}
+use Rattle.fst_setops.proofs.Led.{one_weight}
 use Rattle.fst_command.specs.Comparing.{IsCompared, IsSeparation, same_text, separation_text}
 use Rattle.fst_command.specs.Meaning.{Made, bytes_of, separation, text}
 use Rattle.fst_command.specs.OneOutcome.{One}
 use Rattle.fst_command.proofs.OneMade.{IsOneMade}
-
--- ---- a word has one weight
-
-module _ {N : Type 0} (kind : ArcType) (g : Graph N) (single : IsSingle g) where
-  weighs_once : (x : List ℕ) (p : N) (v w : Cost) → Weighs kind g p x v → Weighs kind g p x w → v ≡ w
-  weighs_once [] p v w one two = (word_ends kind g p v one).0 ∙ sym (word_ends kind g p w two).0
-  weighs_once (l ∷ x) p v w one two =
-      let s = starts_with kind g p l x v one in
-      let t = starts_with kind g p l x w two in
-      let same : s.arc ≡ t.arc = single p s.place t.place s.arc t.arc s.has t.has (s.label ∙ sym t.label) in
-      let rest : s.rest ≡ t.rest = weighs_once x t.arc.next s.rest t.rest (subst (λ (a : Arc Cost N). Weighs kind g a.next x s.rest) same s.weighs) t.weighs in
-      s.weight ∙ (ap₂ (times kind) (ap (λ (a : Arc Cost N). a.weight) same) rest ∙ sym t.weight)
-
-  word_once : (x : List ℕ) (v w : Cost) → WordWeighs kind g x v → WordWeighs kind g x w → v ≡ w
-  word_once x v w one two =
-      let start : one.first ≡ two.first = same_Some one.first two.first (sym one.starts ∙ two.starts) in
-      weighs_once x two.first v w (subst (λ (p : N). Weighs kind g p x v) start one.weighs) two.weighs
-
-  one_word_weight : (x : List ℕ) → One (IsWordWeight kind g x)
-  one_word_weight x v w (inl one) (inl two) = word_once x v w one two
-  one_word_weight x v w (inl one) (inr two) = absurd (two.0 v one)
-  one_word_weight x v w (inr one) (inl two) = absurd (one.0 w two)
-  one_word_weight x v w (inr one) (inr two) = one.1 ∙ sym two.1
-
--- ---- what is told
 
 module _ (kind : ArcType) (a b : Machine Cost) where
   -- one word is the least
@@ -60,9 +33,9 @@ module _ (kind : ArcType) (a b : Machine Cost) where
   one_separation first second x y one two =
       let word : one.word ≡ two.word = one_least one.word two.word one.first_weight one.second_weight two.first_weight two.second_weight one.separating two.separating in
       let v : one.first_weight ≡ two.first_weight =
-      one_word_weight kind (graph_of a) first two.word one.first_weight two.first_weight (subst (λ (z : List ℕ). IsWordWeight kind (graph_of a) z one.first_weight) word one.separating.separates.first) two.separating.separates.first in
+      one_weight kind (graph_of a) first two.word one.first_weight two.first_weight (subst (λ (z : List ℕ). IsWordWeight kind (graph_of a) z one.first_weight) word one.separating.separates.first) two.separating.separates.first in
       let w : one.second_weight ≡ two.second_weight =
-      one_word_weight kind (graph_of b) second two.word one.second_weight two.second_weight (subst (λ (z : List ℕ). IsWordWeight kind (graph_of b) z one.second_weight) word one.separating.separates.second) two.separating.separates.second in
+      one_weight kind (graph_of b) second two.word one.second_weight two.second_weight (subst (λ (z : List ℕ). IsWordWeight kind (graph_of b) z one.second_weight) word one.separating.separates.second) two.separating.separates.second in
       let told : separation (separation_text kind one.first_weight one.second_weight one.word) ≡ separation (separation_text kind two.first_weight two.second_weight two.word) = rw (word, v, w) refl in
       one.is ∙ (told ∙ sym two.is)
 
@@ -70,7 +43,7 @@ module _ (kind : ArcType) (a b : Machine Cost) where
   none_apart : (x : Made) → IsSingle (graph_of b) → SameWords kind (graph_of a) (graph_of b) → IsSeparation kind a b x → ⊥
   none_apart x second same apart =
       let s : Separates kind (graph_of a) (graph_of b) apart.word apart.first_weight apart.second_weight = apart.separating.separates in
-      s.differ (one_word_weight kind (graph_of b) second apart.word apart.first_weight apart.second_weight ((same apart.word apart.first_weight).0 s.first) s.second)
+      s.differ (one_weight kind (graph_of b) second apart.word apart.first_weight apart.second_weight ((same apart.word apart.first_weight).0 s.first) s.second)
 
   one_compared : One (IsCompared kind a b)
   one_compared x y one two = by one.says two.says

@@ -1,6 +1,6 @@
 -- What holds of each command, a row each: of what it is given one fault stops it and one thing is made, with as many outputs
 -- as its plan stores.
-use Rattle.std.proofs.Common.{◌≡◌, ℕ, List, length, sym, ap, ◌∙◌}
+use Rattle.std.proofs.Common.{◌≡◌, ℕ, Bool, false, true, List, length, sym, ap, ◌∙◌}
 use Rattle.fst_fields.specs.Lines.{lines_of}
 use Rattle.fst_machine.proofs.OneMachine.{one_connected}
 use Rattle.fst_rational.specs.Constructions.{closure_of, concat_of, reverse_of, union_of}
@@ -24,7 +24,7 @@ use Rattle.fst_command.specs.Composing.{state_limit}
 use Rattle.fst_command.specs.Given.{Given, Held}
 use Rattle.fst_command.specs.Tabling.{tables_for}
 use Rattle.fst_command.specs.Texts.{print_choices}
-use Rattle.fst_command.specs.Listing.{path_count}
+use Rattle.fst_command.specs.Listing.{listing_by, path_count}
 use Rattle.fst_binary.specs.Sides.{neither}
 use Rattle.fst_command.specs.Meaning.{Made, Meaning, Product, bytes_of}
 use Rattle.fst_command.specs.Measuring.{direction_of}
@@ -40,6 +40,7 @@ use Rattle.fst_command.proofs.DecidingComposing.{one_composed}
 use Rattle.fst_command.proofs.DecidingDeterminizing.{one_determinized, one_undetermined}
 use Rattle.fst_command.proofs.DecidingIntersecting.{one_intersected}
 use Rattle.fst_command.proofs.DecidingListing.{one_listed, one_unlisted}
+use Rattle.fst_command.proofs.DecidingStrings.{one_lists_strings, one_unlisted_unique}
 use Rattle.fst_command.proofs.DecidingMinimizing.{one_minimizing, one_unminimized}
 use Rattle.fst_command.proofs.DecidingPruning.{one_prunes, one_unpruned}
 use Rattle.fst_command.proofs.DecidingPushing.{one_pushing, one_unpushed}
@@ -53,6 +54,17 @@ use Rattle.fst_command.proofs.OneMade.{IsOneMade, a_coding, a_machine, a_text, a
 pub record IsLawful (m : Meaning) (given : Given) (stored : ℕ) : Type 0 where
   pub stopped : One (m.stops given)
   pub makes : IsOneMade stored (m.makes given)
+
+-- paths are listed, or strings
+lawful_listing : (unique : Bool) (n : ℕ) (given : Given) → IsLawful (listing_by unique n) given 1
+lawful_listing false n given = record {
+  stopped = one_for_one _ (λ m. one_told _ _ (one_unlisted given.kind n m)) given.machines;
+  makes = of_one _ (λ m. a_machine given.kind _ (one_listed given.kind n m)) given.machines;
+}
+lawful_listing true n given = record {
+  stopped = one_for_one _ (λ m. one_told _ _ (one_unlisted_unique given.kind n m)) given.machines;
+  makes = of_one _ (λ m. a_machine given.kind _ (one_lists_strings given.kind n m)) given.machines;
+}
 
 -- ---- the table
 
@@ -104,10 +116,7 @@ lawful verbs.Shortestdistance labels o given = record {
   stopped = one_for_one _ (λ m. one_told _ _ (one_unmeasured given.kind m (direction_of o))) given.machines;
   makes = of_one _ (λ m. a_text _ _ (one_distances given.kind m (direction_of o))) given.machines;
 }
-lawful verbs.Shortestpath labels o given = record {
-  stopped = one_for_one _ (λ m. one_told _ _ (one_unlisted given.kind (path_count o) m)) given.machines;
-  makes = of_one _ (λ m. a_machine given.kind _ (one_listed given.kind (path_count o) m)) given.machines;
-}
+lawful verbs.Shortestpath labels o given = lawful_listing o.unique (path_count o) given
 lawful verbs.Push labels o given = record {
   stopped = one_for_one _ (λ m. one_unpushed given.kind o.remove_total_weight m) given.machines;
   makes = of_one _ (λ m. a_machine given.kind _ (one_pushing given.kind o.remove_total_weight m)) given.machines;

@@ -27,6 +27,7 @@ mod DecidingSubtracting
 mod DecidingComparing
 mod DecidingDeterminizing
 mod DecidingListing
+mod DecidingStrings
 mod DecidingRemoving
 mod DecidingMinimizing
 mod DecidingPruning

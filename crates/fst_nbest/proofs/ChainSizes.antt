@@ -5,24 +5,10 @@ use Rattle.std.proofs.lemmas.List.{length-append}
 use Rattle.std.proofs.lemmas.List.Elements.{All-append, All-cons, All-nil}
 use Rattle.std.proofs.lemmas.List.Sums.{sum_by-cons, sum_by-append}
 use Rattle.fst_semiring.specs.Cost.{Cost, infinite}
-use Rattle.fst_machine.specs.Machine.{Arc, State, IsArc, IsMachine, arc_total, greatest_label, most_states}
+use Rattle.fst_machine.specs.Machine.{Arc, State, IsArc, IsMachine, arc_total, most_states}
 use Rattle.fst_machine.specs.Letters.{Letter}
-use Rattle.fst_nbest.specs.Chains.{Chain, lettered, tail_states, own_states, first_arc, first_arcs, all_states, final_of, arcs_listed, chained}
+use Rattle.fst_nbest.specs.Chains.{Chain, IsLetter, AreLetters, HaveLetters, lettered, tail_states, own_states, first_arc, first_arcs, all_states, final_of, arcs_listed, chained}
 use Rattle.fst_nbest.proofs.Chained.{own-length}
-
--- the letter of an arc of a machine
-pub record IsLetter (l : Letter) : Type 0 where
-  pub ilabel : l.ilabel ≤ greatest_label
-  pub olabel : l.olabel ≤ greatest_label
-  pub weight : l.weight ≡ infinite → ⊥
-
-abbrev pub AreLetters : List Letter → Type 0
-AreLetters [] = Unit {0}
-AreLetters (l ∷ ls) = IsLetter l × AreLetters ls
-
-abbrev pub HaveLetters : List Chain → Type 0
-HaveLetters [] = Unit {0}
-HaveLetters (c ∷ cs) = AreLetters c.letters × HaveLetters cs
 
 abbrev arcs_of : State Cost → ℕ
 arcs_of t = length t.arcs

@@ -101,14 +101,31 @@ abbrev pub EndsAs : Cost → List Letter → Cost → Type 0
 EndsAs v [] last = last ≡ v
 EndsAs v (l ∷ ls) last = Unit {0}
 
--- each chain ends in a final name, and those without arcs in one
-abbrev pub AreGood : Cost → List Chain → Type 0
-AreGood v [] = Unit {0}
-AreGood v (c ∷ cs) = EndsAs v c.letters c.last × (c.last ≡ infinite → ⊥) × AreGood v cs
+-- each chain without arcs does
+abbrev pub EndAlike : Cost → List Chain → Type 0
+EndAlike v [] = Unit {0}
+EndAlike v (c ∷ cs) = EndsAs v c.letters c.last × EndAlike v cs
+
+-- each chain ends in a final name
+abbrev pub AreFinal : List Chain → Type 0
+AreFinal [] = Unit {0}
+AreFinal (c ∷ cs) = (c.last ≡ infinite → ⊥) × AreFinal cs
 
 abbrev pub HasEmpty : List Chain → Type 0
 HasEmpty [] = ⊥
 HasEmpty (c ∷ cs) = (c.letters ≡ []) ⊎ HasEmpty cs
+
+-- a successful path that says what the chain says
+pub record SaysChain (kind : ArcType) (h : Graph ℕ) (c : Chain) : Type 0 where
+  pub path : List (Transition ℕ)
+  pub successful : IsSuccessful kind h path (times kind (product kind c.letters) c.last)
+  pub said : letters path ≡ c.letters
+
+-- The successful paths say just what the chains say that have a final weight.
+pub record SayChains (kind : ArcType) (cs : List Chain) (h : Graph ℕ) : Type 0 where
+  pub each : (c : Chain) → Has cs c → (c.last ≡ infinite → ⊥) → SaysChain kind h c
+  pub all : (path : List (Transition ℕ)) (w : Cost) → IsSuccessful kind h path w
+      → (c : Chain) × Has cs c × (letters path ≡ c.letters) × (w ≡ times kind (product kind c.letters) c.last)
 
 module _ (kind : ArcType) (m : Machine Cost) (v : Cost) (starts : m.start ≡ Some 0) where
   abbrev h : Graph ℕ
@@ -130,17 +147,33 @@ module _ (kind : ArcType) (m : Machine Cost) (v : Cost) (starts : m.start ≡ So
         weight = ap₂ (λ (ms : List Letter) (w : Cost). times kind (product kind (l ∷ ms)) w) (sym (tail_letters k ls)) (sym rest.1);
       }
 
-  all_successful : (j k : ℕ) (cs : List Chain) → Stands (h.arcs 0) j (first_arcs k cs) → Stands m.states k (all_states k cs) → AreGood v cs → (HasEmpty cs → h.final 0 ≡ v)
+  all_successful : (j k : ℕ) (cs : List Chain) → Stands (h.arcs 0) j (first_arcs k cs) → Stands m.states k (all_states k cs) → EndAlike v cs → AreFinal cs → (HasEmpty cs → h.final 0 ≡ v)
       → (c : WeightedPath ℕ) → Has (chain_list kind j k cs) c → IsSuccessful kind h c.path c.weight
-  all_successful j k [] arcs states good start c none = absurd none
-  all_successful j k (d ∷ cs) arcs states good start c (inl e) =
+  all_successful j k [] arcs states alike final start c none = absurd none
+  all_successful j k (d ∷ cs) arcs states alike final start c (inl e) =
       subst (λ (b : WeightedPath ℕ). IsSuccessful kind h b.path b.weight) e
       (one_successful j k d.letters d.last (stands_left (h.arcs 0) j (first_arc k d.letters) (first_arcs (k + length d.letters) cs) arcs)
-      (stands_left m.states k (own_states k d.last d.letters) (all_states (k + length d.letters) cs) states) good.0 good.1 (λ none. start (inl none)))
-  all_successful j k (d ∷ cs) arcs states good start c (inr there) =
+      (stands_left m.states k (own_states k d.last d.letters) (all_states (k + length d.letters) cs) states) alike.0 final.0 (λ none. start (inl none)))
+  all_successful j k (d ∷ cs) arcs states alike final start c (inr there) =
       all_successful (j + length (first_arc k d.letters)) (k + length d.letters) cs
       (stands_right (h.arcs 0) j (length (first_arc k d.letters)) (first_arc k d.letters) (first_arcs (k + length d.letters) cs) refl arcs)
-      (stands_right m.states k (length d.letters) (own_states k d.last d.letters) (all_states (k + length d.letters) cs) (own-length k d.last d.letters) states) good.2 (λ e. start (inr e)) c there
+      (stands_right m.states k (length d.letters) (own_states k d.last d.letters) (all_states (k + length d.letters) cs) (own-length k d.last d.letters) states) alike.1 final.1 (λ e. start (inr e)) c there
+
+  -- each chain with a final weight is said, whatever the others have
+  each_said : (j k : ℕ) (cs : List Chain) → Stands (h.arcs 0) j (first_arcs k cs) → Stands m.states k (all_states k cs) → EndAlike v cs → (HasEmpty cs → h.final 0 ≡ v)
+      → (c : Chain) → Has cs c → (c.last ≡ infinite → ⊥) → SaysChain kind h c
+  each_said j k [] arcs states alike start c none final = absurd none
+  each_said j k (d ∷ cs) arcs states alike start c (inl e) final =
+      subst (λ (b : Chain). SaysChain kind h b) e (record {
+        path = chain_path j k d.letters;
+        successful = one_successful j k d.letters d.last (stands_left (h.arcs 0) j (first_arc k d.letters) (first_arcs (k + length d.letters) cs) arcs)
+            (stands_left m.states k (own_states k d.last d.letters) (all_states (k + length d.letters) cs) states) alike.0 (λ z. final (ap (λ (b : Chain). b.last) (sym e) ∙ z)) (λ none. start (inl none));
+        said = chain_letters j k d.letters;
+      })
+  each_said j k (d ∷ cs) arcs states alike start c (inr there) final =
+      each_said (j + length (first_arc k d.letters)) (k + length d.letters) cs
+      (stands_right (h.arcs 0) j (length (first_arc k d.letters)) (first_arc k d.letters) (first_arcs (k + length d.letters) cs) refl arcs)
+      (stands_right m.states k (length d.letters) (own_states k d.last d.letters) (all_states (k + length d.letters) cs) (own-length k d.last d.letters) states) alike.1 (λ e. start (inr e)) c there final
 
   -- a path that leaves the start by an arc of a chain is that chain
   one_only : (j k : ℕ) (ls : List Letter) (last : Cost) → Stands m.states k (own_states k last ls) → (t : Transition ℕ) (path : List (Transition ℕ)) (q i : ℕ) → slice_get (first_arc k ls) i ≡ Some t.arc
@@ -173,33 +206,33 @@ module _ (kind : ArcType) (m : Machine Cost) (v : Cost) (starts : m.start ≡ So
       by_part (inr r) later = inr (later r.0 r.1 (omega (arith, place, r.2)))
 
 -- the final weight of the start
-final_same : (v : Cost) (cs : List Chain) → AreGood v cs → final_of v cs ≡ v
-final_same v [] good = refl
-final_same v (c ∷ cs) good = ap (λ (w : Cost). final_of w cs) (by_letters c.letters good.0) ∙ final_same v cs good.2
+final_same : (v : Cost) (cs : List Chain) → EndAlike v cs → final_of v cs ≡ v
+final_same v [] alike = refl
+final_same v (c ∷ cs) alike = ap (λ (w : Cost). final_of w cs) (by_letters c.letters alike.0) ∙ final_same v cs alike.1
   where
     by_letters : (ls : List Letter) → EndsAs v ls c.last → start_weight v c.last ls ≡ v
     by_letters [] e = e
     by_letters (l ∷ ls) e = refl
 
-pub final_empty : (v so_far : Cost) (cs : List Chain) → AreGood v cs → HasEmpty cs → final_of so_far cs ≡ v
-final_empty v so_far [] good none = absurd none
-final_empty v so_far (c ∷ cs) good (inl e) =
-    let ends : c.last ≡ v = subst (λ (ls : List Letter). EndsAs v ls c.last) e good.0 in
-    ap (λ (ls : List Letter). final_of (start_weight so_far c.last ls) cs) e ∙ (ap (λ (w : Cost). final_of w cs) ends ∙ final_same v cs good.2)
-final_empty v so_far (c ∷ cs) good (inr there) = final_empty v (start_weight so_far c.last c.letters) cs good.2 there
+pub final_empty : (v so_far : Cost) (cs : List Chain) → EndAlike v cs → HasEmpty cs → final_of so_far cs ≡ v
+final_empty v so_far [] alike none = absurd none
+final_empty v so_far (c ∷ cs) alike (inl e) =
+    let ends : c.last ≡ v = subst (λ (ls : List Letter). EndsAs v ls c.last) e alike.0 in
+    ap (λ (ls : List Letter). final_of (start_weight so_far c.last ls) cs) e ∙ (ap (λ (w : Cost). final_of w cs) ends ∙ final_same v cs alike.1)
+final_empty v so_far (c ∷ cs) alike (inr there) = final_empty v (start_weight so_far c.last c.letters) cs alike.1 there
 
 -- where the start is final, a chain without arcs is listed
-empty_listed : (kind : ArcType) (v so_far : Cost) (j k : ℕ) (cs : List Chain) → AreGood v cs → so_far ≡ infinite → (final_of so_far cs ≡ infinite → ⊥)
+empty_listed : (kind : ArcType) (v so_far : Cost) (j k : ℕ) (cs : List Chain) → EndAlike v cs → so_far ≡ infinite → (final_of so_far cs ≡ infinite → ⊥)
     → Has (chain_list kind j k cs) (record { path = []; weight = times kind (one_of kind) v })
-empty_listed kind v so_far j k [] good none final = absurd (final none)
-empty_listed kind v so_far j k (c ∷ cs) good none final =
-    by_letters c.letters refl (λ e. empty_listed kind v (start_weight so_far c.last c.letters) (j + length (first_arc k c.letters)) (k + length c.letters) cs good.2 (e ∙ none) final)
+empty_listed kind v so_far j k [] alike none final = absurd (final none)
+empty_listed kind v so_far j k (c ∷ cs) alike none final =
+    by_letters c.letters refl (λ e. empty_listed kind v (start_weight so_far c.last c.letters) (j + length (first_arc k c.letters)) (k + length c.letters) cs alike.1 (e ∙ none) final)
   where
     by_letters : (ls : List Letter) → c.letters ≡ ls
         → (start_weight so_far c.last c.letters ≡ so_far → Has (chain_list kind (j + length (first_arc k c.letters)) (k + length c.letters) cs) (record { path = []; weight = times kind (one_of kind) v }))
         → Has (chain_list kind j k (c ∷ cs)) (record { path = []; weight = times kind (one_of kind) v })
     by_letters [] e later =
-        let ends : c.last ≡ v = subst (λ (ls : List Letter). EndsAs v ls c.last) e good.0 in
+        let ends : c.last ≡ v = subst (λ (ls : List Letter). EndsAs v ls c.last) e alike.0 in
         inl (λ n. record { path = chain_path j k (e n); weight = times kind (product kind (e n)) (ends n) })
     by_letters (l ∷ ls) e later = inr (later (ap (λ (ms : List Letter). start_weight so_far c.last ms) e))
 
@@ -323,7 +356,16 @@ chains_ordered {N} kind j k (a ∷ listed) (c ∷ cs) fits ascends =
 none_start : (kind : ArcType) (g : Graph ℕ) (path : List (Transition ℕ)) (w : Cost) → g.start ≡ None → IsSuccessful kind g path w → ⊥
 none_start kind g path w none h = let e : None ≡ Some h.first = sym none ∙ h.starts in cc
 
-module _ (kind : ArcType) (v : Cost) (d : Chain) (ds : List Chain) (good : AreGood v (d ∷ ds)) where
+-- what stands in the list is said by one of the chains
+list_said : (kind : ArcType) (j k : ℕ) (cs : List Chain) (p : WeightedPath ℕ) → Has (chain_list kind j k cs) p
+    → (c : Chain) × Has cs c × (letters p.path ≡ c.letters) × (p.weight ≡ times kind (product kind c.letters) c.last)
+list_said kind j k [] p none = absurd none
+list_said kind j k (c ∷ cs) p (inl e) = (c, inl refl, ap (λ (q : WeightedPath ℕ). letters q.path) (sym e) ∙ chain_letters j k c.letters, ap (λ (q : WeightedPath ℕ). q.weight) (sym e))
+list_said kind j k (c ∷ cs) p (inr there) =
+    let rest = list_said kind (j + length (first_arc k c.letters)) (k + length c.letters) cs p there in
+    (rest.0, inr rest.1, rest.2)
+
+module _ (kind : ArcType) (v : Cost) (d : Chain) (ds : List Chain) (alike : EndAlike v (d ∷ ds)) where
   abbrev cs : List Chain
   cs = d ∷ ds
 
@@ -343,8 +385,8 @@ module _ (kind : ArcType) (v : Cost) (d : Chain) (ds : List Chain) (good : AreGo
       → Has (chain_list kind 0 1 cs) (record { path = path; weight = times kind (product kind (letters path)) ((graph_of m).final q) })
   from_start [] q here final =
       let start : (graph_of m).final 0 ≡ infinite → ⊥ = λ e. final (ap (λ (p : ℕ). (graph_of m).final p) (sym here) ∙ e) in
-      let listed : Has (chain_list kind 0 1 cs) (record { path = []; weight = times kind (one_of kind) v }) = empty_listed kind v infinite 0 1 cs good refl start in
-      let ends : v ≡ (graph_of m).final q = sym (final_empty v infinite cs good (empty_there 0 1 cs listed)) ∙ ap (λ (p : ℕ). (graph_of m).final p) here in
+      let listed : Has (chain_list kind 0 1 cs) (record { path = []; weight = times kind (one_of kind) v }) = empty_listed kind v infinite 0 1 cs alike refl start in
+      let ends : v ≡ (graph_of m).final q = sym (final_empty v infinite cs alike (empty_there 0 1 cs listed)) ∙ ap (λ (p : ℕ). (graph_of m).final p) here in
       subst (λ (w : Cost). Has (chain_list kind 0 1 cs) (record { path = []; weight = times kind (one_of kind) w })) ends listed
   from_start (t ∷ path) q leads final =
       all_only kind m v refl 0 1 cs (stands_behind (record { final = final_of infinite cs; arcs = first_arcs 1 cs }) (all_states 1 cs)) t path q t.place leads.0.1 leads.0.0 (omega arith) leads.1 final
@@ -355,24 +397,35 @@ module _ (kind : ArcType) (v : Cost) (d : Chain) (ds : List Chain) (good : AreGo
       let leads : IsPath (graph_of m) 0 path h.last = subst (λ (p : ℕ). IsPath (graph_of m) p path h.last) first h.leads in
       subst (λ (z : Cost). Has (chain_list kind 0 1 cs) (record { path = path; weight = z })) (sym h.weight) (from_start path h.last leads h.final)
 
-  some_IsChained : {N : Type 0} (listed : List (WeightedPath N)) → Fits kind listed cs → IsChained kind listed (graph_of m)
-  some_IsChained listed fits = record {
+  some_IsChained : {N : Type 0} (listed : List (WeightedPath N)) → Fits kind listed cs → AreFinal cs → IsChained kind listed (graph_of m)
+  some_IsChained listed fits final = record {
     chains = chain_list kind 0 1 cs;
     same = same_said kind 0 1 listed cs fits;
-    successful = all_successful kind m v refl 0 1 cs (stands_whole (first_arcs 1 cs)) (stands_behind (record { final = final_of infinite cs; arcs = first_arcs 1 cs }) (all_states 1 cs)) good (final_empty v infinite cs good);
+    successful = all_successful kind m v refl 0 1 cs (stands_whole (first_arcs 1 cs)) (stands_behind (record { final = final_of infinite cs; arcs = first_arcs 1 cs }) (all_states 1 cs)) alike final (final_empty v infinite cs alike);
     all = λ c h. all_listed c.path c.weight h;
     ordered = chains_ordered kind 0 1 listed cs fits;
   }
 
-pub chained_IsChained : {N : Type 0} (kind : ArcType) (v : Cost) (listed : List (WeightedPath N)) (cs : List Chain) → Fits kind listed cs → AreGood v cs → IsChained kind listed (graph_of (chained cs))
-chained_IsChained kind v listed [] fits good = record {
+  some_say : SayChains kind cs (graph_of m)
+  some_say = record {
+    each = each_said kind m v refl 0 1 cs (stands_whole (first_arcs 1 cs)) (stands_behind (record { final = final_of infinite cs; arcs = first_arcs 1 cs }) (all_states 1 cs)) alike (final_empty v infinite cs alike);
+    all = λ path w h. list_said kind 0 1 cs (record { path = path; weight = w }) (all_listed path w h);
+  }
+
+pub chained_IsChained : {N : Type 0} (kind : ArcType) (v : Cost) (listed : List (WeightedPath N)) (cs : List Chain) → Fits kind listed cs → EndAlike v cs → AreFinal cs → IsChained kind listed (graph_of (chained cs))
+chained_IsChained kind v listed [] fits alike final = record {
   chains = [];
   same = same_said kind 0 1 listed [] fits;
   successful = λ c none. absurd none;
   all = λ c h. none_start kind (graph_of (chained [])) c.path c.weight refl h;
   ordered = λ ascends. tt;
 }
-chained_IsChained kind v listed (d ∷ ds) fits good = some_IsChained kind v d ds good listed fits
+chained_IsChained kind v listed (d ∷ ds) fits alike final = some_IsChained kind v d ds alike listed fits final
+
+-- the machine of chains says them, where those without letters have one final weight
+pub chained_say : (kind : ArcType) (v : Cost) (cs : List Chain) → EndAlike v cs → SayChains kind cs (graph_of (chained cs))
+chained_say kind v [] alike = record { each = λ c none final. absurd none; all = λ path w h. absurd (none_start kind (graph_of (chained [])) path w refl h) }
+chained_say kind v (d ∷ ds) alike = some_say kind v d ds alike
 
 -- ---- what listed paths say
 
@@ -394,7 +447,7 @@ module _ {N : Type 0} (kind : ArcType) (g : Graph N) where
   pub path_last : (path : List (Transition N)) (w : Cost) (h : IsSuccessful kind g path w) → last_weight g g.start (places path) ≡ g.final h.last
   path_last path w h = ap (λ (o : Option N). last_weight g o (places path)) h.starts ∙ ap (λ (q : N). g.final q) (path_end g path h.first h.last h.leads)
 
-  -- the chains of successful paths fit them, and are good
+  -- the chains of successful paths fit them, and end as they do
   listed_fit : (listed : List (WeightedPath N)) → ((a : WeightedPath N) → Has listed a → IsSuccessful kind g a.path a.weight) → Fits kind listed (map (chain_of g) (map (λ (a : WeightedPath N). places a.path) listed))
   listed_fit [] all = tt
   listed_fit (a ∷ listed) all =
@@ -402,18 +455,23 @@ module _ {N : Type 0} (kind : ArcType) (g : Graph N) where
       let said = path_letters g a.path h.first h.last h.leads in
       (sym said, h.weight ∙ ap₂ (λ (ls : List Letter) (w : Cost). times kind (product kind ls) w) (sym said) (sym (path_last a.path a.weight h)), listed_fit listed (λ b there. all b (inr there)))
 
-  listed_good : (listed : List (WeightedPath N)) → ((a : WeightedPath N) → Has listed a → IsSuccessful kind g a.path a.weight) → AreGood (last_weight g g.start []) (map (chain_of g) (map (λ (a : WeightedPath N). places a.path) listed))
-  listed_good [] all = tt
-  listed_good (a ∷ listed) all =
-      let h = all a (inl refl) in
-      (ends a.path, (λ e. h.final (sym (path_last a.path a.weight h) ∙ e)), listed_good listed (λ b there. all b (inr there)))
+  listed_alike : (listed : List (WeightedPath N)) → EndAlike (last_weight g g.start []) (map (chain_of g) (map (λ (a : WeightedPath N). places a.path) listed))
+  listed_alike [] = tt
+  listed_alike (a ∷ listed) = (ends a.path, listed_alike listed)
     where
       ends : (path : List (Transition N)) → EndsAs (last_weight g g.start []) (chain_of g (places path)).letters (chain_of g (places path)).last
       ends [] = refl
       ends (t ∷ path) = tt
 
+  listed_final : (listed : List (WeightedPath N)) → ((a : WeightedPath N) → Has listed a → IsSuccessful kind g a.path a.weight) → AreFinal (map (chain_of g) (map (λ (a : WeightedPath N). places a.path) listed))
+  listed_final [] all = tt
+  listed_final (a ∷ listed) all =
+      let h = all a (inl refl) in
+      ((λ e. h.final (sym (path_last a.path a.weight h) ∙ e)), listed_final listed (λ b there. all b (inr there)))
+
   -- the machine of the chains of written paths
   pub written_IsChained : (listed : List (WeightedPath N)) (walks : List (List (N × ℕ))) → IsWritten kind g listed walks → IsChained kind listed (graph_of (chained (map (chain_of g) walks)))
   written_IsChained listed walks h =
       subst (λ (ws : List (List (N × ℕ))). IsChained kind listed (graph_of (chained (map (chain_of g) ws)))) h.written
-      (chained_IsChained kind (last_weight g g.start []) listed (map (chain_of g) (map (λ (a : WeightedPath N). places a.path) listed)) (listed_fit listed h.successful) (listed_good listed h.successful))
+      (chained_IsChained kind (last_weight g g.start []) listed (map (chain_of g) (map (λ (a : WeightedPath N). places a.path) listed)) (listed_fit listed h.successful) (listed_alike listed)
+      (listed_final listed h.successful))

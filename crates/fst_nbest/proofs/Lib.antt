@@ -3,6 +3,7 @@ pub mod Chained
 pub mod ChainSizes
 pub mod Remaining
 pub mod Building
+pub mod PathChains
 pub mod Ranks
 pub mod Covering
 pub mod Peeling

@@ -1,9 +1,9 @@
--- The machine of listed paths, each a chain of states of its own behind the start. (OpenFst manual, "ShortestPath":
+-- The machine of chains, as of listed paths, each with states of its own behind the start. (OpenFst manual, "ShortestPath":
 -- the n shortest paths as a machine. Which states there are, in which order, is this project's own choice.)
-use Rattle.std.specs.Prelude.{◌≡◌, ℕ, ◌+◌, suc, List, [], ◌∷◌, ◌++◌, length, map, get_or, sum_by, Option, None, Some}
+use Rattle.std.specs.Prelude.{◌≡◌, ℕ, ◌+◌, ◌≤◌, suc, List, [], ◌∷◌, ◌++◌, length, map, get_or, sum_by, Option, None, Some}
 use Rattle.fst_semiring.specs.Cost.{Cost, infinite}
 use Rattle.fst_semiring.specs.declared.arc_type.ArcType.{ArcType}
-use Rattle.fst_machine.specs.Machine.{Arc, State, Machine, no_states}
+use Rattle.fst_machine.specs.Machine.{Arc, State, Machine, greatest_label, no_states}
 use Rattle.fst_machine.specs.Graph.{Graph}
 use Rattle.fst_machine.specs.Letters.{Letter, letter_of}
 use Rattle.fst_machine.specs.Paths.{letters}
@@ -15,6 +15,29 @@ use Rattle.fst_machine.specs.PathOrder.{WeightedPath, Ascends}
 pub record Chain : Type 0 where
   pub letters : List Letter
   pub last : Cost
+
+-- the chain in a place, and the letter of a chain in a place; where there is none, one that says nothing
+abbrev pub chain_at : List Chain → ℕ → Chain
+chain_at chains i = get_or chains i (record { letters = []; last = infinite })
+
+abbrev pub letter_at : List Letter → ℕ → Letter
+letter_at ls k = get_or ls k (record { ilabel = 0; olabel = 0; weight = infinite })
+
+-- The letter of an arc of a machine: its labels are in range, and its weight is not Zero.
+pub record IsLetter (l : Letter) : Type 0 where
+  pub ilabel : l.ilabel ≤ greatest_label
+  pub olabel : l.olabel ≤ greatest_label
+  pub weight : l.weight ≡ infinite → ⊥
+
+-- each of these is one
+abbrev pub AreLetters : List Letter → Type 0
+AreLetters [] = Unit {0}
+AreLetters (l ∷ ls) = IsLetter l × AreLetters ls
+
+-- the letters of these chains are
+abbrev pub HaveLetters : List Chain → Type 0
+HaveLetters [] = Unit {0}
+HaveLetters (c ∷ cs) = AreLetters c.letters × HaveLetters cs
 
 -- the arc that stands for a number that names none
 abbrev pub no_arc : {N : Type 0} → N → Arc Cost N

@@ -35,7 +35,7 @@ use std::marker::PhantomData;
 use std::sync::ledger::Ledger;
 
 /// The counts of arcs ahead on paths of one total weight.
-fn class_counts<W: Weight, V: Copy, M: Widens<W, V>>(
+pub(crate) fn counts_in_class<W: Weight, V: Copy, M: Widens<W, V>>(
     alloc: Global,
     fst: &M,
     links: &Links<V>,
@@ -70,7 +70,7 @@ fn list_class<W: Weight, V: Copy, M: Widens<W, V>, L: Ledger>(
     ensures steps { OnOk result (steps.new + length paths.old ≡ steps.old + length paths.new) }
 {
     let states = fst.state_count();
-    let counts = class_counts::<W, V, M>(alloc, fst, links, total)?;
+    let counts = counts_in_class::<W, V, M>(alloc, fst, links, total)?;
     let name = named(
         states,
         start,

@@ -14,44 +14,19 @@ ghost use Rattle.fst_nbest.specs.FirstPaths.{AreFirstPaths, IfImproving};
 ghost use Rattle.fst_nbest.specs.Ready.{HasDistances, IsReady, dist_in};
 
 use crate::by_class::by_classes;
-use crate::counting::counts_back;
+use crate::distances::Ahead;
 use crate::enumerating::first_words;
 use crate::fault::NbestFault;
-use crate::measured::measured;
+use crate::looking::looked_ahead;
 use crate::path_system::PathSystem;
-use crate::sweeping::{Swept, prepared};
-use crate::tight::TightBack;
 use crate::traced::put_traced;
 use crate::values::is_zero_wide;
 use fst_machine::{Fst, Paths, Steps, WideFst};
-use fst_search::{DistanceFault, Widens};
+use fst_search::Widens;
 use fst_semiring::Weight;
-use fst_trim::Links;
 use std::alloc::{AllocError, Global};
 use std::marker::PhantomData;
 use std::sync::ledger::Ledger;
-
-/// The counts of arcs ahead on best paths.
-fn counts_ahead<W: Weight, V: Copy, M: Widens<W, V>>(
-    alloc: Global,
-    fst: &M,
-    dist: &Vec<W::Wide>,
-) -> Result<Vec<u32>, AllocError>
-    requires cancels { cancels W.KIND ≡ true }
-    requires measured { HasDistances W.KIND M.value W.wide_value M.known (M.machine fst.now) dist.now.items }
-    ensures { IfOk result (λ v. IsReady W.KIND M.value W.wide_value M.known (M.machine fst.now) dist.now.items v.items) }
-{
-    // What holds of the machine.
-    let _states = fst.state_count();
-    let links = Links::turned(alloc, fst)?;
-    let back = TightBack {
-        fst,
-        links: &links,
-        dist,
-    };
-    let counts = counts_back::<V, TightBack<W, V, M>>(alloc, &back)?;
-    Ok(counts)
-}
 
 /// The first paths where factors cancel, so that the order of what is ahead of a state is the same behind each path.
 fn by_counts<W: Weight, V: Copy, M: Widens<W, V>, L: Ledger>(
@@ -85,27 +60,6 @@ fn by_counts<W: Weight, V: Copy, M: Widens<W, V>, L: Ledger>(
     Ok(paths)
 }
 
-/// The same where the counts are not known yet.
-fn by_distances<W: Weight, V: Copy, M: Widens<W, V>, L: Ledger>(
-    alloc: Global,
-    fst: &M,
-    dist: &Vec<W::Wide>,
-    start: u32,
-    n: u32,
-    steps: &mut Steps<L>,
-) -> Result<Paths, AllocError>
-    requires cancels { cancels W.KIND ≡ true }
-    requires measured { HasDistances W.KIND M.value W.wide_value M.known (M.machine fst.now) dist.now.items }
-    requires start { (M.machine fst.now).start ≡ Some start }
-    requires low { start < length (M.machine fst.now).states }
-    requires live { dist_in W.wide_value dist.now.items start ≡ infinite → ⊥ }
-    ensures first { IfOk result (λ paths. AreFirstPaths W.KIND (graph_of (valued M.value (M.machine fst.now))) n (map written paths)) }
-    ensures steps { IfOk result (λ paths. steps.new ≡ steps.old + length paths) }
-{
-    let count = counts_ahead::<W, V, M>(alloc, fst, dist)?;
-    by_counts::<W, V, M, L>(alloc, fst, dist, &count, start, n, steps)
-}
-
 /// The start, if a successful path leaves it.
 fn live_start<W: Weight, V: Copy, M: Widens<W, V>>(fst: &M, dist: &Vec<W::Wide>) -> Option<u32>
     requires measured { HasDistances W.KIND M.value W.wide_value M.known (M.machine fst.now) dist.now.items }
@@ -121,72 +75,26 @@ fn live_start<W: Weight, V: Copy, M: Widens<W, V>>(fst: &M, dist: &Vec<W::Wide>)
     Some(start)
 }
 
-/// The first paths of a machine with its distances.
-fn first_paths<W: Weight, V: Copy, M: Widens<W, V>, L: Ledger>(
+/// The first paths of a machine with what is ahead of its states.
+fn paths_ahead<W: Weight, V: Copy, M: Widens<W, V>, L: Ledger>(
     alloc: Global,
     fst: &M,
-    dist: &Vec<W::Wide>,
+    ahead: &Ahead<W>,
     n: u32,
     steps: &mut Steps<L>,
 ) -> Result<Paths, AllocError>
-    requires measured { HasDistances W.KIND M.value W.wide_value M.known (M.machine fst.now) dist.now.items }
+    requires measured { HasDistances W.KIND M.value W.wide_value M.known (M.machine fst.now) ahead.now.dist.items }
+    requires ready { cancels W.KIND ≡ true → IsReady W.KIND M.value W.wide_value M.known (M.machine fst.now) ahead.now.dist.items ahead.now.count.items }
     ensures first { IfOk result (λ paths. AreFirstPaths W.KIND (graph_of (valued M.value (M.machine fst.now))) n (map written paths)) }
     ensures steps { IfOk result (λ paths. steps.new ≡ steps.old + length paths) }
 {
-    let Some(start) = live_start::<W, V, M>(fst, dist) else {
+    let Some(start) = live_start::<W, V, M>(fst, &ahead.dist) else {
         return Ok(Paths::new(alloc));
     };
     if W::CANCELS {
-        return by_distances::<W, V, M, L>(alloc, fst, dist, start, n, steps);
+        return by_counts::<W, V, M, L>(alloc, fst, &ahead.dist, &ahead.count, start, n, steps);
     }
-    by_classes::<W, V, M, L>(alloc, fst, dist, start, n, steps)
-}
-
-/// The first paths of a machine that was swept.
-fn swept_paths<W: Weight, V: Copy, M: Widens<W, V>, L: Ledger>(
-    alloc: Global,
-    fst: &M,
-    swept: &Swept<W>,
-    n: u32,
-    steps: &mut Steps<L>,
-) -> Result<Paths, AllocError>
-    requires cancels { cancels W.KIND ≡ true }
-    requires ready { IsReady W.KIND M.value W.wide_value M.known (M.machine fst.now) swept.now.dist.items swept.now.count.items }
-    ensures first { IfOk result (λ paths. AreFirstPaths W.KIND (graph_of (valued M.value (M.machine fst.now))) n (map written paths)) }
-    ensures steps { IfOk result (λ paths. steps.new ≡ steps.old + length paths) }
-{
-    let Some(start) = live_start::<W, V, M>(fst, &swept.dist) else {
-        return Ok(Paths::new(alloc));
-    };
-    by_counts::<W, V, M, L>(alloc, fst, &swept.dist, &swept.count, start, n, steps)
-}
-
-/// The first paths of any machine, by a search.
-fn searched_paths<W: Weight, V: Copy, M: Widens<W, V>, L: Ledger>(
-    alloc: Global,
-    fst: &M,
-    n: u32,
-    steps: &mut Steps<L>,
-) -> Result<Paths, NbestFault>
-    requires known { All (λ s. All (λ a. M.known a.weight) s.arcs) (M.machine fst.now).states }
-    requires finals { All (λ s. M.known s.final) (M.machine fst.now).states }
-    ensures first { IfOk result (λ paths. AreFirstPaths W.KIND (graph_of (valued M.value (M.machine fst.now))) n (map written paths)) }
-    ensures none { OnOk result (NoneImproves W.KIND (graph_of (valued M.value (M.machine fst.now))) (IsUseful (graph_of (valued M.value (M.machine fst.now))))) }
-    ensures cycle { IfErr result (λ f. IfImproving f (IsListed W.KIND (graph_of (valued M.value (M.machine fst.now))) (IsUseful (graph_of (valued M.value (M.machine fst.now)))))) }
-    ensures steps { IfOk result (λ paths. steps.new ≡ steps.old + length paths) }
-{
-    let dist = match measured::<W, V, M>(alloc, fst) {
-        Ok(dist) => dist,
-        Err(DistanceFault::ImprovingCycle { cycle }) => {
-            return Err(NbestFault::ImprovingCycle { cycle });
-        }
-        Err(DistanceFault::Memory) => return Err(NbestFault::Memory),
-    };
-    match first_paths::<W, V, M, L>(alloc, fst, &dist, n, steps) {
-        Ok(paths) => Ok(paths),
-        // A lack of memory becomes a fault here alone.
-        Err(_) => Err(NbestFault::Memory),
-    }
+    by_classes::<W, V, M, L>(alloc, fst, &ahead.dist, start, n, steps)
 }
 
 /// The first paths of any machine.
@@ -203,16 +111,8 @@ fn best_paths<W: Weight, V: Copy, M: Widens<W, V>, L: Ledger>(
     ensures cycle { IfErr result (λ f. IfImproving f (IsListed W.KIND (graph_of (valued M.value (M.machine fst.now))) (IsUseful (graph_of (valued M.value (M.machine fst.now)))))) }
     ensures steps { IfOk result (λ paths. steps.new ≡ steps.old + length paths) }
 {
-    if !W::CANCELS {
-        return searched_paths::<W, V, M, L>(alloc, fst, n, steps);
-    }
-    let Ok(found) = prepared::<W, V, M>(alloc, fst) else {
-        return Err(NbestFault::Memory);
-    };
-    let Some(done) = found else {
-        return searched_paths::<W, V, M, L>(alloc, fst, n, steps);
-    };
-    match swept_paths::<W, V, M, L>(alloc, fst, &done, n, steps) {
+    let ahead = looked_ahead::<W, V, M>(alloc, fst)?;
+    match paths_ahead::<W, V, M, L>(alloc, fst, &ahead, n, steps) {
         Ok(paths) => Ok(paths),
         // A lack of memory becomes a fault here alone.
         Err(_) => Err(NbestFault::Memory),

@@ -14,6 +14,7 @@ ghost use Rattle.fst_nbest.specs.Sweep.{IsAheadBelow, IsSwept};
 ghost use Rattle.fst_nbest.specs.Words.{NoLess};
 
 use crate::counting::UNCOUNTED;
+use crate::distances::Ahead;
 use crate::measured::has_better;
 use fst_machine::FstArc;
 use fst_search::Widens;
@@ -27,13 +28,6 @@ use std::cmp::Ordering;
 struct Near<D> {
     total: D,
     arcs: u32,
-}
-
-/// The distances of states to the final states, and the counts of arcs; `UNCOUNTED` where a state is not swept.
-#[derive(Drop)]
-pub(crate) struct Swept<W: Weight> {
-    pub(crate) dist: Vec<W::Wide>,
-    pub(crate) count: Vec<u32>,
 }
 
 /// The better of two: by weight, then by arcs.
@@ -117,12 +111,13 @@ fn zeros<W: Weight>(alloc: Global, states: u32) -> Result<Vec<W::Wide>, AllocErr
     Ok(dist)
 }
 
-/// Sweeps the states of this order, from the last on, but for those that have an arc to a state that is not swept.
+/// Sweeps the states of this order, from the last on, but for those that have an arc to a state that is not swept, whose
+/// count is `UNCOUNTED`.
 fn sweep<W: Weight, V: Copy, M: Widens<W, V>>(
     alloc: Global,
     fst: &M,
     order: &[u32],
-) -> Result<Swept<W>, AllocError>
+) -> Result<Ahead<W>, AllocError>
     requires cancels { cancels W.KIND ≡ true }
     requires known { All (λ s. All (λ a. M.known a.weight) s.arcs) (M.machine fst.now).states }
     requires finals { All (λ s. M.known s.final) (M.machine fst.now).states }
@@ -143,7 +138,7 @@ fn sweep<W: Weight, V: Copy, M: Widens<W, V>>(
             count[state as usize] = near.arcs;
         }
     }
-    Ok(Swept { dist, count })
+    Ok(Ahead { dist, count })
 }
 
 /// Counts arcs by the states to which they lead.
@@ -240,7 +235,7 @@ fn swept_by<W: Weight, V: Copy, M: Widens<W, V>>(
     alloc: Global,
     fst: &M,
     order: &[u32],
-) -> Result<Option<Swept<W>>, AllocError>
+) -> Result<Option<Ahead<W>>, AllocError>
     requires cancels { cancels W.KIND ≡ true }
     requires known { All (λ s. All (λ a. M.known a.weight) s.arcs) (M.machine fst.now).states }
     requires finals { All (λ s. M.known s.final) (M.machine fst.now).states }
@@ -273,7 +268,7 @@ fn by_number(alloc: Global, states: u32) -> Result<Vec<u32>, AllocError>
 fn swept_by_number<W: Weight, V: Copy, M: Widens<W, V>>(
     alloc: Global,
     fst: &M,
-) -> Result<Option<Swept<W>>, AllocError>
+) -> Result<Option<Ahead<W>>, AllocError>
     requires cancels { cancels W.KIND ≡ true }
     requires known { All (λ s. All (λ a. M.known a.weight) s.arcs) (M.machine fst.now).states }
     requires finals { All (λ s. M.known s.final) (M.machine fst.now).states }
@@ -293,7 +288,7 @@ fn swept_by_number<W: Weight, V: Copy, M: Widens<W, V>>(
 pub(crate) fn prepared<W: Weight, V: Copy, M: Widens<W, V>>(
     alloc: Global,
     fst: &M,
-) -> Result<Option<Swept<W>>, AllocError>
+) -> Result<Option<Ahead<W>>, AllocError>
     requires cancels { cancels W.KIND ≡ true }
     requires known { All (λ s. All (λ a. M.known a.weight) s.arcs) (M.machine fst.now).states }
     requires finals { All (λ s. M.known s.final) (M.machine fst.now).states }

@@ -70,6 +70,7 @@ fn put_more_options(alloc: Global, out: &mut String, o: &Options) -> Result<(), 
     put_name(out, "weight", &o.weight)?;
     put_flag(out, "reverse", o.reverse)?;
     put_number(alloc, out, "nshortest", o.nshortest)?;
+    put_flag(out, "unique", o.unique)?;
     put_flag(out, "push_weights", o.push_weights)?;
     put_flag(out, "remove_total_weight", o.remove_total_weight)?;
     put_flag(out, "encode_labels", o.encode_labels)?;
@@ -212,7 +213,7 @@ static COMMANDS_1: [(&[&str], &str); 24] = [
     ),
 ];
 
-static COMMANDS_2: [(&[&str], &str); 33] = [
+static COMMANDS_2: [(&[&str], &str); 38] = [
     (
         &["arcsort", "--sort_type", "ilabel"],
         "arcsort - - --sort_type=ilabel",
@@ -251,6 +252,14 @@ static COMMANDS_2: [(&[&str], &str); 33] = [
         &["shortestpath", "--nshortest=4", "m", "o"],
         "shortestpath m o --nshortest=4",
     ),
+    (&["shortestpath", "--unique"], "shortestpath - - --unique"),
+    (
+        &["fstshortestpath", "m", "--unique", "o", "--nshortest", "3"],
+        "shortestpath m o --nshortest=3 --unique",
+    ),
+    (&["shortestpath", "--unique=true", "m"], "usage"),
+    (&["shortestpath", "--unique", "--unique", "m"], "usage"),
+    (&["batch", "a", "b", "--unique"], "usage"),
     (&["push", "--push_weights"], "push - - --push_weights"),
     (&["push", "m"], "usage"),
     (&["push", "--remove_total_weight"], "usage"),

@@ -20,7 +20,7 @@ pub struct PlainSeparation {
 }
 
 /// How two words of labels compare: the shorter is the less, then the one whose label is the less where they first differ.
-fn compare_words(a: &[PlainTransition], b: &[PlainTransition]) -> Ordering {
+pub(crate) fn compare_words(a: &[PlainTransition], b: &[PlainTransition]) -> Ordering {
     match a.len().cmp(&b.len()) {
         Ordering::Equal => compare_labels(a, b),
         other => other,

@@ -12,6 +12,8 @@ pub enum Manner {
     Scattered,
     /// At most one arc of a state for each of the labels 1 and 2, and no weights.
     Unweighted,
+    /// Up to three arcs of a state, with the labels 1 and 2.
+    Spelling,
 }
 
 /// How an acceptor is drawn.
@@ -89,10 +91,10 @@ impl Sheet {
         states: u32,
         label: u32,
     ) -> Result<(), AllocError> {
-        let label = if self.recipe.manner == Manner::Scattered {
-            self.draw(3)
-        } else {
-            label
+        let label = match self.recipe.manner {
+            Manner::Scattered => self.draw(3),
+            Manner::Spelling => self.draw(2).wrapping_add(1),
+            Manner::Deterministic | Manner::Unweighted => label,
         };
         let stands = self.draw(3) > 0;
         let next = self.draw(states);

@@ -25,7 +25,7 @@ fn epsilon_in<W>(arcs: &[FstArc<W>]) -> Option<u32>
 }
 
 /// The first arc, by state then place, with label 0. `None` exactly where there is none. Takes no memory.
-pub(crate) fn epsilon_at<W: Weight>(b: &Fst<W>) -> Option<Step>
+pub fn epsilon_at<W: Weight>(b: &Fst<W>) -> Option<Step>
     ensures { IsFirstArc ReadsEpsilon b.now result }
 {
     for state in 0..b.states() {

@@ -48,7 +48,7 @@ form_of verbs.Arcsort = record { name = codes "arcsort"; options = codes "sort_t
 form_of verbs.Compose = record { name = codes "compose"; options = codes "connect" ∷ codes "max_states" ∷ []; flags = []; shape = Two; carries = Outer }
 form_of verbs.Rmepsilon = record { name = codes "rmepsilon"; options = codes "connect" ∷ codes "queue_type" ∷ []; flags = []; shape = One; carries = First }
 form_of verbs.Shortestdistance = record { name = codes "shortestdistance"; options = codes "queue_type" ∷ []; flags = codes "reverse" ∷ []; shape = One; carries = Nothing }
-form_of verbs.Shortestpath = record { name = codes "shortestpath"; options = codes "nshortest" ∷ []; flags = []; shape = One; carries = First }
+form_of verbs.Shortestpath = record { name = codes "shortestpath"; options = codes "nshortest" ∷ []; flags = codes "unique" ∷ []; shape = One; carries = First }
 form_of verbs.Push = record { name = codes "push"; options = codes "queue_type" ∷ []; flags = codes "push_weights" ∷ codes "remove_total_weight" ∷ []; shape = One; carries = First }
 form_of verbs.Encode = record { name = codes "encode"; options = []; flags = codes "encode_labels" ∷ codes "encode_weights" ∷ codes "decode" ∷ []; shape = Codex; carries = Nothing }
 form_of verbs.Determinize = record { name = codes "determinize"; options = codes "max_states" ∷ []; flags = []; shape = One; carries = First }

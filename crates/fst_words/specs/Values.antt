@@ -121,6 +121,7 @@ options_in rows = record {
   weight = text_in (codes "weight") rows;
   reverse = flag_in (codes "reverse") rows;
   nshortest = value_in nshortest_of (codes "nshortest") rows;
+  unique = flag_in (codes "unique") rows;
   push_weights = flag_in (codes "push_weights") rows;
   remove_total_weight = flag_in (codes "remove_total_weight") rows;
   encode_labels = flag_in (codes "encode_labels") rows;

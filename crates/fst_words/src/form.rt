@@ -241,7 +241,7 @@ pub(crate) static ROWS: &[Row] = &[
         Verb::Shortestpath,
         "shortestpath",
         &["nshortest"],
-        &[],
+        &["unique"],
         Shape::One,
         Room::Freed,
         Carries::First,

@@ -179,6 +179,7 @@ pub(crate) fn options_in(alloc: Global, found: &ArgMatches<'_>) -> Result<Option
         weight,
         reverse: flag_in(found, "reverse"),
         nshortest: number_at(found, "nshortest", NSHORTEST),
+        unique: flag_in(found, "unique"),
         push_weights: flag_in(found, "push_weights"),
         remove_total_weight: flag_in(found, "remove_total_weight"),
         encode_labels: flag_in(found, "encode_labels"),

@@ -47,6 +47,8 @@ pub struct Options {
     pub reverse: bool,
     /// `--nshortest`, from 1 to 100,000
     pub nshortest: Option<u64>,
+    /// `--unique`
+    pub unique: bool,
     /// `--push_weights`
     pub push_weights: bool,
     /// `--remove_total_weight`

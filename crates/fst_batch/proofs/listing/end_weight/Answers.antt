@@ -4,7 +4,7 @@ use Rattle.fst_semiring.specs.Semiring.{Within}
 use Rattle.fst_machine.specs.Graph.{graph_of}
 use Rattle.fst_machine.specs.Machine.{Arc, valued, valued_arc}
 use Rattle.fst_nbest.proofs.Building.{valued_final}
-use Rattle.fst_nbest.proofs.Remaining.{last_is, step_there}
+use Rattle.fst_nbest.proofs.PathChains.{last_is, step_there}
 use Rattle.fst_batch.proofs.Filled.{small_last}
 use Rattle.fst_batch.proofs.Weighed.{end_none, starts_somewhere}
 use Rattle.fst_batch.proofs.listing.end_weight.Goals as goal

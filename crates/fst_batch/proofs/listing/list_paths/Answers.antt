@@ -6,7 +6,7 @@ use Rattle.fst_machine.specs.Steps.{written}
 use Rattle.fst_machine.proofs.Arcs.{at_mapped}
 use Rattle.fst_machine.proofs.Elements.{at_Has}
 use Rattle.fst_nbest.specs.Chains.{chain_of}
-use Rattle.fst_nbest.proofs.Remaining.{path_there}
+use Rattle.fst_nbest.proofs.PathChains.{path_there}
 use Rattle.fst_batch.proofs.Texts.{none_known, own_told, range_more, some_known, told_more, wrong_now, wrong_stays}
 use Rattle.fst_batch.proofs.Weighed.{starts_somewhere}
 use Rattle.fst_batch.proofs.listing.list_paths.Goals as goal

@@ -7,7 +7,7 @@ use Rattle.fst_machine.specs.Letters.{letter_of}
 use Rattle.fst_machine.specs.Machine.{Arc, valued, valued_arc}
 use Rattle.fst_machine.specs.Steps.{written}
 use Rattle.fst_nbest.specs.Chains.{arc_at, chain_of}
-use Rattle.fst_nbest.proofs.Remaining.{letter_in, letters-count, step_there}
+use Rattle.fst_nbest.proofs.PathChains.{letter_in, letters-count, step_there}
 use Rattle.fst_batch.proofs.Filled.{small_step}
 use Rattle.fst_batch.proofs.Weighed.{rest_wide, rest_within, small_letters, weigh_more}
 use Rattle.fst_batch.proofs.listing.path_product.Goals as goal

@@ -5,7 +5,7 @@ use Rattle.fst_machine.specs.Letters.{letter_of, output}
 use Rattle.fst_machine.specs.Machine.{Arc, valued, valued_arc}
 use Rattle.fst_machine.specs.Steps.{written}
 use Rattle.fst_nbest.specs.Chains.{arc_at, chain_of}
-use Rattle.fst_nbest.proofs.Remaining.{letter_in, step_there}
+use Rattle.fst_nbest.proofs.PathChains.{letter_in, step_there}
 use Rattle.fst_batch.specs.BestPaths.{first_not_text, is_text}
 use Rattle.fst_batch.proofs.Texts.{first_silent, first_spoken, first_wrong, text_silent, text_spoken}
 use Rattle.fst_batch.proofs.listing.put_text.Goals as goal

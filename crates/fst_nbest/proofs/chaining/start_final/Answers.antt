@@ -1,9 +1,10 @@
-use Rattle.fst_machine.specs.Machine.{valued}
-use Rattle.fst_machine.specs.Graph.{graph_of}
+use Rattle.std.proofs.Common.{◌<◌, length, arith}
 use Rattle.fst_nbest.proofs.Remaining.{final_more}
 use Rattle.fst_nbest.proofs.chaining.start_final.Goals as goal
 
-pub loop-i-preserved : goal.loop-i-preserved
-loop-i-preserved g c =
+pub loop-chain-preserved : goal.loop-chain-preserved
+loop-chain-preserved g c =
     let value = g.W.Weight.value in
-    final_more (graph_of (valued value c.args.fst.now)) c.args.paths.now c.loop-i.i c.item.result.now (value c.loop-i.last) _ _ c.item.ensures c.loop-i.invariant c.start_final_by-last.ensures
+    let cs = g.C.ChainSource.chains c.args.source.now in
+    let low : c.loop-chain.chain < length cs = omega arith in
+    final_more cs c.loop-chain.chain low (value c.loop-chain.last) _ _ c.loop-chain.invariant c.start_final_by-last.ensures

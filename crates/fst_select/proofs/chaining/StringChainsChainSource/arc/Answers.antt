@@ -1,0 +1,19 @@
+use Rattle.std.proofs.Common.{sym, ap, arith, ◌∙◌}
+use Rattle.fst_semiring.specs.Cost.{Cost}
+use Rattle.fst_machine.specs.Letters.{Letter}
+use Rattle.fst_select.proofs.StringChains.{count_seen, letter_seen, string_low}
+use Rattle.fst_select.proofs.chaining.StringChainsChainSource.arc.Goals as goal
+
+pub item-requires : goal.item-requires
+item-requires g c = string_low g.W.Weight.KIND g.W.Weight.wide_value c.self.inside.strings.now c.args.self.now c.args.chain c.self.view_is c.requires.chain
+
+pub item-2-requires : goal.item-2-requires
+item-2-requires g c =
+    let count = count_seen g.W.Weight.KIND g.W.Weight.wide_value c.self.inside.strings.now c.args.self.now c.args.chain c.item.result.now c.self.view_is c.item.ensures in
+    omega (arith, count, c.requires.place)
+
+pub returns : goal.returns
+returns g c =
+    let label = c.item-2.result.now in
+    ap (λ (w : Cost). record { ilabel = label; olabel = label; weight = w }) c.one.ensures
+    ∙ letter_seen g.W.Weight.KIND g.W.Weight.wide_value c.self.inside.strings.now c.args.self.now c.args.chain c.args.place label c.item.result.now c.self.view_is c.item.ensures c.item-2.ensures
