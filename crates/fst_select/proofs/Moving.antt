@@ -1,23 +1,23 @@
 -- Entries that are moved as their weight becomes due, and how a heap tells the best weight.
-use Rattle.std.proofs.Common.{◌≡◌, ◌⊎◌, inl, inr, ℕ, ◌+◌, ◌<◌, ◌≤◌, List, [], ◌∷◌, ◌++◌, true, false, true≢false, length, get_or, refl, sym, ap, subst, ◌∙◌, arith}
+use Rattle.std.proofs.Common.{◌≡◌, ◌≢◌, ◌⊎◌, inl, inr, ℕ, ◌<◌, List, [], ◌∷◌, ◌++◌, false, true≢false, length, get_or, refl, sym, ap, subst, ◌∙◌, arith}
 use Rattle.std.proofs.Common.{Ordering, Less, Equal, Greater}
 use Rattle.std.specs.Ordering.{is_gt}
 use Rattle.std.specs.List.{All}
 use Rattle.std.specs.List.Sorted.{IsPermutation}
-use Rattle.std.proofs.lemmas.List.Elements.{All-cons, All-head, All-tail, All-weaker}
-use Rattle.std.proofs.lemmas.List.Sorted.{All-permutation, IsPermutation-append_left, IsPermutation-append_right, IsPermutation-middle, IsPermutation-refl, IsPermutation-sym, IsPermutation-trans, length_permutation}
-use Rattle.fst_semiring.specs.Cost.{Cost, cost_cmp, plus, ranked}
+use Rattle.std.proofs.lemmas.List.Elements.{All-head, All-weaker}
+use Rattle.std.proofs.lemmas.List.Sorted.{All-permutation, IsPermutation-append_left, IsPermutation-append_right, IsPermutation-middle, IsPermutation-refl, IsPermutation-trans}
+use Rattle.fst_semiring.specs.Cost.{Cost, cost_cmp, infinite, plus, ranked}
 use Rattle.fst_semiring.specs.declared.arc_type.ArcType.{ArcType}
-use Rattle.fst_semiring.proofs.Order.{cost_cmp_equal, cost_cmp_same, plus_antisym}
+use Rattle.fst_semiring.proofs.Order.{cost_cmp_equal, plus_antisym}
 use Rattle.fst_machine.specs.BreadthFirst.{Has}
 use Rattle.fst_machine.specs.Graph.{Graph}
 use Rattle.fst_machine.proofs.Elements.{Has-append_right}
-use Rattle.fst_queue.specs.HeapOrder.{NotAfter}
 use Rattle.fst_search.proofs.Order.{better_then}
+use Rattle.fst_trim.specs.Weighed.{IsWeighted}
 use Rattle.fst_determinize.specs.Subsets.{Member}
 use Rattle.fst_nbest.specs.Heap.{FirstLeaves, IsHeap}
 use Rattle.fst_nbest.proofs.Covering.{Has-permutation}
-use Rattle.fst_nbest.proofs.Heaps.{get_or-default, left_first}
+use Rattle.fst_nbest.proofs.Heaps.{left_first}
 use Rattle.fst_nbest.proofs.Ranks.{cost_itself}
 use Rattle.fst_select.specs.declared.entry.Entry.{Entry}
 use Rattle.fst_select.specs.Entries.{AreEntries, IsEntry, total_cmp, total_total}
@@ -26,6 +26,7 @@ use Rattle.fst_select.specs.Outlook.{IsDue}
 use Rattle.fst_select.specs.Strings.{IsSpelled}
 use Rattle.fst_select.specs.Tables.{AreKeyed, StandFor}
 use Rattle.fst_select.proofs.EntryLists.{entries_permuted, zip_all}
+use Rattle.fst_select.proofs.SubsetKeys.{word_solid}
 
 -- a weight that does not come after another is no worse
 pub not_after_plus : (a b : Cost) → is_gt (cost_cmp a b) ≡ false → plus a b ≡ a
@@ -67,6 +68,10 @@ module _ {D : Type 0} (value : D → Cost) (items : List (Entry D)) (heap : IsHe
       let top : is_gt (cost_cmp (value e.total) (value first.total)) ≡ false = subst (λ (x : Entry D). is_gt (cost_cmp (value e.total) (value x.total)) ≡ false) (sym is) (leaves.first 0 first some) in
       let tie : total ≡ value first.total = cost_cmp_equal total (value first.total) same in
       plus_antisym (value e.total) total (subst (λ (c : Cost). plus (value e.total) c ≡ value e.total) (sym tie) (not_after_plus (value e.total) (value first.total) top)) (not_after_plus total (value e.total) low)
+
+  -- not all have worse weights than the first
+  pub not_all_worse : (first : Entry D) → first ≡ get_or items 0 first → All (λ e. cost_cmp (value first.total) (value e.total) ≡ Less) items → ⊥
+  not_all_worse first is worse = cost_itself (value first.total) (subst (λ (e : Entry D). cost_cmp (value first.total) (value e.total) ≡ Less) (sym is) (worse 0 first some))
 
 module _ {D : Type 0} (kind : ArcType) (g : Graph ℕ) (value : D → Cost) (old due : Cost) (words : List (List ℕ)) (subsets : List (List Member)) where
   -- Some entries are moved: they are known to stand for some of these fronts now that their weight is due, and the others
@@ -129,3 +134,21 @@ module _ {D : Type 0} (kind : ArcType) (g : Graph ℕ) (value : D → Cost) (old
           by : IsDue kind due (value e.total) → f.long ≡ e.long
           by (inl cancel) = h.long (inl cancel)
           by (inr same) = absurd (cost_itself due (ap (cost_cmp due) (sym same) ∙ less))
+
+-- some entries are ready where one was moved, and where not all that wait at first have worse weights
+pub some_ready : {D : Type 0} (value : D → Cost) (total : Cost) (ready later start : List (Entry D)) → (All (λ e. cost_cmp total (value e.total) ≡ Less) start → ⊥) → All (λ e. cost_cmp total (value e.total) ≡ Less) later → (0 < length ready) ⊎ (later ≡ start)
+    → 0 < length ready
+some_ready value total ready later start some worse (inl there) = there
+some_ready {D} value total ready later start some worse (inr same) = absurd (some (subst (λ (l : List (Entry D)). All (λ e. cost_cmp total (value e.total) ≡ Less) l) same worse))
+
+-- the weight of a front that tells its best string is not Zero
+pub first_solid : {D : Type 0} (kind : ArcType) (g : Graph ℕ) (value : D → Cost) (due : Cost) (words : List (List ℕ)) (subsets : List (List Member)) → IsWeighted kind g → (es : List (Entry D)) (fs : List Front) (first : Entry D) → 0 < length es
+    → first ≡ get_or es 0 first → AreKeyed kind g value due words subsets es fs → value first.total ≢ infinite
+first_solid {D} kind g value due words subsets weighted es fs first some is h none = by es fs some is h.entries h.keys
+  where
+    by : (es : List (Entry D)) (fs : List Front) → 0 < length es → first ≡ get_or es 0 first → AreEntries kind g value due words subsets es fs → ((f : Front) → Has fs f → IsKey (IsSpelled kind g) f) → ⊥
+    by [] fs low at zip keys = omega (arith, low)
+    by (e ∷ es) [] low at zip keys = absurd zip
+    by (e ∷ es) (f ∷ fs) low at zip keys =
+        let key = keys f (inl refl) in
+        word_solid kind g weighted key.word f.total key.weighs.0 (zip.0.total ∙ (ap (λ (x : Entry D). value x.total) (sym at) ∙ none))

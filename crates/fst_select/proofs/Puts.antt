@@ -1,9 +1,9 @@
 -- Elements that are put into two lists, one after the other.
-use Rattle.std.proofs.Common.{◌≡◌, List, [], ◌∷◌, ◌++◌, refl, sym, ap, subst, ◌∙◌, append_assoc, append-nil}
+use Rattle.std.proofs.Common.{◌≡◌, List, [], ◌∷◌, ◌++◌, sym, ap, subst, ◌∙◌, append_assoc}
 use Rattle.std.specs.List.{All}
 use Rattle.std.specs.List.Sorted.{IsPermutation}
 use Rattle.std.proofs.lemmas.List.Elements.{All-append, All-cons, All-nil}
-use Rattle.std.proofs.lemmas.List.Sorted.{IsPermutation-append, IsPermutation-append_comm, IsPermutation-append_left, IsPermutation-append_right, IsPermutation-refl, IsPermutation-sym, IsPermutation-trans}
+use Rattle.std.proofs.lemmas.List.Sorted.{IsPermutation-append, IsPermutation-append_comm, IsPermutation-append_left, IsPermutation-append_right, IsPermutation-refl, IsPermutation-sym, IsPermutation-to_front, IsPermutation-trans}
 use Rattle.fst_select.specs.Tables.{ArePut}
 
 module _ {X : Type 0} (Passes : X → Type 0) where
@@ -41,7 +41,7 @@ module _ {X : Type 0} (Passes : X → Type 0) where
   }
 
   -- what is put, then more
-  pub put_then : (xs ys first second mid other new last : List X) → ArePut Passes xs first second mid other → ArePut Passes ys mid other new last → ArePut Passes (xs ++ ys) first second new last
+  put_then : (xs ys first second mid other new last : List X) → ArePut Passes xs first second mid other → ArePut Passes ys mid other new last → ArePut Passes (xs ++ ys) first second new last
   put_then xs ys first second mid other new last one two = record {
     passing = two.passing ++ one.passing;
     others = two.others ++ one.others;
@@ -67,14 +67,20 @@ module _ {X : Type 0} (Passes : X → Type 0) where
           subst (λ (l : List X). IsPermutation l ((as ++ cs) ++ (bs ++ ds))) (sym (append_assoc as bs (cs ++ ds)))
           (subst (λ (l : List X). IsPermutation (as ++ (bs ++ (cs ++ ds))) l) (sym (append_assoc as cs (bs ++ ds))) (IsPermutation-append_right as (bs ++ (cs ++ ds)) (cs ++ (bs ++ ds)) inner))
 
-  -- the same elements in another order
-  pub put_permuted : (xs ys first second new last : List X) → IsPermutation ys xs → ArePut Passes xs first second new last → ArePut Passes ys first second new last
-  put_permuted xs ys first second new last same h = record {
-    passing = h.passing;
-    others = h.others;
-    all = IsPermutation-trans ys xs (h.passing ++ h.others) same h.all;
-    pass = h.pass;
-    fail = h.fail;
-    first = h.first;
-    second = h.second;
-  }
+  -- one element more is put before those that were
+  pub put_done : (x : X) (xs first second mid other new last : List X) → ArePut Passes xs first second mid other → ArePut Passes (x ∷ []) mid other new last → ArePut Passes (x ∷ xs) first second new last
+  put_done x xs first second mid other new last one two =
+      let h = put_then xs (x ∷ []) first second mid other new last one two in
+      record {
+        passing = h.passing;
+        others = h.others;
+        all = IsPermutation-trans (x ∷ xs) (xs ++ x ∷ []) (h.passing ++ h.others) (IsPermutation-sym (xs ++ x ∷ []) (x ∷ xs) (IsPermutation-to_front xs x)) h.all;
+        pass = h.pass;
+        fail = h.fail;
+        first = h.first;
+        second = h.second;
+      }
+
+-- an element is taken from the end of those that are left
+pub put_next : {X : Type 0} (whole left new : List X) (x : X) (done : List X) → left ≡ new ++ x ∷ [] → whole ≡ left ++ done → whole ≡ new ++ x ∷ done
+put_next whole left new x done is before = before ∙ (ap (λ (l : List _). l ++ done) is ∙ append_assoc new (x ∷ []) done)
