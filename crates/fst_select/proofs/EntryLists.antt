@@ -1,11 +1,11 @@
 -- Entries and the fronts for which they stand: in another order, and as strings are listed and subsets are made.
-use Rattle.std.proofs.Common.{◌≡◌, ◌⊎◌, inl, inr, ℕ, ◌+◌, ◌<◌, ◌≤◌, zero, suc, List, [], ◌∷◌, ◌++◌, true, false, Some, length, map, take, get_or, set, slice_get, refl, sym, ap, ap₂, subst, ◌∙◌, arith}
-use Rattle.std.specs.Ordering.{is_gt, nat_cmp, ordering_then}
+use Rattle.std.proofs.Common.{◌≡◌, ◌⊎◌, inl, inr, ℕ, ◌<◌, ◌≤◌, zero, suc, List, [], ◌∷◌, ◌++◌, length, map, take, get_or, set, refl, sym, ap, ap₂, subst, ◌∙◌, arith}
+use Rattle.std.specs.Ordering.{nat_cmp, ordering_then}
 use Rattle.std.specs.Cmp.Lexicographic.{slice_cmp}
 use Rattle.std.specs.List.{All, AllZip, swap}
 use Rattle.std.specs.List.Sorted.{IsPermutation}
 use Rattle.std.proofs.lemmas.Bool.{cases_lt}
-use Rattle.std.proofs.lemmas.List.{get_or_append_left, get_or-append_right, get_or_past, length-append, take-append-le}
+use Rattle.std.proofs.lemmas.List.{get_or_append_left, get_or_past, length-append, take-append-le}
 use Rattle.std.proofs.lemmas.List.Elements.{All-cons, All-head, All-nil, All-tail, All-weaker}
 use Rattle.std.proofs.lemmas.List.Sorted.{IsPermutation-keeps, IsPermutation-refl, IsPermutation-swap, IsPermutation-trans}
 use Rattle.std.proofs.lemmas.Slice.Zip.{AllZip-long}
@@ -75,7 +75,8 @@ pub keeps_listed : (words : List (List ℕ)) (word : List ℕ) → KeepsBeginnin
 keeps_listed words word i n low = by (cases_lt i (length words))
   where
     by : (i < length words) ⊎ (length words ≤ i) → (n ≤ length (list_at (words ++ word ∷ []) i)) × (take n (list_at (words ++ word ∷ []) i) ≡ take n (list_at words i))
-    by (inl inside) = let same : list_at (words ++ word ∷ []) i ≡ list_at words i = get_or_append_left words (word ∷ []) [] i inside in (subst (λ (l : List ℕ). n ≤ length l) (sym same) low, ap (take n) same)
+    by (inl inside) = let same : list_at (words ++ word ∷ []) i ≡ list_at words i = get_or_append_left words (word ∷ []) [] i inside in
+        (subst (λ (l : List ℕ). n ≤ length l) (sym same) low, ap (take n) same)
     by (inr past) =
         let none : list_at words i ≡ [] = get_or_past words i [] past in
         let zero : n ≡ 0 = omega (arith, low, ap length none) in
@@ -83,7 +84,7 @@ keeps_listed words word i n low = by (cases_lt i (length words))
 
 -- the word in making goes on
 pub keeps_on : (words : List (List ℕ)) (word more : List ℕ) → KeepsBeginnings (words ++ word ∷ []) (words ++ (word ++ more) ∷ [])
-keeps_on [] word more zero n low = (let long = length-append word more in omega (arith, long, low), take-append-le n word more low)
+keeps_on [] word more zero n low = ((let long = length-append word more in omega (arith, long, low)), take-append-le n word more low)
 keeps_on [] word more (suc i) n low = (low, refl)
 keeps_on (w ∷ words) word more zero n low = (low, refl)
 keeps_on (w ∷ words) word more (suc i) n low = keeps_on words word more i n low

@@ -1,6 +1,7 @@
 -- Entries that are moved as their weight becomes due, and how a heap tells the best weight.
-use Rattle.std.proofs.Common.{◌≡◌, ◌≢◌, ◌⊎◌, inl, inr, ℕ, ◌<◌, List, [], ◌∷◌, ◌++◌, false, true≢false, length, get_or, refl, sym, ap, subst, ◌∙◌, arith}
+use Rattle.std.proofs.Common.{◌≡◌, ◌≢◌, ◌⊎◌, inl, inr, ℕ, ◌<◌, List, [], ◌∷◌, ◌++◌, Option, None, Some, false, true≢false, length, get_or, refl, sym, ap, subst, ◌∙◌, arith}
 use Rattle.std.proofs.Common.{Ordering, Less, Equal, Greater}
+use Rattle.std.specs.Prelude.{MatchOption}
 use Rattle.std.specs.Ordering.{is_gt}
 use Rattle.std.specs.List.{All}
 use Rattle.std.specs.List.Sorted.{IsPermutation}
@@ -15,12 +16,12 @@ use Rattle.fst_machine.proofs.Elements.{Has-append_right}
 use Rattle.fst_search.proofs.Order.{better_then}
 use Rattle.fst_trim.specs.Weighed.{IsWeighted}
 use Rattle.fst_determinize.specs.Subsets.{Member}
-use Rattle.fst_nbest.specs.Heap.{FirstLeaves, IsHeap}
+use Rattle.fst_nbest.specs.Heap.{FirstLeaves, IsHeap, TakesFirst}
 use Rattle.fst_nbest.proofs.Covering.{Has-permutation}
 use Rattle.fst_nbest.proofs.Heaps.{left_first}
 use Rattle.fst_nbest.proofs.Ranks.{cost_itself}
 use Rattle.fst_select.specs.declared.entry.Entry.{Entry}
-use Rattle.fst_select.specs.Entries.{AreEntries, IsEntry, total_cmp, total_total}
+use Rattle.fst_select.specs.Entries.{AreEntries, CanCompare, IsEntry, total_cmp, total_total}
 use Rattle.fst_select.specs.Frontier.{Front, IsKey}
 use Rattle.fst_select.specs.Outlook.{IsDue}
 use Rattle.fst_select.specs.Strings.{IsSpelled}
@@ -44,6 +45,14 @@ not_after_less a b h other = by (cost_cmp a b) refl
     by Less e = e
     by Equal e = absurd (other e)
     by Greater e = absurd (true≢false (sym (ap is_gt e) ∙ h))
+
+-- no elements are a heap
+pub no_heap : {X : Type 0} (R : X → X → Ordering) → IsHeap R []
+no_heap R d p c below low = absurd (omega (arith, low))
+
+-- an entry can be compared whatever its length
+pub known_compare : {D : Type 0} (words : List (List ℕ)) (e : Entry D) (n : ℕ) → CanCompare words e → CanCompare words (record e { long = n })
+known_compare words e n can = record { depth = can.depth; few = can.few }
 
 module _ {D : Type 0} (value : D → Cost) (items : List (Entry D)) (heap : IsHeap (total_cmp value) items) (some : 0 < length items) where
   -- the first of a heap has the best weight
@@ -69,6 +78,13 @@ module _ {D : Type 0} (value : D → Cost) (items : List (Entry D)) (heap : IsHe
       let tie : total ≡ value first.total = cost_cmp_equal total (value first.total) same in
       plus_antisym (value e.total) total (subst (λ (c : Cost). plus (value e.total) c ≡ value e.total) (sym tie) (not_after_plus (value e.total) (value first.total) top)) (not_after_plus total (value e.total) low)
 
+  -- what a take gives where the first has the best weight
+  pub class_taken : (total : Cost) (first : Entry D) (o : Option (Entry D)) (rest : List (Entry D)) → first ≡ get_or items 0 first → All (λ e. is_gt (cost_cmp total (value e.total)) ≡ false) items → cost_cmp total (value first.total) ≡ Equal
+      → TakesFirst (total_cmp value) items o rest
+      → IsHeap (total_cmp value) rest × MatchOption o ((rest ≡ items) × All (λ e. cost_cmp total (value e.total) ≡ Less) items) (λ e. IsPermutation items (e ∷ rest) × (value e.total ≡ total))
+  class_taken total first None rest is least same none = absurd (omega (arith, some, ap length none))
+  class_taken total first (Some e) rest is least same leaves = (leaves.heap, (leaves.same, best_leaves total first e rest is least same leaves))
+
   -- not all have worse weights than the first
   pub not_all_worse : (first : Entry D) → first ≡ get_or items 0 first → All (λ e. cost_cmp (value first.total) (value e.total) ≡ Less) items → ⊥
   not_all_worse first is worse = cost_itself (value first.total) (subst (λ (e : Entry D). cost_cmp (value first.total) (value e.total) ≡ Less) (sym is) (worse 0 first some))
@@ -87,7 +103,7 @@ module _ {D : Type 0} (kind : ArcType) (g : Graph ℕ) (value : D → Cost) (old
   moving_start later fs h = record { firsts = []; others = fs; same = IsPermutation-refl fs; ready = tt; later = h }
 
   entry_known : (e : Entry D) (f : Front) (n : ℕ) → IsEntry kind g value old words subsets e f → f.long ≡ n → IsEntry kind g value due words subsets (record e { long = n }) f
-  entry_known e f n h long = record { prefix = h.prefix; closed = h.closed; total = h.total; long = λ is. long; compare = record { depth = h.compare.depth; few = h.compare.few }; short = h.short; subset = h.subset }
+  entry_known e f n h long = record { prefix = h.prefix; closed = h.closed; total = h.total; long = λ is. long; compare = known_compare words e n h.compare; short = h.short; subset = h.subset }
 
   -- the front of an entry that is moved next
   pub moving_front : (ready later rest : List (Entry D)) (fs : List Front) (e : Entry D) → IsPermutation later (e ∷ rest) → IsMoving ready later fs → ((f : Front) → Has fs f → IsKey (IsSpelled kind g) f)

@@ -1,4 +1,4 @@
-use Rattle.std.proofs.Common.{◌≡◌, ◌⊎◌, ◌<◌, ◌∷◌, false, List, length, vec_len}
+use Rattle.std.proofs.Common.{◌≡◌, ◌⊎◌, ◌<◌, false, List, length, vec_len}
 use Rattle.std.specs.Prelude.{All}
 use Rattle.std.specs.Ordering.{is_gt}
 use Rattle.fst_semiring.specs.Cost.{cost_cmp}

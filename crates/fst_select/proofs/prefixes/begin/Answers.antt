@@ -1,4 +1,3 @@
-use Rattle.std.proofs.Common.{arith}
 use Rattle.fst_machine.proofs.Arcs.{at_mapped}
 use Rattle.fst_nbest.proofs.Walks.{begun_more}
 use Rattle.fst_select.specs.declared.strings.StringWeight.{StringWeight}

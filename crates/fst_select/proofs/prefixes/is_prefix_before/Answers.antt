@@ -1,4 +1,4 @@
-use Rattle.std.proofs.Common.{◌≡◌, ◌≤◌, length, inl, inr, sym, ap, ◌∙◌, arith}
+use Rattle.std.proofs.Common.{◌≡◌, inl, inr, sym, ap, ◌∙◌, arith}
 use Rattle.std.specs.Ordering.{is_lt}
 use Rattle.fst_select.specs.Entries.{prefix_of, words_of}
 use Rattle.fst_select.proofs.EntryPrefixes.{least_is, lists_differ, lists_end, lists_on, prefix_long, prefixes_begin}

@@ -1,9 +1,9 @@
-use Rattle.std.proofs.Common.{◌≡◌, ◌∷◌, ◌++◌, [], List, sym, ap, ◌∙◌, append_assoc, append-nil, refl}
-use Rattle.std.specs.Prelude.{All}
+use Rattle.std.proofs.Common.{◌≡◌, ◌∷◌, ◌++◌, [], List, sym, ap, subst, ◌∙◌, append-nil, rules}
 use Rattle.fst_nbest.proofs.Searches.{all_popped}
 use Rattle.fst_select.specs.declared.entry.Entry.{Entry}
 use Rattle.fst_select.specs.Entries.{CanCompare, words_of}
 use Rattle.fst_select.specs.Outlook.{IsDue}
+use Rattle.fst_select.specs.Tables.{ArePut}
 use Rattle.fst_select.proofs.Puts.{none_put, put_done, put_next}
 use Rattle.fst_select.proofs.putting.put_left.Goals as goal
 
@@ -43,5 +43,12 @@ loop-entry-preserved g c =
       );
     }
 
-pub returns : goal.returns
-returns g c = ?
+pub returns-clause-put : goal.returns-clause-put
+returns-clause-put g c =
+    let w = g.W.Weight in
+    let passes : Entry _ → Type 0 = λ (e : Entry _). IsDue w.KIND c.args.outlook.now.due (w.wide_value e.total) in
+    let start = c.args.table.now in
+    let table = c.loop-entry.table in
+    let done = c.loop-entry.invariant.put in
+    let none : c.loop-entry.left.items ≡ [] = search rules in
+    subst (λ (l : List (Entry _)). ArePut passes l start.ready.items start.later.items table.ready.items table.later.items) (sym (done.1 ∙ ap (λ (l : List (Entry _)). l ++ done.0) none)) done.2

@@ -1,5 +1,4 @@
 use Rattle.std.proofs.Common.{◌∷◌, true≢false, sym, ◌∙◌}
-use Rattle.std.specs.Prelude.{All}
 use Rattle.std.proofs.lemmas.List.Elements.{All-cons}
 use Rattle.std.proofs.lemmas.List.Sorted.{All-permutation}
 use Rattle.fst_determinize.proofs.Machines.{on_ok}
