@@ -44,7 +44,8 @@ module _ {X : Type 0} (R : X → X → Ordering) (total : IsTotalOrder R) (items
   pub least_taken : (least : ℕ) (x : X) (new : List X) → least < length items → x ≡ get_or items least x → new ≡ swap_remove items least x → IsPermutation items (x ∷ new)
   least_taken least x new within is cut = subst (λ (l : List X). IsPermutation items (x ∷ l)) (sym cut) (IsPermutation-swap_remove items least x within is)
 
-  pub least_first : (least n : ℕ) (x : X) (new : List X) → least < length items → x ≡ get_or items least x → new ≡ swap_remove items least x → length items ≤ n → IsLeastOfFirst n least → All (NotAfter R x) new
+  pub least_first : (least n : ℕ) (x : X) (new : List X) → least < length items → x ≡ get_or items least x → new ≡ swap_remove items least x → length items ≤ n → IsLeastOfFirst n least
+      → All (NotAfter R x) new
   least_first least n x new within is cut whole h =
       All-tail (NotAfter R x) x new (All-permutation (NotAfter R x) items (x ∷ new) (least_taken least x new within is cut)
       (λ j d low. subst (λ (y : X). NotAfter R y (get_or items j d)) (get_or-default items least d x within ∙ sym is) (h j d (omega (arith, low, whole)))))

@@ -69,17 +69,21 @@ module _ {D : Type 0} (value : D → Cost) (items : List (Entry D)) (heap : IsHe
       (λ e h. better_then total (value first.total) (value e.total) less (not_after_plus (value first.total) (value e.total) h)) items (best_first first is)
 
   -- where the first has the best weight, so has an entry that leaves
-  pub best_leaves : (total : Cost) (first e : Entry D) (rest : List (Entry D)) → first ≡ get_or items 0 first → All (λ e. is_gt (cost_cmp total (value e.total)) ≡ false) items → cost_cmp total (value first.total) ≡ Equal
+  pub best_leaves : (total : Cost) (first e : Entry D) (rest : List (Entry D)) → first ≡ get_or items 0 first → All (λ e. is_gt (cost_cmp total (value e.total)) ≡ false) items
+      → cost_cmp total (value first.total) ≡ Equal
       → FirstLeaves (total_cmp value) items e rest → value e.total ≡ total
   best_leaves total first e rest is least same leaves =
       let low : is_gt (cost_cmp total (value e.total)) ≡ false
-            = All-head (λ (x : Entry D). is_gt (cost_cmp total (value x.total)) ≡ false) e rest (All-permutation (λ (x : Entry D). is_gt (cost_cmp total (value x.total)) ≡ false) items (e ∷ rest) leaves.same least) in
+            = All-head (λ (x : Entry D). is_gt (cost_cmp total (value x.total)) ≡ false) e rest
+                (All-permutation (λ (x : Entry D). is_gt (cost_cmp total (value x.total)) ≡ false) items (e ∷ rest) leaves.same least) in
       let top : is_gt (cost_cmp (value e.total) (value first.total)) ≡ false = subst (λ (x : Entry D). is_gt (cost_cmp (value e.total) (value x.total)) ≡ false) (sym is) (leaves.first 0 first some) in
       let tie : total ≡ value first.total = cost_cmp_equal total (value first.total) same in
-      plus_antisym (value e.total) total (subst (λ (c : Cost). plus (value e.total) c ≡ value e.total) (sym tie) (not_after_plus (value e.total) (value first.total) top)) (not_after_plus total (value e.total) low)
+      plus_antisym (value e.total) total (subst (λ (c : Cost). plus (value e.total) c ≡ value e.total) (sym tie) (not_after_plus (value e.total) (value first.total) top))
+          (not_after_plus total (value e.total) low)
 
   -- what a take gives where the first has the best weight
-  pub class_taken : (total : Cost) (first : Entry D) (o : Option (Entry D)) (rest : List (Entry D)) → first ≡ get_or items 0 first → All (λ e. is_gt (cost_cmp total (value e.total)) ≡ false) items → cost_cmp total (value first.total) ≡ Equal
+  pub class_taken : (total : Cost) (first : Entry D) (o : Option (Entry D)) (rest : List (Entry D)) → first ≡ get_or items 0 first → All (λ e. is_gt (cost_cmp total (value e.total)) ≡ false) items
+      → cost_cmp total (value first.total) ≡ Equal
       → TakesFirst (total_cmp value) items o rest
       → IsHeap (total_cmp value) rest × MatchOption o ((rest ≡ items) × All (λ e. cost_cmp total (value e.total) ≡ Less) items) (λ e. IsPermutation items (e ∷ rest) × (value e.total ≡ total))
   class_taken total first None rest is least same none = absurd (omega (arith, some, ap length none))
@@ -106,11 +110,13 @@ module _ {D : Type 0} (kind : ArcType) (g : Graph ℕ) (value : D → Cost) (old
   entry_known e f n h long = record { prefix = h.prefix; closed = h.closed; total = h.total; long = λ is. long; compare = known_compare words e n h.compare; short = h.short; subset = h.subset }
 
   -- the front of an entry that is moved next
-  pub moving_front : (ready later rest : List (Entry D)) (fs : List Front) (e : Entry D) → IsPermutation later (e ∷ rest) → IsMoving ready later fs → ((f : Front) → Has fs f → IsKey (IsSpelled kind g) f)
+  pub moving_front : (ready later rest : List (Entry D)) (fs : List Front) (e : Entry D) → IsPermutation later (e ∷ rest) → IsMoving ready later fs
+      → ((f : Front) → Has fs f → IsKey (IsSpelled kind g) f)
       → (f : Front) × IsEntry kind g value old words subsets e f × IsKey (IsSpelled kind g) f
   moving_front ready later rest fs e taken m keys = by (entries_permuted kind g value old words subsets later (e ∷ rest) m.others taken m.later)
     where
-      by : (gs : List Front) × IsPermutation m.others gs × AreEntries kind g value old words subsets (e ∷ rest) gs → (f : Front) × IsEntry kind g value old words subsets e f × IsKey (IsSpelled kind g) f
+      by : (gs : List Front) × IsPermutation m.others gs × AreEntries kind g value old words subsets (e ∷ rest) gs
+          → (f : Front) × IsEntry kind g value old words subsets e f × IsKey (IsSpelled kind g) f
       by ([], moved, h) = absurd h
       by (f ∷ gs, moved, h) = (f, h.0, keys f (Has-permutation fs (m.firsts ++ m.others) f m.same (Has-append_right m.firsts m.others f (Has-permutation m.others (f ∷ gs) f moved (inl refl)))))
 
@@ -135,7 +141,8 @@ module _ {D : Type 0} (kind : ArcType) (g : Graph ℕ) (value : D → Cost) (old
           }
 
   -- all with this weight are moved
-  pub moving_end : (ready later : List (Entry D)) (fs : List Front) → All (λ e. cost_cmp due (value e.total) ≡ Less) later → IsMoving ready later fs → StandFor kind g value due words subsets ready later fs
+  pub moving_end : (ready later : List (Entry D)) (fs : List Front) → All (λ e. cost_cmp due (value e.total) ≡ Less) later → IsMoving ready later fs
+      → StandFor kind g value due words subsets ready later fs
   moving_end ready later fs worse m = record {
     firsts = m.firsts;
     others = m.others;
@@ -152,17 +159,20 @@ module _ {D : Type 0} (kind : ArcType) (g : Graph ℕ) (value : D → Cost) (old
           by (inr same) = absurd (cost_itself due (ap (cost_cmp due) (sym same) ∙ less))
 
 -- some entries are ready where one was moved, and where not all that wait at first have worse weights
-pub some_ready : {D : Type 0} (value : D → Cost) (total : Cost) (ready later start : List (Entry D)) → (All (λ e. cost_cmp total (value e.total) ≡ Less) start → ⊥) → All (λ e. cost_cmp total (value e.total) ≡ Less) later → (0 < length ready) ⊎ (later ≡ start)
+pub some_ready : {D : Type 0} (value : D → Cost) (total : Cost) (ready later start : List (Entry D)) → (All (λ e. cost_cmp total (value e.total) ≡ Less) start → ⊥)
+    → All (λ e. cost_cmp total (value e.total) ≡ Less) later → (0 < length ready) ⊎ (later ≡ start)
     → 0 < length ready
 some_ready value total ready later start some worse (inl there) = there
 some_ready {D} value total ready later start some worse (inr same) = absurd (some (subst (λ (l : List (Entry D)). All (λ e. cost_cmp total (value e.total) ≡ Less) l) same worse))
 
 -- the weight of a front that tells its best string is not Zero
-pub first_solid : {D : Type 0} (kind : ArcType) (g : Graph ℕ) (value : D → Cost) (due : Cost) (words : List (List ℕ)) (subsets : List (List Member)) → IsWeighted kind g → (es : List (Entry D)) (fs : List Front) (first : Entry D) → 0 < length es
+pub first_solid : {D : Type 0} (kind : ArcType) (g : Graph ℕ) (value : D → Cost) (due : Cost) (words : List (List ℕ)) (subsets : List (List Member)) → IsWeighted kind g
+    → (es : List (Entry D)) (fs : List Front) (first : Entry D) → 0 < length es
     → first ≡ get_or es 0 first → AreKeyed kind g value due words subsets es fs → value first.total ≢ infinite
 first_solid {D} kind g value due words subsets weighted es fs first some is h none = by es fs some is h.entries h.keys
   where
-    by : (es : List (Entry D)) (fs : List Front) → 0 < length es → first ≡ get_or es 0 first → AreEntries kind g value due words subsets es fs → ((f : Front) → Has fs f → IsKey (IsSpelled kind g) f) → ⊥
+    by : (es : List (Entry D)) (fs : List Front) → 0 < length es → first ≡ get_or es 0 first → AreEntries kind g value due words subsets es fs
+        → ((f : Front) → Has fs f → IsKey (IsSpelled kind g) f) → ⊥
     by [] fs low at zip keys = omega (arith, low)
     by (e ∷ es) [] low at zip keys = absurd zip
     by (e ∷ es) (f ∷ fs) low at zip keys =

@@ -67,7 +67,8 @@ module _ {X : Type 0} (Passes : X → Type 0) where
           (subst (λ (l : List X). IsPermutation (as ++ (bs ++ (cs ++ ds))) l) (sym (append_assoc as cs (bs ++ ds))) (IsPermutation-append_right as (bs ++ (cs ++ ds)) (cs ++ (bs ++ ds)) inner))
 
   -- one element more is put before those that were
-  pub put_done : (x : X) (xs first second mid other new last : List X) → ArePut Passes xs first second mid other → ArePut Passes (x ∷ []) mid other new last → ArePut Passes (x ∷ xs) first second new last
+  pub put_done : (x : X) (xs first second mid other new last : List X) → ArePut Passes xs first second mid other → ArePut Passes (x ∷ []) mid other new last
+      → ArePut Passes (x ∷ xs) first second new last
   put_done x xs first second mid other new last one two =
       let h = put_then xs (x ∷ []) first second mid other new last one two in
       record {

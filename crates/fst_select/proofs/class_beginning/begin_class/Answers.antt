@@ -32,7 +32,8 @@ loop-entry-init g c =
       least = c.best_waiting-total.ensures.least;
       total = subst (All (λ (e : Entry _). w.wide_value e.total ≡ total)) (sym c.requires.clear) (All-nil (λ (e : Entry _). w.wide_value e.total ≡ total));
       moved = inr refl;
-      moving = λ fs keyed. subst (λ (l : List (Entry _)). IsMoving w.KIND (graph_of (valued w.value old.machine)) w.wide_value old.due total words c.args.subsets.now.items l c.args.table.now.later.items fs) (sym c.requires.clear)
+      moving = λ fs keyed. subst (λ (l : List (Entry _)). IsMoving w.KIND
+          (graph_of (valued w.value old.machine)) w.wide_value old.due total words c.args.subsets.now.items l c.args.table.now.later.items fs) (sym c.requires.clear)
           (moving_start w.KIND (graph_of (valued w.value old.machine)) w.wide_value old.due total words c.args.subsets.now.items c.args.table.now.later.items fs keyed.entries);
     }
 
@@ -44,7 +45,8 @@ long_of-long-requires-clause-front g c =
     let w = g.W.Weight in
     let words = words_of c.args.listed.now in
     let old = c.args.outlook.now in
-    let front = moving_front w.KIND (graph_of (valued w.value old.machine)) w.wide_value old.due (w.wide_value c.best_waiting-total.result) words c.args.subsets.now.items c.loop-entry.table.ready.items c.loop-entry.table.later.items c.take_class.new.later.items
+    let front = moving_front w.KIND (graph_of (valued w.value old.machine)) w.wide_value old.due
+        (w.wide_value c.best_waiting-total.result) words c.args.subsets.now.items c.loop-entry.table.ready.items c.loop-entry.table.later.items c.take_class.new.later.items
         c.requires.fronts.0 c.in-Some.entry c.in-Some.ensures.taken.0 (c.loop-entry.invariant.moving c.requires.fronts.0 c.requires.fronts.1) c.requires.fronts.1.keys in
     (
       old.due,
@@ -64,7 +66,8 @@ put-requires-clause-item g c =
     let w = g.W.Weight in
     let words = words_of c.args.listed.now in
     let old = c.args.outlook.now in
-    let front = moving_front w.KIND (graph_of (valued w.value old.machine)) w.wide_value old.due (w.wide_value c.best_waiting-total.result) words c.args.subsets.now.items c.loop-entry.table.ready.items c.loop-entry.table.later.items c.take_class.new.later.items
+    let front = moving_front w.KIND (graph_of (valued w.value old.machine)) w.wide_value old.due
+        (w.wide_value c.best_waiting-total.result) words c.args.subsets.now.items c.loop-entry.table.ready.items c.loop-entry.table.later.items c.take_class.new.later.items
         c.requires.fronts.0 c.in-Some.entry c.in-Some.ensures.taken.0 (c.loop-entry.invariant.moving c.requires.fronts.0 c.requires.fronts.1) c.requires.fronts.1.keys in
     known_compare words c.in-Some.entry c.long_of-long.result front.1.compare
 
@@ -85,10 +88,12 @@ loop-entry-preserved g c =
     let taken = c.in-Some.ensures.taken in
     let put = c.in_ok-put.ensures.same in
     let fronts = c.requires.fronts in
-    let front = moving_front w.KIND (graph_of (valued w.value old.machine)) w.wide_value old.due total words c.args.subsets.now.items ready later rest fronts.0 e taken.0 (inv.moving fronts.0 fronts.1) fronts.1.keys in
+    let front = moving_front w.KIND (graph_of (valued w.value old.machine)) w.wide_value old.due total words c.args.subsets.now.items ready later rest fronts.0 e taken.0
+        (inv.moving fronts.0 fronts.1) fronts.1.keys in
     let no_better : Entry _ → Type 0 = λ (x : Entry _). is_gt (cost_cmp total (w.wide_value x.total)) ≡ false in
     let same : Entry _ → Type 0 = λ (x : Entry _). w.wide_value x.total ≡ total in
-    let long = subst (λ (m : Machine _). (due : Cost) (f : Front) → IsEntry w.KIND (graph_of (valued w.value m)) w.wide_value due words c.args.subsets.now.items e f → IsKey (IsSpelled w.KIND (graph_of (valued w.value m))) f → f.long ≡ n)
+    let long = subst (λ (m : Machine _). (due : Cost) (f : Front) → IsEntry w.KIND (graph_of (valued w.value m)) w.wide_value due words c.args.subsets.now.items e f
+        → IsKey (IsSpelled w.KIND (graph_of (valued w.value m))) f → f.long ≡ n)
         c.make_due.ensures.machine c.long_of-long.ensures in
     record {
       ready = c.in_ok-put.ensures.heap;
@@ -118,7 +123,8 @@ returns-clause-begun g c is =
       later_heap = c.take_class.ensures.heap;
       compare = inv.compare;
       total = subst (λ (d : Cost). All (λ (e : Entry _). w.wide_value e.total ≡ d) c.loop-entry.table.ready.items) (sym due) inv.total;
-      worse = subst (λ (d : Cost). All (λ (e : Entry _). cost_cmp d (w.wide_value e.total) ≡ Less) c.take_class.new.later.items) (sym due) (subst (All (λ (e : Entry _). cost_cmp total (w.wide_value e.total) ≡ Less)) (sym c.in_default.ensures.taken.0) worse);
+      worse = subst (λ (d : Cost). All (λ (e : Entry _). cost_cmp d (w.wide_value e.total) ≡ Less) c.take_class.new.later.items) (sym due)
+          (subst (All (λ (e : Entry _). cost_cmp total (w.wide_value e.total) ≡ Less)) (sym c.in_default.ensures.taken.0) worse);
     }
 
 pub returns-clause-fronts : goal.returns-clause-fronts
@@ -129,7 +135,10 @@ returns-clause-fronts g c is fs keyed =
     let total = w.wide_value c.best_waiting-total.result in
     let ready = c.loop-entry.table.ready.items in
     let later = c.loop-entry.table.later.items in
-    let stand = moving_end w.KIND (graph_of (valued w.value old.machine)) w.wide_value old.due total words c.args.subsets.now.items ready later fs c.in_default.ensures.taken.1 (c.loop-entry.invariant.moving fs keyed) in
-    subst (λ (m : Machine _). StandFor w.KIND (graph_of (valued w.value m)) w.wide_value c.make_due.new.self.due words c.args.subsets.now.items ready c.take_class.new.later.items fs) (sym c.make_due.ensures.machine)
-    (subst (λ (d : Cost). StandFor w.KIND (graph_of (valued w.value old.machine)) w.wide_value d words c.args.subsets.now.items ready c.take_class.new.later.items fs) (sym c.in_ok-make_due.ensures.due)
+    let stand = moving_end w.KIND (graph_of (valued w.value old.machine)) w.wide_value old.due total words c.args.subsets.now.items ready later fs c.in_default.ensures.taken.1
+        (c.loop-entry.invariant.moving fs keyed) in
+    subst (λ (m : Machine _). StandFor w.KIND (graph_of (valued w.value m)) w.wide_value c.make_due.new.self.due words c.args.subsets.now.items ready c.take_class.new.later.items fs)
+        (sym c.make_due.ensures.machine)
+    (subst (λ (d : Cost). StandFor w.KIND (graph_of (valued w.value old.machine)) w.wide_value d words c.args.subsets.now.items ready c.take_class.new.later.items fs)
+        (sym c.in_ok-make_due.ensures.due)
     (subst (λ (l : List (Entry _)). StandFor w.KIND (graph_of (valued w.value old.machine)) w.wide_value total words c.args.subsets.now.items ready l fs) (sym c.in_default.ensures.taken.0) stand))

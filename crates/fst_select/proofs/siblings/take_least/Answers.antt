@@ -8,6 +8,8 @@ returns g c =
     let wide = g.W.Weight.wide_value in
     let items = c.args.parts.now.items in
     record {
-      same = least_taken (sibling_cmp wide) (sibling_total wide) items c.loop-i.least c.swap_remove.result c.swap_remove.new.self.items c.loop-i.invariant.within c.swap_remove.ensures.value c.swap_remove.ensures.items;
-      least = least_first (sibling_cmp wide) (sibling_total wide) items c.loop-i.least c.loop-i.i c.swap_remove.result c.swap_remove.new.self.items c.loop-i.invariant.within c.swap_remove.ensures.value c.swap_remove.ensures.items (omega arith) c.loop-i.invariant.first;
+      same = least_taken (sibling_cmp wide) (sibling_total wide) items c.loop-i.least c.swap_remove.result c.swap_remove.new.self.items c.loop-i.invariant.within c.swap_remove.ensures.value
+          c.swap_remove.ensures.items;
+      least = least_first (sibling_cmp wide) (sibling_total wide) items c.loop-i.least c.loop-i.i c.swap_remove.result c.swap_remove.new.self.items c.loop-i.invariant.within
+          c.swap_remove.ensures.value c.swap_remove.ensures.items (omega arith) c.loop-i.invariant.first;
     }
