@@ -96,12 +96,12 @@ module _ {D : Type 0} (value : D → Cost) (items : List (Entry D)) (heap : IsHe
 module _ {D : Type 0} (kind : ArcType) (g : Graph ℕ) (value : D → Cost) (old due : Cost) (words : List (List ℕ)) (subsets : List (List Member)) where
   -- Some entries are moved: they are known to stand for some of these fronts now that their weight is due, and the others
   -- for the rest as before.
-  pub record IsMoving (ready later : List (Entry D)) (fs : List Front) : Type 0 where
+  pub record IsMoving (moved waiting : List (Entry D)) (fs : List Front) : Type 0 where
     pub firsts : List Front
     pub others : List Front
     pub same : IsPermutation fs (firsts ++ others)
-    pub ready : AreEntries kind g value due words subsets ready firsts
-    pub later : AreEntries kind g value old words subsets later others
+    pub ready : AreEntries kind g value due words subsets moved firsts
+    pub later : AreEntries kind g value old words subsets waiting others
 
   pub moving_start : (later : List (Entry D)) (fs : List Front) → AreEntries kind g value old words subsets later fs → IsMoving [] later fs
   moving_start later fs h = record { firsts = []; others = fs; same = IsPermutation-refl fs; ready = tt; later = h }

@@ -58,13 +58,13 @@ module _ {X : Type 0} (Passes : X → Type 0) where
       joined us vs zs mid new p q =
           subst (λ (l : List X). IsPermutation l new) (sym (append_assoc vs us zs)) (IsPermutation-trans (vs ++ (us ++ zs)) (vs ++ mid) new (IsPermutation-append_right vs (us ++ zs) mid p) q)
 
-      exchanged : (as bs cs ds : List X) → IsPermutation ((as ++ bs) ++ (cs ++ ds)) ((as ++ cs) ++ (bs ++ ds))
-      exchanged as bs cs ds =
-          let inner : IsPermutation (bs ++ (cs ++ ds)) (cs ++ (bs ++ ds))
-                = subst (λ (l : List X). IsPermutation l (cs ++ (bs ++ ds))) (append_assoc bs cs ds)
-                  (subst (λ (l : List X). IsPermutation ((bs ++ cs) ++ ds) l) (append_assoc cs bs ds) (IsPermutation-append_left ds (bs ++ cs) (cs ++ bs) (IsPermutation-append_comm bs cs))) in
-          subst (λ (l : List X). IsPermutation l ((as ++ cs) ++ (bs ++ ds))) (sym (append_assoc as bs (cs ++ ds)))
-          (subst (λ (l : List X). IsPermutation (as ++ (bs ++ (cs ++ ds))) l) (sym (append_assoc as cs (bs ++ ds))) (IsPermutation-append_right as (bs ++ (cs ++ ds)) (cs ++ (bs ++ ds)) inner))
+      exchanged : (us vs ws zs : List X) → IsPermutation ((us ++ vs) ++ (ws ++ zs)) ((us ++ ws) ++ (vs ++ zs))
+      exchanged us vs ws zs =
+          let inner : IsPermutation (vs ++ (ws ++ zs)) (ws ++ (vs ++ zs))
+                = subst (λ (l : List X). IsPermutation l (ws ++ (vs ++ zs))) (append_assoc vs ws zs)
+                  (subst (λ (l : List X). IsPermutation ((vs ++ ws) ++ zs) l) (append_assoc ws vs zs) (IsPermutation-append_left zs (vs ++ ws) (ws ++ vs) (IsPermutation-append_comm vs ws))) in
+          subst (λ (l : List X). IsPermutation l ((us ++ ws) ++ (vs ++ zs))) (sym (append_assoc us vs (ws ++ zs)))
+          (subst (λ (l : List X). IsPermutation (us ++ (vs ++ (ws ++ zs))) l) (sym (append_assoc us ws (vs ++ zs))) (IsPermutation-append_right us (vs ++ (ws ++ zs)) (ws ++ (vs ++ zs)) inner))
 
   -- one element more is put before those that were
   pub put_done : (x : X) (xs first second mid other new last : List X) → ArePut Passes xs first second mid other → ArePut Passes (x ∷ []) mid other new last

@@ -12,8 +12,8 @@ returns-then-closed g c due f h key =
     entry_closed w.KIND w.value w.wide_value c.args.outlook.now c.machine.ensures.known (words_of c.args.listed.now) c.args.subsets.now.items c.args.entry.now due f h key c.if-closed.true
         ∙ sym c.prefix_len-len.ensures
 
-pub index-subsets-slot : goal.index-subsets-slot
-index-subsets-slot g c =
+pub index-requires : goal.index-subsets-slot
+index-requires g c =
     let w = g.W.Weight in
     let front = c.requires.front in
     slot_there w.KIND w.value w.wide_value c.args.outlook.now c.machine.ensures.known
