@@ -87,7 +87,7 @@ module _ (kind : ArcType) (g : Graph ℕ) (f : Front) (key : IsKey (IsSpelled ki
     open_long count short =
         let s = laws.shortest count short in
         let up : f.long ≤ length (f.prefix ++ s.0)
-              = no_less_few f.total (best_total kind d part members) f.long (length (f.prefix ++ s.0)) (behind s.0 s.1 least_ahead) open_total in
+        = no_less_few f.total (best_total kind d part members) f.long (length (f.prefix ++ s.0)) (behind s.0 s.1 least_ahead) open_total in
         let down : count ≤ length rest.0 = laws.least count rest.0 short (subst (WordWeighs kind g (f.prefix ++ rest.0)) open_total own) in
         let long : length (f.prefix ++ rest.0) ≡ f.long = sym (ap length rest.1) ∙ key.long in
         omega (arith, up, down, long, s.2, length-append f.prefix s.0, length-append f.prefix rest.0)
@@ -108,7 +108,7 @@ module _ {V D : Type 0} (kind : ArcType) (value : V → Cost) (wide : D → Cost
           let t = h.subset is_open in
           let same : s ≡ t.0 = at ∙ get_or_from_slice_get subsets e.slot t.0 s t.1 in
           subst (λ (z : List Member). IsSubset kind (graph_of (valued value o.machine)) f.prefix (wide e.by) z) (sym same)
-              (subst (λ (x : List ℕ). IsSubset kind (graph_of (valued value o.machine)) x (wide e.by) t.0) (sym h.prefix) t.2)
+          (subst (λ (x : List ℕ). IsSubset kind (graph_of (valued value o.machine)) x (wide e.by) t.0) (sym h.prefix) t.2)
 
       front_short : length f.prefix ≤ most_long + 1
       front_short = let long : length f.prefix ≡ length (prefix_of words e) = ap length h.prefix in let few = h.compare.few in omega (arith, long, few, prefix_few words e h.compare)
@@ -142,6 +142,6 @@ module _ {V D : Type 0} (kind : ArcType) (value : V → Cost) (wide : D → Cost
           → f.long ≡ n + count
       entry_long count n len short =
           let long = open_long kind (graph_of (valued value o.machine)) f key is.weighed.weighted (dist_in wide o.dist) reach (wide e.by) s front_subset front_open count
-              (subst (λ (t : Cost). IsShortest kind (graph_of (valued value o.machine)) (wide e.by) t s count) entry_total (short f.prefix front_subset)) in
+          (subst (λ (t : Cost). IsShortest kind (graph_of (valued value o.machine)) (wide e.by) t s count) entry_total (short f.prefix front_subset)) in
           let same : length f.prefix ≡ length (prefix_of words e) = ap length h.prefix in
           omega (arith, long, same, len)

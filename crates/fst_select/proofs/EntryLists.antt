@@ -56,9 +56,12 @@ module _ {A B : Type 0} (R : A → B → Type 0) where
     where
       step : (l : List A) (i j : ℕ) → i < length l → j < length l → (zs : List B) × IsPermutation ys zs × AllZip R l zs → (zs : List B) × IsPermutation ys zs × AllZip R (swap l i j) zs
       step l i j low_i low_j (zs, moved, zip) =
-          let long : length zs ≡ length l = AllZip-long R l zs zip in
-          (swap zs i j, IsPermutation-trans ys zs (swap zs i j) moved
-              (IsPermutation-swap zs (swap zs i j) i j (omega (arith, long, low_i)) (omega (arith, long, low_j)) refl), zip_swap l zs i j low_i low_j zip)
+          let long : length zs ≡ length l = AllZip-long R l zs zip in (
+            swap zs i j,
+            IsPermutation-trans ys zs (swap zs i j) moved
+                (IsPermutation-swap zs (swap zs i j) i j (omega (arith, long, low_i)) (omega (arith, long, low_j)) refl),
+            zip_swap l zs i j low_i low_j zip,
+          )
 
   -- what holds of each of the first elements holds beside the second
   pub zip_all : (P : A → Type 0) (S : A → B → Type 0) → ((x : A) (y : B) → P x → R x y → S x y) → (xs : List A) (ys : List B) → All P xs → AllZip R xs ys → AllZip S xs ys
@@ -105,7 +108,7 @@ module _ {D : Type 0} (words more : List (List ℕ)) (keeps : KeepsBeginnings wo
   pub heap_kept : (value : D → Cost) (es : List (Entry D)) → All (CanCompare words) es → IsHeap (entry_cmp value words) es → IsHeap (entry_cmp value more) es
   heap_kept value es all heap = heap_same (entry_cmp value words) (entry_cmp value more) (CanCompare words) es
       (λ a b can_a can_b. ap₂ (λ (p q : List ℕ). ordering_then (cost_cmp (value a.total) (value b.total)) (ordering_then (nat_cmp a.long b.long) (slice_cmp nat_cmp p q)))
-          (sym (prefix_kept a can_a)) (sym (prefix_kept b can_b)))
+      (sym (prefix_kept a can_a)) (sym (prefix_kept b can_b)))
       all heap
 
 module _ {D : Type 0} (kind : ArcType) (g : Graph ℕ) (value : D → Cost) (due : Cost) where
@@ -183,7 +186,7 @@ module _ {D : Type 0} (kind : ArcType) (g : Graph ℕ) (value : D → Cost) (due
     entries_due (e ∷ es) [] all h = absurd h
     entries_due (e ∷ es) (f ∷ fs) all h =
         ap₂ (λ (x : Front) (l : List Front). x ∷ l) (entry_front e f (All-head (λ (x : Entry D). IsDue kind due (value x.total)) e es all) h.0)
-            (entries_due es fs (All-tail (λ (x : Entry D). IsDue kind due (value x.total)) e es all) h.1)
+        (entries_due es fs (All-tail (λ (x : Entry D). IsDue kind due (value x.total)) e es all) h.1)
 
     -- each stands for the front that it tells
     pub entries_fronts : (es : List (Entry D)) (fs : List Front) → All (λ e. IsDue kind due (value e.total)) es → AreEntries kind g value due words subsets es fs
@@ -199,6 +202,8 @@ module _ {D : Type 0} (kind : ArcType) (g : Graph ℕ) (value : D → Cost) (due
     pub fronts_entries : (es : List (Entry D)) → All (λ e. IsEntry kind g value due words subsets e (front_of value words e)) es
         → AreEntries kind g value due words subsets es (map (front_of value words) es)
     fronts_entries [] all = tt
-    fronts_entries (e ∷ es) all =
-        (All-head (λ (x : Entry D). IsEntry kind g value due words subsets x (front_of value words x)) e es all, fronts_entries es
-            (All-tail (λ (x : Entry D). IsEntry kind g value due words subsets x (front_of value words x)) e es all))
+    fronts_entries (e ∷ es) all = (
+      All-head (λ (x : Entry D). IsEntry kind g value due words subsets x (front_of value words x)) e es all,
+      fronts_entries es
+          (All-tail (λ (x : Entry D). IsEntry kind g value due words subsets x (front_of value words x)) e es all),
+    )

@@ -70,7 +70,7 @@ module _ {D : Type 0} (words : List (List ℕ)) (e : Entry D) (can : CanCompare 
   label_within k word label low there here =
       let whole : list_at words e.owner ≡ word = get_or_from_slice_get words e.owner word [] there in
       let at : get_or (take e.depth (list_at words e.owner)) k 0 ≡ label
-            = get_or-take e.depth (list_at words e.owner) k 0 low ∙ (ap (λ (l : List ℕ). get_or l k 0) whole ∙ get_or_from_slice_get word k label 0 here) in
+      = get_or-take e.depth (list_at words e.owner) k 0 low ∙ (ap (λ (l : List ℕ). get_or l k 0) whole ∙ get_or_from_slice_get word k label 0 here) in
       sym (get_or_append_left (take e.depth (list_at words e.owner)) (tail_of e.tail) 0 k (omega (arith, low, begin_long)) ∙ at)
 
   pub label_behind : (k : ℕ) → k < length (prefix_of words e) → e.depth ≤ k → e.tail ≡ get_or (prefix_of words e) k 0

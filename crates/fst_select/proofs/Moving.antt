@@ -74,12 +74,12 @@ module _ {D : Type 0} (value : D → Cost) (items : List (Entry D)) (heap : IsHe
       → FirstLeaves (total_cmp value) items e rest → value e.total ≡ total
   best_leaves total first e rest is least same leaves =
       let low : is_gt (cost_cmp total (value e.total)) ≡ false
-            = All-head (λ (x : Entry D). is_gt (cost_cmp total (value x.total)) ≡ false) e rest
-                (All-permutation (λ (x : Entry D). is_gt (cost_cmp total (value x.total)) ≡ false) items (e ∷ rest) leaves.same least) in
+      = All-head (λ (x : Entry D). is_gt (cost_cmp total (value x.total)) ≡ false) e rest
+      (All-permutation (λ (x : Entry D). is_gt (cost_cmp total (value x.total)) ≡ false) items (e ∷ rest) leaves.same least) in
       let top : is_gt (cost_cmp (value e.total) (value first.total)) ≡ false = subst (λ (x : Entry D). is_gt (cost_cmp (value e.total) (value x.total)) ≡ false) (sym is) (leaves.first 0 first some) in
       let tie : total ≡ value first.total = cost_cmp_equal total (value first.total) same in
       plus_antisym (value e.total) total (subst (λ (c : Cost). plus (value e.total) c ≡ value e.total) (sym tie) (not_after_plus (value e.total) (value first.total) top))
-          (not_after_plus total (value e.total) low)
+      (not_after_plus total (value e.total) low)
 
   -- what a take gives where the first has the best weight
   pub class_taken : (total : Cost) (first : Entry D) (o : Option (Entry D)) (rest : List (Entry D)) → first ≡ get_or items 0 first → All (λ e. is_gt (cost_cmp total (value e.total)) ≡ false) items

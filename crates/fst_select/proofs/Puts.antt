@@ -61,8 +61,8 @@ module _ {X : Type 0} (Passes : X → Type 0) where
       exchanged : (us vs ws zs : List X) → IsPermutation ((us ++ vs) ++ (ws ++ zs)) ((us ++ ws) ++ (vs ++ zs))
       exchanged us vs ws zs =
           let inner : IsPermutation (vs ++ (ws ++ zs)) (ws ++ (vs ++ zs))
-                = subst (λ (l : List X). IsPermutation l (ws ++ (vs ++ zs))) (append_assoc vs ws zs)
-                  (subst (λ (l : List X). IsPermutation ((vs ++ ws) ++ zs) l) (append_assoc ws vs zs) (IsPermutation-append_left zs (vs ++ ws) (ws ++ vs) (IsPermutation-append_comm vs ws))) in
+          = subst (λ (l : List X). IsPermutation l (ws ++ (vs ++ zs))) (append_assoc vs ws zs)
+          (subst (λ (l : List X). IsPermutation ((vs ++ ws) ++ zs) l) (append_assoc ws vs zs) (IsPermutation-append_left zs (vs ++ ws) (ws ++ vs) (IsPermutation-append_comm vs ws))) in
           subst (λ (l : List X). IsPermutation l ((us ++ ws) ++ (vs ++ zs))) (sym (append_assoc us vs (ws ++ zs)))
           (subst (λ (l : List X). IsPermutation (us ++ (vs ++ (ws ++ zs))) l) (sym (append_assoc us ws (vs ++ zs))) (IsPermutation-append_right us (vs ++ (ws ++ zs)) (ws ++ (vs ++ zs)) inner))
 

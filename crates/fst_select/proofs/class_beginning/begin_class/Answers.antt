@@ -46,9 +46,8 @@ long_of-long-requires-clause-front g c =
     let words = words_of c.args.listed.now in
     let old = c.args.outlook.now in
     let front = moving_front w.KIND (graph_of (valued w.value old.machine)) w.wide_value old.due
-        (w.wide_value c.best_waiting-total.result) words c.args.subsets.now.items c.loop-entry.table.ready.items c.loop-entry.table.later.items c.take_class.new.later.items
-        c.requires.fronts.0 c.in-Some.entry c.in-Some.ensures.taken.0 (c.loop-entry.invariant.moving c.requires.fronts.0 c.requires.fronts.1) c.requires.fronts.1.keys in
-    (
+    (w.wide_value c.best_waiting-total.result) words c.args.subsets.now.items c.loop-entry.table.ready.items c.loop-entry.table.later.items c.take_class.new.later.items
+    c.requires.fronts.0 c.in-Some.entry c.in-Some.ensures.taken.0 (c.loop-entry.invariant.moving c.requires.fronts.0 c.requires.fronts.1) c.requires.fronts.1.keys in (
       old.due,
       front.0,
       subst (λ (m : Machine _). IsEntry w.KIND (graph_of (valued w.value m)) w.wide_value old.due words c.args.subsets.now.items c.in-Some.entry front.0) (sym c.make_due.ensures.machine) front.1,
@@ -67,8 +66,8 @@ put-requires-clause-item g c =
     let words = words_of c.args.listed.now in
     let old = c.args.outlook.now in
     let front = moving_front w.KIND (graph_of (valued w.value old.machine)) w.wide_value old.due
-        (w.wide_value c.best_waiting-total.result) words c.args.subsets.now.items c.loop-entry.table.ready.items c.loop-entry.table.later.items c.take_class.new.later.items
-        c.requires.fronts.0 c.in-Some.entry c.in-Some.ensures.taken.0 (c.loop-entry.invariant.moving c.requires.fronts.0 c.requires.fronts.1) c.requires.fronts.1.keys in
+    (w.wide_value c.best_waiting-total.result) words c.args.subsets.now.items c.loop-entry.table.ready.items c.loop-entry.table.later.items c.take_class.new.later.items
+    c.requires.fronts.0 c.in-Some.entry c.in-Some.ensures.taken.0 (c.loop-entry.invariant.moving c.requires.fronts.0 c.requires.fronts.1) c.requires.fronts.1.keys in
     known_compare words c.in-Some.entry c.long_of-long.result front.1.compare
 
 pub loop-entry-preserved : goal.loop-entry-preserved
@@ -89,12 +88,12 @@ loop-entry-preserved g c =
     let put = c.in_ok-put.ensures.same in
     let fronts = c.requires.fronts in
     let front = moving_front w.KIND (graph_of (valued w.value old.machine)) w.wide_value old.due total words c.args.subsets.now.items ready later rest fronts.0 e taken.0
-        (inv.moving fronts.0 fronts.1) fronts.1.keys in
+    (inv.moving fronts.0 fronts.1) fronts.1.keys in
     let no_better : Entry _ → Type 0 = λ (x : Entry _). is_gt (cost_cmp total (w.wide_value x.total)) ≡ false in
     let same : Entry _ → Type 0 = λ (x : Entry _). w.wide_value x.total ≡ total in
     let long = subst (λ (m : Machine _). (due : Cost) (f : Front) → IsEntry w.KIND (graph_of (valued w.value m)) w.wide_value due words c.args.subsets.now.items e f
-        → IsKey (IsSpelled w.KIND (graph_of (valued w.value m))) f → f.long ≡ n)
-        c.make_due.ensures.machine c.long_of-long.ensures in
+    → IsKey (IsSpelled w.KIND (graph_of (valued w.value m))) f → f.long ≡ n)
+    c.make_due.ensures.machine c.long_of-long.ensures in
     record {
       ready = c.in_ok-put.ensures.heap;
       later = c.take_class.ensures.heap;
@@ -136,9 +135,9 @@ returns-clause-fronts g c is fs keyed =
     let ready = c.loop-entry.table.ready.items in
     let later = c.loop-entry.table.later.items in
     let stand = moving_end w.KIND (graph_of (valued w.value old.machine)) w.wide_value old.due total words c.args.subsets.now.items ready later fs c.in_default.ensures.taken.1
-        (c.loop-entry.invariant.moving fs keyed) in
+    (c.loop-entry.invariant.moving fs keyed) in
     subst (λ (m : Machine _). StandFor w.KIND (graph_of (valued w.value m)) w.wide_value c.make_due.new.self.due words c.args.subsets.now.items ready c.take_class.new.later.items fs)
-        (sym c.make_due.ensures.machine)
+    (sym c.make_due.ensures.machine)
     (subst (λ (d : Cost). StandFor w.KIND (graph_of (valued w.value old.machine)) w.wide_value d words c.args.subsets.now.items ready c.take_class.new.later.items fs)
-        (sym c.in_ok-make_due.ensures.due)
+    (sym c.in_ok-make_due.ensures.due)
     (subst (λ (l : List (Entry _)). StandFor w.KIND (graph_of (valued w.value old.machine)) w.wide_value total words c.args.subsets.now.items ready l fs) (sym c.in_default.ensures.taken.0) stand))

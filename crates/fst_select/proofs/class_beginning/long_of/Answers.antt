@@ -10,14 +10,14 @@ pub returns-then-closed : goal.returns-then-closed
 returns-then-closed g c due f h key =
     let w = g.W.Weight in
     entry_closed w.KIND w.value w.wide_value c.args.outlook.now c.machine.ensures.known (words_of c.args.listed.now) c.args.subsets.now.items c.args.entry.now due f h key c.if-closed.true
-        ∙ sym c.prefix_len-len.ensures
+    ∙ sym c.prefix_len-len.ensures
 
 pub index-requires : goal.index-subsets-slot
 index-requires g c =
     let w = g.W.Weight in
     let front = c.requires.front in
     slot_there w.KIND w.value w.wide_value c.args.outlook.now c.machine.ensures.known
-        (words_of c.args.listed.now) c.args.subsets.now.items c.args.entry.now front.0 front.1 front.2 front.3 c.if-closed.false
+    (words_of c.args.listed.now) c.args.subsets.now.items c.args.entry.now front.0 front.1 front.2 front.3 c.if-closed.false
 
 pub left-requires : goal.left-requires
 left-requires g c =
@@ -40,5 +40,5 @@ pub returns : goal.returns
 returns g c due f h key =
     let w = g.W.Weight in
     entry_long w.KIND w.value w.wide_value c.args.outlook.now c.machine.ensures.known
-        (words_of c.args.listed.now) c.args.subsets.now.items c.args.entry.now due f h key c.if-closed.false c.index.result.now c.index.ensures
+    (words_of c.args.listed.now) c.args.subsets.now.items c.args.entry.now due f h key c.if-closed.false c.index.result.now c.index.ensures
     c.left.result c.prefix_len-len.result c.prefix_len-len.ensures c.left.ensures

@@ -8,7 +8,7 @@ returns-in-Equal g c =
     let items = c.args.later.now.items in
     let total = w.wide_value c.args.total in
     let taken = class_taken w.wide_value items c.requires.heap (search rules) total c.index.result.now c.take.result c.take.new.items.items c.index.ensures c.requires.least
-        (sym c.in-Equal.ensures.order) c.take.ensures in
+    (sym c.in-Equal.ensures.order) c.take.ensures in
     record { heap = taken.0; taken = taken.1 }
 
 pub returns-in_default : goal.returns-in_default

@@ -46,6 +46,6 @@ returns g c =
     let words = words_of c.args.listed.now in
     let at : c.loop-k.k ≡ c.min-least.result = omega arith in
     lists_end (prefix_of words c.args.a.now) (prefix_of words c.args.b.now) c.prefix_len-first_len.result c.prefix_len-second_len.result c.loop-k.k c.prefix_len-first_len.ensures
-        c.prefix_len-second_len.ensures
+    c.prefix_len-second_len.ensures
     (omega arith) (omega arith) (least_is c.loop-k.k c.prefix_len-first_len.result c.prefix_len-second_len.result (at ∙ c.min-least.ensures))
     ∙ ap is_lt (sym c.loop-k.invariant.rest)

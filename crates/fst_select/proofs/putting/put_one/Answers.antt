@@ -20,7 +20,7 @@ returns-then-is_due g c =
       compare = on_ok c.put.result _ _ (λ same. All-permutation can (c.args.entry ∷ table.ready.items) now.items same (All-cons can c.args.entry table.ready.items c.requires.entry c.requires.compare)) c.put.ensures.same;
       put = on_ok c.put.result _ _
           (λ same. passing_put (λ (e : Entry _). IsDue w.KIND c.args.outlook.now.due (w.wide_value e.total)) c.args.entry table.ready.items table.later.items now.items
-              (c.is_due.ensures.0 c.if-is_due.true) same)
+          (c.is_due.ensures.0 c.if-is_due.true) same)
           c.put.ensures.same;
     }
 
@@ -35,6 +35,6 @@ returns-else-is_due g c =
       compare = on_ok c.put-2.result _ _ (λ same. c.requires.compare) c.put-2.ensures.same;
       put = on_ok c.put-2.result _ _
           (λ same. other_put (λ (e : Entry _). IsDue w.KIND c.args.outlook.now.due (w.wide_value e.total)) c.args.entry table.ready.items table.later.items now.items
-              (λ due. true≢false (sym (c.is_due.ensures.1 due) ∙ c.if-is_due.false)) same)
+          (λ due. true≢false (sym (c.is_due.ensures.1 due) ∙ c.if-is_due.false)) same)
           c.put-2.ensures.same;
     }
