@@ -1,5 +1,5 @@
 -- The lengths of fronts whose weight becomes due.
-use Rattle.std.proofs.Common.{◌≡◌, ◌≢◌, ◌⊎◌, inl, inr, ℕ, ◌+◌, ◌<◌, ◌≤◌, List, [], ◌∷◌, ◌++◌, Bool, true, false, Some, length, get_or, slice_get, refl, sym, ap, subst, ◌∙◌, arith}
+use Rattle.std.proofs.Common.{◌≡◌, ◌≢◌, inl, inr, ℕ, ◌+◌, ◌<◌, ◌≤◌, List, ◌++◌, Bool, true, false, length, get_or, sym, ap, subst, ◌∙◌, arith}
 use Rattle.std.proofs.lemmas.List.{length-append}
 use Rattle.std.proofs.lemmas.Option.{get_or_from_slice_get, slice_get_within}
 use Rattle.fst_semiring.specs.Cost.{Cost, cost_cmp, infinite, plus}
@@ -60,7 +60,8 @@ module _ (kind : ArcType) (g : Graph ℕ) (f : Front) (key : IsKey (IsSpelled ki
     open_solid = word_solid kind g weighted key.word f.total key.weighs.0
 
     -- no string behind the prefix has less
-    behind : (other : List ℕ) → WordWeighs kind g (f.prefix ++ other) (best_total kind d part members) → ((v : Cost) → PrefixWeighs kind g f.prefix v → plus (best_total kind d part members) v ≡ best_total kind d part members)
+    behind : (other : List ℕ) → WordWeighs kind g (f.prefix ++ other) (best_total kind d part members)
+        → ((v : Cost) → PrefixWeighs kind g f.prefix v → plus (best_total kind d part members) v ≡ best_total kind d part members)
         → NoLess f.total f.long (best_total kind d part members) (length (f.prefix ++ other))
     behind other whole least = key.least (f.prefix ++ other) (best_total kind d part members) (open_covers f is_open other) (whole, λ v h. least v (record { rest = other; whole = h }))
 
@@ -77,7 +78,8 @@ module _ (kind : ArcType) (g : Graph ℕ) (f : Front) (key : IsKey (IsSpelled ki
     least_ahead : (v : Cost) → PrefixWeighs kind g f.prefix v → plus (best_total kind d part members) v ≡ best_total kind d part members
     least_ahead = by_least laws.ahead
       where
-        by_least : IsLeast (PrefixWeighs kind g f.prefix) (best_total kind d part members) → (v : Cost) → PrefixWeighs kind g f.prefix v → plus (best_total kind d part members) v ≡ best_total kind d part members
+        by_least : IsLeast (PrefixWeighs kind g f.prefix) (best_total kind d part members) → (v : Cost) → PrefixWeighs kind g f.prefix v
+            → plus (best_total kind d part members) v ≡ best_total kind d part members
         by_least (inl none) v h = absurd (none.0 v h)
         by_least (inr some) v h = some.1 v h
 
@@ -85,14 +87,14 @@ module _ (kind : ArcType) (g : Graph ℕ) (f : Front) (key : IsKey (IsSpelled ki
     open_long count short =
         let s = laws.shortest count short in
         let up : f.long ≤ length (f.prefix ++ s.0)
-              = no_less_few f.total (best_total kind d part members) f.long (length (f.prefix ++ s.0)) (behind s.0 s.1 least_ahead) open_total in
+        = no_less_few f.total (best_total kind d part members) f.long (length (f.prefix ++ s.0)) (behind s.0 s.1 least_ahead) open_total in
         let down : count ≤ length rest.0 = laws.least count rest.0 short (subst (WordWeighs kind g (f.prefix ++ rest.0)) open_total own) in
         let long : length (f.prefix ++ rest.0) ≡ f.long = sym (ap length rest.1) ∙ key.long in
         omega (arith, up, down, long, s.2, length-append f.prefix s.0, length-append f.prefix rest.0)
 
 -- an entry whose front tells its best string
-module _ {V D : Type 0} (kind : ArcType) (value : V → Cost) (wide : D → Cost) (o : OutlookAs V D) (is : IsOutlook kind value wide o) (words : List (List ℕ)) (subsets : List (List Member)) (e : Entry D)
-    (due : Cost) (f : Front) (h : IsEntry kind (graph_of (valued value o.machine)) wide due words subsets e f) (key : IsKey (IsSpelled kind (graph_of (valued value o.machine))) f) where
+module _ {V D : Type 0} (kind : ArcType) (value : V → Cost) (wide : D → Cost) (o : OutlookAs V D) (is : IsOutlook kind value wide o) (words : List (List ℕ)) (subsets : List (List Member))
+    (e : Entry D) (due : Cost) (f : Front) (h : IsEntry kind (graph_of (valued value o.machine)) wide due words subsets e f) (key : IsKey (IsSpelled kind (graph_of (valued value o.machine))) f) where
   pub entry_closed : e.closed ≡ true → f.long ≡ length (prefix_of words e)
   entry_closed is_closed = closed_long kind (graph_of (valued value o.machine)) f key (h.closed ∙ is_closed) ∙ ap length h.prefix
 
@@ -105,7 +107,8 @@ module _ {V D : Type 0} (kind : ArcType) (value : V → Cost) (wide : D → Cost
       front_subset =
           let t = h.subset is_open in
           let same : s ≡ t.0 = at ∙ get_or_from_slice_get subsets e.slot t.0 s t.1 in
-          subst (λ (z : List Member). IsSubset kind (graph_of (valued value o.machine)) f.prefix (wide e.by) z) (sym same) (subst (λ (x : List ℕ). IsSubset kind (graph_of (valued value o.machine)) x (wide e.by) t.0) (sym h.prefix) t.2)
+          subst (λ (z : List Member). IsSubset kind (graph_of (valued value o.machine)) f.prefix (wide e.by) z) (sym same)
+          (subst (λ (x : List ℕ). IsSubset kind (graph_of (valued value o.machine)) x (wide e.by) t.0) (sym h.prefix) t.2)
 
       front_short : length f.prefix ≤ most_long + 1
       front_short = let long : length f.prefix ≡ length (prefix_of words e) = ap length h.prefix in let few = h.compare.few in omega (arith, long, few, prefix_few words e h.compare)
@@ -134,10 +137,11 @@ module _ {V D : Type 0} (kind : ArcType) (value : V → Cost) (wide : D → Cost
       pub entry_solid : wide e.total ≢ infinite
       entry_solid none = open_solid kind (graph_of (valued value o.machine)) f key is.weighed.weighted (dist_in wide o.dist) reach (wide e.by) s front_subset front_open (h.total ∙ none)
 
-      pub entry_long : (count n : ℕ) → n ≡ length (prefix_of words e) → ((x : List ℕ) → IsSubset kind (graph_of (valued value o.machine)) x (wide e.by) s → IsShortest kind (graph_of (valued value o.machine)) (wide e.by) (wide e.total) s count)
+      pub entry_long : (count n : ℕ) → n ≡ length (prefix_of words e)
+          → ((x : List ℕ) → IsSubset kind (graph_of (valued value o.machine)) x (wide e.by) s → IsShortest kind (graph_of (valued value o.machine)) (wide e.by) (wide e.total) s count)
           → f.long ≡ n + count
       entry_long count n len short =
           let long = open_long kind (graph_of (valued value o.machine)) f key is.weighed.weighted (dist_in wide o.dist) reach (wide e.by) s front_subset front_open count
-              (subst (λ (t : Cost). IsShortest kind (graph_of (valued value o.machine)) (wide e.by) t s count) entry_total (short f.prefix front_subset)) in
+          (subst (λ (t : Cost). IsShortest kind (graph_of (valued value o.machine)) (wide e.by) t s count) entry_total (short f.prefix front_subset)) in
           let same : length f.prefix ≡ length (prefix_of words e) = ap length h.prefix in
           omega (arith, long, same, len)

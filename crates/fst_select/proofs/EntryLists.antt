@@ -1,11 +1,11 @@
 -- Entries and the fronts for which they stand: in another order, and as strings are listed and subsets are made.
-use Rattle.std.proofs.Common.{◌≡◌, ◌⊎◌, inl, inr, ℕ, ◌+◌, ◌<◌, ◌≤◌, zero, suc, List, [], ◌∷◌, ◌++◌, true, false, Some, length, map, take, get_or, set, slice_get, refl, sym, ap, ap₂, subst, ◌∙◌, arith}
-use Rattle.std.specs.Ordering.{is_gt, nat_cmp, ordering_then}
+use Rattle.std.proofs.Common.{◌≡◌, ◌⊎◌, inl, inr, ℕ, ◌<◌, ◌≤◌, zero, suc, List, [], ◌∷◌, ◌++◌, length, map, take, get_or, set, refl, sym, ap, ap₂, subst, ◌∙◌, arith}
+use Rattle.std.specs.Ordering.{nat_cmp, ordering_then}
 use Rattle.std.specs.Cmp.Lexicographic.{slice_cmp}
 use Rattle.std.specs.List.{All, AllZip, swap}
 use Rattle.std.specs.List.Sorted.{IsPermutation}
 use Rattle.std.proofs.lemmas.Bool.{cases_lt}
-use Rattle.std.proofs.lemmas.List.{get_or_append_left, get_or-append_right, get_or_past, length-append, take-append-le}
+use Rattle.std.proofs.lemmas.List.{get_or_append_left, get_or_past, length-append, take-append-le}
 use Rattle.std.proofs.lemmas.List.Elements.{All-cons, All-head, All-nil, All-tail, All-weaker}
 use Rattle.std.proofs.lemmas.List.Sorted.{IsPermutation-keeps, IsPermutation-refl, IsPermutation-swap, IsPermutation-trans}
 use Rattle.std.proofs.lemmas.Slice.Zip.{AllZip-long}
@@ -56,8 +56,12 @@ module _ {A B : Type 0} (R : A → B → Type 0) where
     where
       step : (l : List A) (i j : ℕ) → i < length l → j < length l → (zs : List B) × IsPermutation ys zs × AllZip R l zs → (zs : List B) × IsPermutation ys zs × AllZip R (swap l i j) zs
       step l i j low_i low_j (zs, moved, zip) =
-          let long : length zs ≡ length l = AllZip-long R l zs zip in
-          (swap zs i j, IsPermutation-trans ys zs (swap zs i j) moved (IsPermutation-swap zs (swap zs i j) i j (omega (arith, long, low_i)) (omega (arith, long, low_j)) refl), zip_swap l zs i j low_i low_j zip)
+          let long : length zs ≡ length l = AllZip-long R l zs zip in (
+            swap zs i j,
+            IsPermutation-trans ys zs (swap zs i j) moved
+                (IsPermutation-swap zs (swap zs i j) i j (omega (arith, long, low_i)) (omega (arith, long, low_j)) refl),
+            zip_swap l zs i j low_i low_j zip,
+          )
 
   -- what holds of each of the first elements holds beside the second
   pub zip_all : (P : A → Type 0) (S : A → B → Type 0) → ((x : A) (y : B) → P x → R x y → S x y) → (xs : List A) (ys : List B) → All P xs → AllZip R xs ys → AllZip S xs ys
@@ -75,7 +79,8 @@ pub keeps_listed : (words : List (List ℕ)) (word : List ℕ) → KeepsBeginnin
 keeps_listed words word i n low = by (cases_lt i (length words))
   where
     by : (i < length words) ⊎ (length words ≤ i) → (n ≤ length (list_at (words ++ word ∷ []) i)) × (take n (list_at (words ++ word ∷ []) i) ≡ take n (list_at words i))
-    by (inl inside) = let same : list_at (words ++ word ∷ []) i ≡ list_at words i = get_or_append_left words (word ∷ []) [] i inside in (subst (λ (l : List ℕ). n ≤ length l) (sym same) low, ap (take n) same)
+    by (inl inside) = let same : list_at (words ++ word ∷ []) i ≡ list_at words i = get_or_append_left words (word ∷ []) [] i inside in
+        (subst (λ (l : List ℕ). n ≤ length l) (sym same) low, ap (take n) same)
     by (inr past) =
         let none : list_at words i ≡ [] = get_or_past words i [] past in
         let zero : n ≡ 0 = omega (arith, low, ap length none) in
@@ -83,7 +88,7 @@ keeps_listed words word i n low = by (cases_lt i (length words))
 
 -- the word in making goes on
 pub keeps_on : (words : List (List ℕ)) (word more : List ℕ) → KeepsBeginnings (words ++ word ∷ []) (words ++ (word ++ more) ∷ [])
-keeps_on [] word more zero n low = (let long = length-append word more in omega (arith, long, low), take-append-le n word more low)
+keeps_on [] word more zero n low = ((let long = length-append word more in omega (arith, long, low)), take-append-le n word more low)
 keeps_on [] word more (suc i) n low = (low, refl)
 keeps_on (w ∷ words) word more zero n low = (low, refl)
 keeps_on (w ∷ words) word more (suc i) n low = keeps_on words word more i n low
@@ -102,11 +107,13 @@ module _ {D : Type 0} (words more : List (List ℕ)) (keeps : KeepsBeginnings wo
   -- entries compare as before, so heaps of them stay heaps
   pub heap_kept : (value : D → Cost) (es : List (Entry D)) → All (CanCompare words) es → IsHeap (entry_cmp value words) es → IsHeap (entry_cmp value more) es
   heap_kept value es all heap = heap_same (entry_cmp value words) (entry_cmp value more) (CanCompare words) es
-      (λ a b can_a can_b. ap₂ (λ (p q : List ℕ). ordering_then (cost_cmp (value a.total) (value b.total)) (ordering_then (nat_cmp a.long b.long) (slice_cmp nat_cmp p q))) (sym (prefix_kept a can_a)) (sym (prefix_kept b can_b)))
+      (λ a b can_a can_b. ap₂ (λ (p q : List ℕ). ordering_then (cost_cmp (value a.total) (value b.total)) (ordering_then (nat_cmp a.long b.long) (slice_cmp nat_cmp p q)))
+      (sym (prefix_kept a can_a)) (sym (prefix_kept b can_b)))
       all heap
 
 module _ {D : Type 0} (kind : ArcType) (g : Graph ℕ) (value : D → Cost) (due : Cost) where
-  entry_kept : (words more : List (List ℕ)) (subsets : List (List Member)) → KeepsBeginnings words more → (e : Entry D) (f : Front) → IsEntry kind g value due words subsets e f → IsEntry kind g value due more subsets e f
+  entry_kept : (words more : List (List ℕ)) (subsets : List (List Member)) → KeepsBeginnings words more → (e : Entry D) (f : Front) → IsEntry kind g value due words subsets e f
+      → IsEntry kind g value due more subsets e f
   entry_kept words more subsets keeps e f h =
       let same : prefix_of more e ≡ prefix_of words e = prefix_kept words more keeps e h.compare in
       record {
@@ -119,7 +126,8 @@ module _ {D : Type 0} (kind : ArcType) (g : Graph ℕ) (value : D → Cost) (due
         subset = λ is_open. let s = h.subset is_open in (s.0, s.1, subst (λ (x : List ℕ). IsSubset kind g x (value e.by) s.0) (sym same) s.2);
       }
 
-  entry_more : (words : List (List ℕ)) (subsets others : List (List Member)) (e : Entry D) (f : Front) → IsEntry kind g value due words subsets e f → IsEntry kind g value due words (subsets ++ others) e f
+  entry_more : (words : List (List ℕ)) (subsets others : List (List Member)) (e : Entry D) (f : Front) → IsEntry kind g value due words subsets e f
+      → IsEntry kind g value due words (subsets ++ others) e f
   entry_more words subsets others e f h = record {
     prefix = h.prefix;
     closed = h.closed;
@@ -130,23 +138,27 @@ module _ {D : Type 0} (kind : ArcType) (g : Graph ℕ) (value : D → Cost) (due
     subset = λ is_open. let s = h.subset is_open in (s.0, at_append_left subsets others e.slot s.0 s.1, s.2);
   }
 
-  pub entries_kept : (words more : List (List ℕ)) (subsets : List (List Member)) → KeepsBeginnings words more → (es : List (Entry D)) (fs : List Front) → AreEntries kind g value due words subsets es fs → AreEntries kind g value due more subsets es fs
+  pub entries_kept : (words more : List (List ℕ)) (subsets : List (List Member)) → KeepsBeginnings words more → (es : List (Entry D)) (fs : List Front)
+      → AreEntries kind g value due words subsets es fs → AreEntries kind g value due more subsets es fs
   entries_kept words more subsets keeps es fs h = zip_weaker (IsEntry kind g value due words subsets) (IsEntry kind g value due more subsets) (entry_kept words more subsets keeps) es fs h
 
   -- a string is listed, the string in making goes on, and subsets are made
-  pub entries_listed : (words : List (List ℕ)) (word : List ℕ) (subsets : List (List Member)) (es : List (Entry D)) (fs : List Front) → AreEntries kind g value due words subsets es fs → AreEntries kind g value due (words ++ word ∷ []) subsets es fs
+  pub entries_listed : (words : List (List ℕ)) (word : List ℕ) (subsets : List (List Member)) (es : List (Entry D)) (fs : List Front) → AreEntries kind g value due words subsets es fs
+      → AreEntries kind g value due (words ++ word ∷ []) subsets es fs
   entries_listed words word subsets es fs h = entries_kept words (words ++ word ∷ []) subsets (keeps_listed words word) es fs h
 
   pub entries_on : (words : List (List ℕ)) (word more : List ℕ) (subsets : List (List Member)) (es : List (Entry D)) (fs : List Front)
       → AreEntries kind g value due (words ++ word ∷ []) subsets es fs → AreEntries kind g value due (words ++ (word ++ more) ∷ []) subsets es fs
   entries_on words word more subsets es fs h = entries_kept (words ++ word ∷ []) (words ++ (word ++ more) ∷ []) subsets (keeps_on words word more) es fs h
 
-  pub entries_more : (words : List (List ℕ)) (subsets others : List (List Member)) (es : List (Entry D)) (fs : List Front) → AreEntries kind g value due words subsets es fs → AreEntries kind g value due words (subsets ++ others) es fs
+  pub entries_more : (words : List (List ℕ)) (subsets others : List (List Member)) (es : List (Entry D)) (fs : List Front) → AreEntries kind g value due words subsets es fs
+      → AreEntries kind g value due words (subsets ++ others) es fs
   entries_more words subsets others es fs h = zip_weaker (IsEntry kind g value due words subsets) (IsEntry kind g value due words (subsets ++ others)) (entry_more words subsets others) es fs h
 
   module _ (words : List (List ℕ)) (subsets : List (List Member)) where
     -- entries behind others
-    pub entries_append : (es more : List (Entry D)) (fs others : List Front) → AreEntries kind g value due words subsets es fs → AreEntries kind g value due words subsets more others → AreEntries kind g value due words subsets (es ++ more) (fs ++ others)
+    pub entries_append : (es more : List (Entry D)) (fs others : List Front) → AreEntries kind g value due words subsets es fs → AreEntries kind g value due words subsets more others
+        → AreEntries kind g value due words subsets (es ++ more) (fs ++ others)
     entries_append es more fs others h k = zip_append (IsEntry kind g value due words subsets) es fs more others h k
 
     pub entries_split : (es more : List (Entry D)) (fs : List Front) → AreEntries kind g value due words subsets (es ++ more) fs
@@ -154,7 +166,8 @@ module _ {D : Type 0} (kind : ArcType) (g : Graph ℕ) (value : D → Cost) (due
     entries_split es more fs h = zip_split (IsEntry kind g value due words subsets) es more fs h
 
     -- entries in another order stand for the fronts in another order
-    pub entries_permuted : (es new : List (Entry D)) (fs : List Front) → IsPermutation es new → AreEntries kind g value due words subsets es fs → (gs : List Front) × IsPermutation fs gs × AreEntries kind g value due words subsets new gs
+    pub entries_permuted : (es new : List (Entry D)) (fs : List Front) → IsPermutation es new → AreEntries kind g value due words subsets es fs
+        → (gs : List Front) × IsPermutation fs gs × AreEntries kind g value due words subsets new gs
     entries_permuted es new fs same h = zip_permuted (IsEntry kind g value due words subsets) es new fs same h
 
     pub entries_compare : (es : List (Entry D)) (fs : List Front) → AreEntries kind g value due words subsets es fs → All (CanCompare words) es
@@ -172,10 +185,12 @@ module _ {D : Type 0} (kind : ArcType) (g : Graph ℕ) (value : D → Cost) (due
     entries_due [] (f ∷ fs) all h = absurd h
     entries_due (e ∷ es) [] all h = absurd h
     entries_due (e ∷ es) (f ∷ fs) all h =
-        ap₂ (λ (x : Front) (l : List Front). x ∷ l) (entry_front e f (All-head (λ (x : Entry D). IsDue kind due (value x.total)) e es all) h.0) (entries_due es fs (All-tail (λ (x : Entry D). IsDue kind due (value x.total)) e es all) h.1)
+        ap₂ (λ (x : Front) (l : List Front). x ∷ l) (entry_front e f (All-head (λ (x : Entry D). IsDue kind due (value x.total)) e es all) h.0)
+        (entries_due es fs (All-tail (λ (x : Entry D). IsDue kind due (value x.total)) e es all) h.1)
 
     -- each stands for the front that it tells
-    pub entries_fronts : (es : List (Entry D)) (fs : List Front) → All (λ e. IsDue kind due (value e.total)) es → AreEntries kind g value due words subsets es fs → All (λ e. IsEntry kind g value due words subsets e (front_of value words e)) es
+    pub entries_fronts : (es : List (Entry D)) (fs : List Front) → All (λ e. IsDue kind due (value e.total)) es → AreEntries kind g value due words subsets es fs
+        → All (λ e. IsEntry kind g value due words subsets e (front_of value words e)) es
     entries_fronts [] [] all h = All-nil (λ (e : Entry D). IsEntry kind g value due words subsets e (front_of value words e))
     entries_fronts [] (f ∷ fs) all h = absurd h
     entries_fronts (e ∷ es) [] all h = absurd h
@@ -184,7 +199,11 @@ module _ {D : Type 0} (kind : ArcType) (g : Graph ℕ) (value : D → Cost) (due
         (subst (IsEntry kind g value due words subsets e) (entry_front e f (All-head (λ (x : Entry D). IsDue kind due (value x.total)) e es all) h.0) h.0)
         (entries_fronts es fs (All-tail (λ (x : Entry D). IsDue kind due (value x.total)) e es all) h.1)
 
-    pub fronts_entries : (es : List (Entry D)) → All (λ e. IsEntry kind g value due words subsets e (front_of value words e)) es → AreEntries kind g value due words subsets es (map (front_of value words) es)
+    pub fronts_entries : (es : List (Entry D)) → All (λ e. IsEntry kind g value due words subsets e (front_of value words e)) es
+        → AreEntries kind g value due words subsets es (map (front_of value words) es)
     fronts_entries [] all = tt
-    fronts_entries (e ∷ es) all =
-        (All-head (λ (x : Entry D). IsEntry kind g value due words subsets x (front_of value words x)) e es all, fronts_entries es (All-tail (λ (x : Entry D). IsEntry kind g value due words subsets x (front_of value words x)) e es all))
+    fronts_entries (e ∷ es) all = (
+      All-head (λ (x : Entry D). IsEntry kind g value due words subsets x (front_of value words x)) e es all,
+      fronts_entries es
+          (All-tail (λ (x : Entry D). IsEntry kind g value due words subsets x (front_of value words x)) e es all),
+    )

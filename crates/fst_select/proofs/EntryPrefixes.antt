@@ -70,7 +70,7 @@ module _ {D : Type 0} (words : List (List ℕ)) (e : Entry D) (can : CanCompare 
   label_within k word label low there here =
       let whole : list_at words e.owner ≡ word = get_or_from_slice_get words e.owner word [] there in
       let at : get_or (take e.depth (list_at words e.owner)) k 0 ≡ label
-            = get_or-take e.depth (list_at words e.owner) k 0 low ∙ (ap (λ (l : List ℕ). get_or l k 0) whole ∙ get_or_from_slice_get word k label 0 here) in
+      = get_or-take e.depth (list_at words e.owner) k 0 low ∙ (ap (λ (l : List ℕ). get_or l k 0) whole ∙ get_or_from_slice_get word k label 0 here) in
       sym (get_or_append_left (take e.depth (list_at words e.owner)) (tail_of e.tail) 0 k (omega (arith, low, begin_long)) ∙ at)
 
   pub label_behind : (k : ℕ) → k < length (prefix_of words e) → e.depth ≤ k → e.tail ≡ get_or (prefix_of words e) k 0
@@ -107,7 +107,8 @@ module _ (xs ys : List ℕ) (k x y : ℕ) (one : k < length xs) (two : k < lengt
       rest : Ordering
       rest = slice_cmp nat_cmp (drop (k + 1) xs) (drop (k + 1) ys)
 
-      by : ((x < y) × (nat_cmp x y ≡ Less)) ⊎ (((x ≡ y) × (nat_cmp x y ≡ Equal)) ⊎ ((y < x) × (nat_cmp x y ≡ Greater))) → nat_lt x y ≡ is_lt (ordering_then (nat_cmp x y) (slice_cmp nat_cmp (drop (k + 1) xs) (drop (k + 1) ys)))
+      by : ((x < y) × (nat_cmp x y ≡ Less)) ⊎ (((x ≡ y) × (nat_cmp x y ≡ Equal)) ⊎ ((y < x) × (nat_cmp x y ≡ Greater)))
+          → nat_lt x y ≡ is_lt (ordering_then (nat_cmp x y) (slice_cmp nat_cmp (drop (k + 1) xs) (drop (k + 1) ys)))
       by (inl r) = lt_true x y r.0 ∙ ap (λ (o : Ordering). is_lt (ordering_then o (slice_cmp nat_cmp (drop (k + 1) xs) (drop (k + 1) ys)))) (sym r.1)
       by (inr (inl r)) = absurd (other r.0)
       by (inr (inr r)) = lt_false x y (omega (arith, r.0)) ∙ ap (λ (o : Ordering). is_lt (ordering_then o (slice_cmp nat_cmp (drop (k + 1) xs) (drop (k + 1) ys)))) (sym r.1)
@@ -134,8 +135,10 @@ least_is n a b is = by (cases_lt a b)
 -- prefixes that begin as one listed string
 pub prefixes_begin : {D : Type 0} (words : List (List ℕ)) (a b : Entry D) (n : ℕ) → CanCompare words a → CanCompare words b → (a.owner ≡ b.owner) ⊎ (n ≡ 0) → n ≤ a.depth → n ≤ b.depth
     → slice_cmp nat_cmp (prefix_of words a) (prefix_of words b) ≡ slice_cmp nat_cmp (drop n (prefix_of words a)) (drop n (prefix_of words b))
-prefixes_begin words a b n can_a can_b (inr none) one two = lists_behind n (prefix_of words a) (prefix_of words b) (ap (λ (j : ℕ). take j (prefix_of words a)) none ∙ ap (λ (j : ℕ). take j (prefix_of words b)) (sym none))
-prefixes_begin {D} words a b n can_a can_b (inl same) one two = lists_behind n (prefix_of words a) (prefix_of words b) (first a can_a one ∙ (ap (λ (i : ℕ). take n (list_at words i)) same ∙ sym (first b can_b two)))
+prefixes_begin words a b n can_a can_b (inr none) one two = lists_behind n (prefix_of words a) (prefix_of words b) (ap (λ (j : ℕ). take j (prefix_of words a)) none
+    ∙ ap (λ (j : ℕ). take j (prefix_of words b)) (sym none))
+prefixes_begin {D} words a b n can_a can_b (inl same) one two = lists_behind n (prefix_of words a) (prefix_of words b) (first a can_a one
+    ∙ (ap (λ (i : ℕ). take n (list_at words i)) same ∙ sym (first b can_b two)))
   where
     shorter : (m d : ℕ) (xs : List ℕ) → m ≤ d → take m (take d xs) ≡ take m xs
     shorter zero d xs low = refl

@@ -21,6 +21,7 @@ pub mod SearchFronts
 pub mod EntryPrefixes
 pub mod EntryLists
 pub mod Puts
+pub mod Leasts
 pub mod Moving
 pub mod Beginnings
 pub mod OpenParts

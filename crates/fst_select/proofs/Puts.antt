@@ -1,9 +1,8 @@
 -- Elements that are put into two lists, one after the other.
-use Rattle.std.proofs.Common.{◌≡◌, List, [], ◌∷◌, ◌++◌, refl, sym, ap, subst, ◌∙◌, append_assoc, append-nil}
-use Rattle.std.specs.List.{All}
+use Rattle.std.proofs.Common.{◌≡◌, List, [], ◌∷◌, ◌++◌, sym, ap, subst, ◌∙◌, append_assoc}
 use Rattle.std.specs.List.Sorted.{IsPermutation}
 use Rattle.std.proofs.lemmas.List.Elements.{All-append, All-cons, All-nil}
-use Rattle.std.proofs.lemmas.List.Sorted.{IsPermutation-append, IsPermutation-append_comm, IsPermutation-append_left, IsPermutation-append_right, IsPermutation-refl, IsPermutation-sym, IsPermutation-trans}
+use Rattle.std.proofs.lemmas.List.Sorted.{IsPermutation-append, IsPermutation-append_comm, IsPermutation-append_left, IsPermutation-append_right, IsPermutation-refl, IsPermutation-sym, IsPermutation-to_front, IsPermutation-trans}
 use Rattle.fst_select.specs.Tables.{ArePut}
 
 module _ {X : Type 0} (Passes : X → Type 0) where
@@ -41,7 +40,7 @@ module _ {X : Type 0} (Passes : X → Type 0) where
   }
 
   -- what is put, then more
-  pub put_then : (xs ys first second mid other new last : List X) → ArePut Passes xs first second mid other → ArePut Passes ys mid other new last → ArePut Passes (xs ++ ys) first second new last
+  put_then : (xs ys first second mid other new last : List X) → ArePut Passes xs first second mid other → ArePut Passes ys mid other new last → ArePut Passes (xs ++ ys) first second new last
   put_then xs ys first second mid other new last one two = record {
     passing = two.passing ++ one.passing;
     others = two.others ++ one.others;
@@ -59,22 +58,29 @@ module _ {X : Type 0} (Passes : X → Type 0) where
       joined us vs zs mid new p q =
           subst (λ (l : List X). IsPermutation l new) (sym (append_assoc vs us zs)) (IsPermutation-trans (vs ++ (us ++ zs)) (vs ++ mid) new (IsPermutation-append_right vs (us ++ zs) mid p) q)
 
-      exchanged : (as bs cs ds : List X) → IsPermutation ((as ++ bs) ++ (cs ++ ds)) ((as ++ cs) ++ (bs ++ ds))
-      exchanged as bs cs ds =
-          let inner : IsPermutation (bs ++ (cs ++ ds)) (cs ++ (bs ++ ds))
-                = subst (λ (l : List X). IsPermutation l (cs ++ (bs ++ ds))) (append_assoc bs cs ds)
-                  (subst (λ (l : List X). IsPermutation ((bs ++ cs) ++ ds) l) (append_assoc cs bs ds) (IsPermutation-append_left ds (bs ++ cs) (cs ++ bs) (IsPermutation-append_comm bs cs))) in
-          subst (λ (l : List X). IsPermutation l ((as ++ cs) ++ (bs ++ ds))) (sym (append_assoc as bs (cs ++ ds)))
-          (subst (λ (l : List X). IsPermutation (as ++ (bs ++ (cs ++ ds))) l) (sym (append_assoc as cs (bs ++ ds))) (IsPermutation-append_right as (bs ++ (cs ++ ds)) (cs ++ (bs ++ ds)) inner))
+      exchanged : (us vs ws zs : List X) → IsPermutation ((us ++ vs) ++ (ws ++ zs)) ((us ++ ws) ++ (vs ++ zs))
+      exchanged us vs ws zs =
+          let inner : IsPermutation (vs ++ (ws ++ zs)) (ws ++ (vs ++ zs))
+          = subst (λ (l : List X). IsPermutation l (ws ++ (vs ++ zs))) (append_assoc vs ws zs)
+          (subst (λ (l : List X). IsPermutation ((vs ++ ws) ++ zs) l) (append_assoc ws vs zs) (IsPermutation-append_left zs (vs ++ ws) (ws ++ vs) (IsPermutation-append_comm vs ws))) in
+          subst (λ (l : List X). IsPermutation l ((us ++ ws) ++ (vs ++ zs))) (sym (append_assoc us vs (ws ++ zs)))
+          (subst (λ (l : List X). IsPermutation (us ++ (vs ++ (ws ++ zs))) l) (sym (append_assoc us ws (vs ++ zs))) (IsPermutation-append_right us (vs ++ (ws ++ zs)) (ws ++ (vs ++ zs)) inner))
 
-  -- the same elements in another order
-  pub put_permuted : (xs ys first second new last : List X) → IsPermutation ys xs → ArePut Passes xs first second new last → ArePut Passes ys first second new last
-  put_permuted xs ys first second new last same h = record {
-    passing = h.passing;
-    others = h.others;
-    all = IsPermutation-trans ys xs (h.passing ++ h.others) same h.all;
-    pass = h.pass;
-    fail = h.fail;
-    first = h.first;
-    second = h.second;
-  }
+  -- one element more is put before those that were
+  pub put_done : (x : X) (xs first second mid other new last : List X) → ArePut Passes xs first second mid other → ArePut Passes (x ∷ []) mid other new last
+      → ArePut Passes (x ∷ xs) first second new last
+  put_done x xs first second mid other new last one two =
+      let h = put_then xs (x ∷ []) first second mid other new last one two in
+      record {
+        passing = h.passing;
+        others = h.others;
+        all = IsPermutation-trans (x ∷ xs) (xs ++ x ∷ []) (h.passing ++ h.others) (IsPermutation-sym (xs ++ x ∷ []) (x ∷ xs) (IsPermutation-to_front xs x)) h.all;
+        pass = h.pass;
+        fail = h.fail;
+        first = h.first;
+        second = h.second;
+      }
+
+-- an element is taken from the end of those that are left
+pub put_next : {X : Type 0} (whole left new : List X) (x : X) (done : List X) → left ≡ new ++ x ∷ [] → whole ≡ left ++ done → whole ≡ new ++ x ∷ done
+put_next whole left new x done is before = before ∙ (ap (λ (l : List _). l ++ done) is ∙ append_assoc new (x ∷ []) done)

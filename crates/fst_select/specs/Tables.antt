@@ -14,14 +14,14 @@ use Rattle.fst_select.specs.Frontier.{Front, IsKey}
 use Rattle.fst_select.specs.Strings.{IsSpelled}
 
 -- Some elements are put into two lists: those that pass into the first, the others into the second.
-pub record ArePut {X : Type 0} (Passes : X → Type 0) (put first second new_first new_second : List X) : Type 0 where
+pub record ArePut {X : Type 0} (Passes : X → Type 0) (put old_first old_second new_first new_second : List X) : Type 0 where
   pub passing : List X
   pub others : List X
   pub all : IsPermutation put (passing ++ others)
   pub pass : All Passes passing
   pub fail : All (λ x. Passes x → ⊥) others
-  pub first : IsPermutation (passing ++ first) new_first
-  pub second : IsPermutation (others ++ second) new_second
+  pub first : IsPermutation (passing ++ old_first) new_first
+  pub second : IsPermutation (others ++ old_second) new_second
 
 -- Entries stand for fronts that tell their best strings.
 pub record AreKeyed {D : Type 0} (kind : ArcType) (g : Graph ℕ) (value : D → Cost) (due : Cost) (words : List (List ℕ))
@@ -40,9 +40,9 @@ pub record IsClassBegun {D : Type 0} (value : D → Cost) (words : List (List �
 
 -- Entries in two lists stand for these fronts in some order.
 pub record StandFor {D : Type 0} (kind : ArcType) (g : Graph ℕ) (value : D → Cost) (due : Cost) (words : List (List ℕ))
-    (subsets : List (List Member)) (ready later : List (Entry D)) (fs : List Front) : Type 0 where
+    (subsets : List (List Member)) (moved waiting : List (Entry D)) (fs : List Front) : Type 0 where
   pub firsts : List Front
   pub others : List Front
   pub same : IsPermutation fs (firsts ++ others)
-  pub ready : AreEntries kind g value due words subsets ready firsts
-  pub later : AreEntries kind g value due words subsets later others
+  pub ready : AreEntries kind g value due words subsets moved firsts
+  pub later : AreEntries kind g value due words subsets waiting others

@@ -1,12 +1,13 @@
 //! How a weight becomes due.
 
-ghost use Rattle.std.specs.Prelude.{◌≡◌, ◌<◌, ◌×◌, [], ◌∷◌, ℕ, List, true, false, All, IfOk, MatchOption};
+ghost use Rattle.std.specs.Prelude.{◌≡◌, ◌≢◌, ◌<◌, [], ◌∷◌, ℕ, List, true, false, All, IfOk, MatchOption, length};
 ghost use Rattle.std.specs.declared.cmp.Ordering.TheVariants.{Less};
 ghost use Rattle.std.specs.Ordering.{is_gt};
 ghost use Rattle.std.specs.List.Sorted.{IsPermutation};
-ghost use Rattle.fst_semiring.specs.Cost.{Cost, cost_cmp};
+ghost use Rattle.fst_semiring.specs.Cost.{Cost, cost_cmp, infinite};
 ghost use Rattle.fst_machine.specs.Graph.{graph_of};
 ghost use Rattle.fst_machine.specs.Machine.{valued};
+ghost use Rattle.fst_determinize.specs.Subsets.{Member};
 ghost use Rattle.fst_nbest.specs.Heap.{IsHeap};
 ghost use Rattle.fst_select.specs.Entries.{IsEntry, total_cmp, words_of};
 ghost use Rattle.fst_select.specs.Frontier.{Front, IsKey};
@@ -45,6 +46,20 @@ fn long_of<W: SubsetWeight>(
         return len;
     }
     len + outlook.left(entry.by, entry.total, &subsets[entry.slot]) as usize
+}
+
+/// The best weight of entries that wait, of which there are some.
+fn best_waiting<W: SubsetWeight>(outlook: &Outlook<W>, later: &Vec<Entry<W::Wide>>) -> W::Wide
+    requires some { 0 < length later.now.items }
+    requires heap { IsHeap (total_cmp W.wide_value) later.now.items }
+    requires fronts { (words : List (List ℕ)) × (subsets : List (List Member)) × (due : Cost) × (fs : List Front) × AreKeyed W.KIND (graph_of (valued W.value outlook.now.machine)) W.wide_value due words subsets later.now.items fs }
+    ensures solid { W.wide_value result ≢ infinite }
+    ensures least { All (λ e. is_gt (cost_cmp (W.wide_value result) (W.wide_value e.total)) ≡ false) later.now.items }
+    ensures reached { All (λ e. cost_cmp (W.wide_value result) (W.wide_value e.total) ≡ Less) later.now.items → ⊥ }
+{
+    // What holds of the machine.
+    let _fst = outlook.machine();
+    later[0].total
 }
 
 /// Takes an entry of this weight out of a heap in which none has a better one; `None` exactly where all have worse ones.
@@ -92,7 +107,7 @@ pub(crate) fn begin_class<W: SubsetWeight>(
     if table.later.is_empty() {
         return Ok(false);
     }
-    let total = table.later[0].total;
+    let total = best_waiting::<W>(outlook, &table.later);
     outlook.make_due(alloc, total)?;
     let comparing = Comparing { listed };
     while let Some(entry) = take_class::<W>(&mut table.later, total) {

@@ -46,7 +46,11 @@ pub(crate) fn is_prefix_before<W: Weight>(
     let first_len = prefix_len::<W>(listed, a);
     let second_len = prefix_len::<W>(listed, b);
     let least = first_len.min(second_len);
-    let mut k = if a.owner == b.owner { a.depth.min(b.depth) } else { 0 };
+    let mut k = if a.owner == b.owner {
+        a.depth.min(b.depth)
+    } else {
+        0
+    };
     while k < least {
         let first = label_at::<W>(listed, a, k);
         let second = label_at::<W>(listed, b, k);
