@@ -83,38 +83,35 @@ module _ {D : Type 0} (kind : ArcType) (g : Graph ℕ) (value : D → Cost) (due
       subst (λ (l : List (Entry D)). IsWalking words old new entry first l after) (sym is_both)
       (subst (λ (x : List ℕ). IsWalking words old new entry first (left ++ others) x) (sym is_after) next)
     where
-      abbrev longer : List ℕ
-      longer = word ++ tail_of first.tail
-
-      old_entries : AreEntries kind g value due (words ++ longer ∷ []) new left w.fronts
+      old_entries : AreEntries kind g value due (words ++ (word ++ tail_of first.tail) ∷ []) new left w.fronts
       old_entries = entries_on kind g value due words word (tail_of first.tail) new left w.fronts
           (subst (λ (ss : List (List Member)). AreEntries kind g value due (words ++ word ∷ []) ss left w.fronts) (sym grow)
           (entries_more kind g value due (words ++ word ∷ []) now some left w.fronts w.entries))
 
-      new_entries : AreEntries kind g value due (words ++ longer ∷ []) new others p.fronts
+      new_entries : AreEntries kind g value due (words ++ (word ++ tail_of first.tail) ∷ []) new others p.fronts
       new_entries = entries_on kind g value due words word (tail_of first.tail) new others p.fronts p.entries
 
       covers : (listed : List WeightedWord) (es : List Front) → IsFrontier (IsSpelled kind g) listed (front_of value words entry ∷ es)
           → ComesFirst (front_of value words entry) es
-          → IsFrontier (IsSpelled kind g) listed (front_at longer first ∷ ((w.fronts ++ p.fronts) ++ es)) × ComesFirst (front_at longer first) ((w.fronts ++ p.fronts) ++ es)
+          → IsFrontier (IsSpelled kind g) listed (front_at (word ++ tail_of first.tail) first ∷ ((w.fronts ++ p.fronts) ++ es)) × ComesFirst (front_at (word ++ tail_of first.tail) first) ((w.fronts ++ p.fronts) ++ es)
       covers listed es f c =
           let before = w.covers listed es f c in
-          let parts = parts_open (IsSpelled kind g) listed (front_at word core) (w.fronts ++ es) (front_at longer first) p.fronts before.0 before.1 p.parted in
+          let parts = parts_open (IsSpelled kind g) listed (front_at word core) (w.fronts ++ es) (front_at (word ++ tail_of first.tail) first) p.fronts before.0 before.1 p.parted in
           let moved = turned p.fronts w.fronts es in
-          (frontier_permuted (IsSpelled kind g) listed (front_at longer first ∷ (p.fronts ++ (w.fronts ++ es))) (front_at longer first ∷ ((w.fronts ++ p.fronts) ++ es))
-              (IsPermutation-cons (front_at longer first) (p.fronts ++ (w.fronts ++ es)) ((w.fronts ++ p.fronts) ++ es) moved) parts.0,
+          (frontier_permuted (IsSpelled kind g) listed (front_at (word ++ tail_of first.tail) first ∷ (p.fronts ++ (w.fronts ++ es))) (front_at (word ++ tail_of first.tail) first ∷ ((w.fronts ++ p.fronts) ++ es))
+              (IsPermutation-cons (front_at (word ++ tail_of first.tail) first) (p.fronts ++ (w.fronts ++ es)) ((w.fronts ++ p.fronts) ++ es) moved) parts.0,
           λ f there. parts.1 f (Has-permutation (p.fronts ++ (w.fronts ++ es)) ((w.fronts ++ p.fronts) ++ es) f moved there))
 
-      next : IsWalking words old new entry first (left ++ others) longer
+      next : IsWalking words old new entry first (left ++ others) (word ++ tail_of first.tail)
       next = record {
         more = w.more ++ some;
         grow = grow ∙ (ap (λ (ss : List (List Member)). ss ++ some) w.grow ∙ append_assoc old w.more some);
         total = p.parted.total ∙ w.total;
         long = p.parted.long ∙ w.long;
         subset = p.subset;
-        key = p.parted.keys (front_at longer first) (inl refl);
+        key = p.parted.keys (front_at (word ++ tail_of first.tail) first) (inl refl);
         fronts = w.fronts ++ p.fronts;
-        entries = entries_append kind g value due (words ++ longer ∷ []) new left others w.fronts p.fronts old_entries new_entries;
+        entries = entries_append kind g value due (words ++ (word ++ tail_of first.tail) ∷ []) new left others w.fronts p.fronts old_entries new_entries;
         covers = covers;
       }
 
@@ -132,7 +129,7 @@ module _ {D : Type 0} (kind : ArcType) (g : Graph ℕ) (value : D → Cost) (due
         lists_closed (IsSpelled kind g) (spelled_once kind g) listed (front_at word core) (w.fronts ++ es) closed before.0 before.1;
   }
 
-  -- an open prefix is no longer than its best string
+  -- an open prefix is no (word ++ tail_of first.tail) than its best string
   pub walk_long : (words : List (List ℕ)) (old now : List (List Member)) (entry core : Entry D) (left : List (Entry D)) (word : List ℕ)
       → IsWalking words old now entry core left word → length word ≤ core.long
   walk_long words old now entry core left word w = by core.closed refl
