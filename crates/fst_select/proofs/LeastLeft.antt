@@ -1,5 +1,5 @@
 -- The least count of the tight members of a prefix is that of the labels that are left.
-use Rattle.std.proofs.Common.{◌≡◌, ◌≢◌, ◌⊎◌, inl, inr, ℕ, ◌+◌, ◌<◌, ◌≤◌, Bool, true, false, true≢false, List, [], ◌∷◌, ◌++◌, Some, length, take, get_or, slice_get, refl, sym, ap, ap₂, subst, ◌∙◌, arith}
+use Rattle.std.proofs.Common.{◌≡◌, ◌≢◌, ◌⊎◌, inl, inr, ℕ, ◌+◌, ◌≤◌, true, false, true≢false, List, [], ◌∷◌, ◌++◌, Some, take, slice_get, refl, sym, ap, ap₂, subst, ◌∙◌, arith}
 use Rattle.std.proofs.lemmas.Bool.{cases_Bool}
 use Rattle.std.proofs.lemmas.List.{get_or_default, take_more}
 use Rattle.std.proofs.lemmas.Option.{get_or_from_slice_get, slice_get_within}
@@ -9,7 +9,7 @@ use Rattle.fst_semiring.specs.declared.arc_type.ArcType.TheVariants.{Boolean, Tr
 use Rattle.fst_semiring.specs.Semiring.{cancels, times}
 use Rattle.fst_semiring.proofs.Order.{plus_antisym, plus_trans}
 use Rattle.fst_machine.specs.BreadthFirst.{Has}
-use Rattle.fst_machine.specs.Distance.{Finishes, IsLeast}
+use Rattle.fst_machine.specs.Distance.{Finishes}
 use Rattle.fst_machine.specs.Graph.{graph_of}
 use Rattle.fst_machine.specs.Machine.{valued}
 use Rattle.fst_machine.proofs.Elements.{Has-append_cases, Has-append_left, Has-append_right}

@@ -1,6 +1,5 @@
 use Rattle.std.proofs.Common.{◌+◌, sym, ap, subst, lit≤}
-use Rattle.fst_semiring.specs.Cost.{Cost}
-use Rattle.fst_semiring.specs.Semiring.{IsWide, Within}
+use Rattle.fst_semiring.specs.Semiring.{IsWide}
 use Rattle.fst_semiring.proofs.Ranges.{Within-more, Within-times}
 use Rattle.fst_determinize.specs.Kept.{HeldAs, IsModest}
 use Rattle.fst_nbest.specs.Ready.{most_distance}
