@@ -363,7 +363,7 @@ list_said kind j k [] p none = absurd none
 list_said kind j k (c ∷ cs) p (inl e) = (c, inl refl, ap (λ (q : WeightedPath ℕ). letters q.path) (sym e) ∙ chain_letters j k c.letters, ap (λ (q : WeightedPath ℕ). q.weight) (sym e))
 list_said kind j k (c ∷ cs) p (inr there) =
     let rest = list_said kind (j + length (first_arc k c.letters)) (k + length c.letters) cs p there in
-    (rest.0, inr rest.1, rest.2)
+    (rest.0, inr rest.1, rest.2, rest.3)
 
 module _ (kind : ArcType) (v : Cost) (d : Chain) (ds : List Chain) (alike : EndAlike v (d ∷ ds)) where
   abbrev cs : List Chain

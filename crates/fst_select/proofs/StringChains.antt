@@ -123,9 +123,9 @@ module _ {V X : Type 0} (kind : ArcType) (value : X → Cost) where
   ends_alike (s ∷ strings) apart = by_word s.word (value s.weight) apart.0 (ends_alike strings apart.1)
     where
       by_word : (word : List ℕ) (last : Cost) → (Has (map (λ (t : StringWeight V X). t.word) strings) word → ⊥) → ((v : Cost) × EndAlike v (chains_of strings))
-          → (v : Cost) × EndsAs v (map (label_letter kind) word) last × EndAlike v (chains_of strings)
-      by_word [] last new rest = (last, refl, none_empty last strings new)
-      by_word (l ∷ word) last new rest = (rest.0, tt, rest.1)
+          → (v : Cost) × (EndsAs v (map (label_letter kind) word) last × EndAlike v (chains_of strings))
+      by_word [] last new rest = (last, (refl, none_empty last strings new))
+      by_word (l ∷ word) last new rest = (rest.0, (tt, rest.1))
 
   -- ---- what the machine relates
 

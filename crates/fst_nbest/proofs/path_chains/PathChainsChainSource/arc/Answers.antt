@@ -10,8 +10,8 @@ use Rattle.fst_nbest.proofs.path_chains.PathChainsChainSource.arc.Goals as goal
 pub item-requires : goal.item-requires
 item-requires g c = path_low (graph_of (valued g.W.Weight.value c.self.inside.fst.now)) c.self.inside.paths.now c.args.self.now c.args.chain c.self.view_is c.requires.chain
 
-pub item-2-requires : goal.item-2-requires
-item-2-requires g c =
+pub item-requires-2 : goal.item-requires-2
+item-requires-2 g c =
     step_low (graph_of (valued g.W.Weight.value c.self.inside.fst.now)) c.self.inside.paths.now c.args.self.now c.args.chain c.args.place c.item.result.now c.self.view_is c.item.ensures c.requires.place
 
 pub step_arc-requires : goal.step_arc-requires

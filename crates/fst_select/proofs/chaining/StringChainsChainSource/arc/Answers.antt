@@ -7,8 +7,8 @@ use Rattle.fst_select.proofs.chaining.StringChainsChainSource.arc.Goals as goal
 pub item-requires : goal.item-requires
 item-requires g c = string_low g.W.Weight.KIND g.W.Weight.wide_value c.self.inside.strings.now c.args.self.now c.args.chain c.self.view_is c.requires.chain
 
-pub item-2-requires : goal.item-2-requires
-item-2-requires g c =
+pub item-requires-2 : goal.item-requires-2
+item-requires-2 g c =
     let count = count_seen g.W.Weight.KIND g.W.Weight.wide_value c.self.inside.strings.now c.args.self.now c.args.chain c.item.result.now c.self.view_is c.item.ensures in
     omega (arith, count, c.requires.place)
 
