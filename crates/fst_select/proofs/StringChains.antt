@@ -1,8 +1,9 @@
 -- The machine of listed strings: what it relates, and the least state in which a weight is out of range.
 use Rattle.std.proofs.Common.{◌≡◌, ◌≢◌, ◌↔◌, ◌⊎◌, inl, inr, ℕ, ◌+◌, ◌<◌, ◌≤◌, zero, suc, List, [], ◌∷◌, Option, None, Some, length, map, min, drop, slice_get, refl, sym, ap, ap₂, subst, ◌∙◌, arith}
-use Rattle.std.proofs.Math.Nat.{min-le_left, min-le_right}
+use Rattle.std.proofs.Math.Nat.{min-eq_left, min-eq_right, min-le_left, min-le_right}
 use Rattle.std.specs.List.{All}
 use Rattle.std.specs.Option.{IfSome, IfNone, MatchOption}
+use Rattle.std.proofs.lemmas.Bool.{cases_lt}
 use Rattle.std.proofs.lemmas.Option.{get_or_from_slice_get}
 use Rattle.std.proofs.lemmas.List.{length-map}
 use Rattle.std.proofs.lemmas.List.Elements.{All-cons, All-head, All-map, All-nil, All-tail}
@@ -21,10 +22,9 @@ use Rattle.fst_machine.proofs.Arcs.{at_mapped}
 use Rattle.fst_machine.proofs.Elements.{at_Has}
 use Rattle.fst_determinize.proofs.Elements.{Has_map, map_Has}
 use Rattle.fst_determinize.proofs.Runs.{All_Has}
-use Rattle.fst_nbest.specs.Chains.{Chain, AreLetters, HaveLetters, arcs_listed, chain_at, chained, letter_at}
+use Rattle.fst_nbest.specs.Chains.{Chain, AreLetters, HaveLetters, chain_at, chained, letter_at}
 use Rattle.fst_nbest.specs.Words.{WeightedWord}
 use Rattle.fst_nbest.proofs.Chained.{EndAlike, EndsAs, SayChains, SaysChain, chained_say}
-use Rattle.fst_nbest.proofs.ChainSizes.{arcs_listed-cons}
 use Rattle.fst_nbest.proofs.Remaining.{drop_at}
 use Rattle.fst_select.specs.StringChains.{EndsOut, IsLeastEnd, end_state, label_letter, lesser, string_chain}
 use Rattle.fst_select.specs.Strings.{labels_listed, weighted}
@@ -81,13 +81,6 @@ module _ {V X : Type 0} (kind : ArcType) (value : X → Cost) where
 
   pub chains-length : (strings : List (StringWeight V X)) → length (chains_of strings) ≡ length strings
   chains-length strings = length-map (map (weighted value) strings) (string_chain kind) ∙ length-map strings (weighted value)
-
-  pub listed_labels : (strings : List WeightedWord) → arcs_listed (map (string_chain kind) strings) ≡ labels_listed strings
-  listed_labels [] = refl
-  listed_labels (a ∷ strings) =
-      let one = arcs_listed-cons (string_chain kind a) (map (string_chain kind) strings) in
-      let two = sum_by-cons (λ (b : WeightedWord). length b.word) a strings in
-      omega (arith, one, two, length-map a.word (label_letter kind), listed_labels strings)
 
   -- the chain of a string in its place, where the chains are known by another name
   pub chain_seen : (strings : List (StringWeight V X)) (cs : List Chain) (i : ℕ) (s : StringWeight V X) → chains_of strings ≡ cs → slice_get strings i ≡ Some s → string_chain kind (weighted value s) ≡ chain_at cs i
@@ -208,20 +201,11 @@ lesser_right (Some s) t state low = let l = min-le_right s t in omega (arith, lo
 
 -- what holds of two numbers holds of the lesser
 lesser_holds : (P : ℕ → Type 0) (s t : ℕ) → P s → P t → P (min s t)
-lesser_holds P s t one two = by (cases s t)
+lesser_holds P s t one two = by (cases_lt s t)
   where
-    cases : (a b : ℕ) → (min a b ≡ a) ⊎ (min a b ≡ b)
-    cases zero b = inl refl
-    cases (suc a) zero = inr refl
-    cases (suc a) (suc b) = next (cases a b)
-      where
-        next : (min a b ≡ a) ⊎ (min a b ≡ b) → (min (suc a) (suc b) ≡ suc a) ⊎ (min (suc a) (suc b) ≡ suc b)
-        next (inl e) = inl (ap suc e)
-        next (inr e) = inr (ap suc e)
-
-    by : (min s t ≡ s) ⊎ (min s t ≡ t) → P (min s t)
-    by (inl e) = subst P (sym e) one
-    by (inr e) = subst P (sym e) two
+    by : (s < t) ⊎ (t ≤ s) → P (min s t)
+    by (inl below) = let low : s ≤ t = omega (arith, below) in subst P (sym (min-eq_left low)) one
+    by (inr above) = subst P (sym (min-eq_right above)) two
 
 module _ (all rest : List WeightedWord) (a : WeightedWord) (labels : ℕ) where
   ends_next : (least found : Option ℕ) → IsLeastBefore all (a ∷ rest) labels least → IfSome found (λ s. (s ≡ end_state labels a.word) × (InRange a.weight → ⊥)) → IfSome (lesser least found) (λ s. EndsOut 0 all s)

@@ -1,6 +1,6 @@
 //! The machine of listed strings.
 
-ghost use Rattle.std.specs.Prelude.{◌≡◌, ◌≢◌, ◌↔◌, ◌<◌, ◌≤◌, ◌+◌, ℕ, ⊥, All, IfNone, IfOk, IfSome, IsErrOf, List, MatchOption, OnOk, length, map};
+ghost use Rattle.std.specs.Prelude.{◌≡◌, ◌≢◌, ◌↔◌, ◌<◌, ◌≤◌, ◌+◌, ℕ, All, IfNone, IfOk, IfSome, IsErrOf, List, MatchOption, OnOk, length, map};
 ghost use Rattle.std.specs.Bool.{Decides};
 ghost use Rattle.fst_semiring.specs.Cost.{Cost, infinite};
 ghost use Rattle.fst_semiring.specs.Semiring.{InRange};
@@ -80,11 +80,11 @@ impl<'a, W: Weight> ChainSource<W> for StringChains<'a, W> {
     }
 
     fn last(&self, chain: usize) -> W {
-        match W::narrow(self.strings.item(chain).weight) {
-            Some(weight) => weight,
+        let Some(last) = W::narrow(self.strings.item(chain).weight) else {
             // All weights are in range.
-            None => unreachable!(),
-        }
+            unreachable!()
+        };
+        last
     }
 }
 

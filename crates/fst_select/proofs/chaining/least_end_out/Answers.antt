@@ -1,4 +1,4 @@
-use Rattle.std.proofs.Common.{◌+◌, ◌≤◌, ◌∷◌, ℕ, List, Option, length, map, drop, refl, sym, subst, arith}
+use Rattle.std.proofs.Common.{◌+◌, ◌≤◌, ◌∷◌, ℕ, List, Option, length, map, drop, sym, subst, arith}
 use Rattle.std.proofs.lemmas.List.{drop_all, length-map}
 use Rattle.fst_nbest.specs.Words.{WeightedWord}
 use Rattle.fst_select.specs.StringChains.{lesser}
@@ -7,7 +7,7 @@ use Rattle.fst_select.proofs.StringChains.{IsLeastBefore, labels_drop, least_beg
 use Rattle.fst_select.proofs.chaining.least_end_out.Goals as goal
 
 pub loop-i-init : goal.loop-i-init
-loop-i-init g c = record { counted = refl; least = least_begins (map (weighted g.W.Weight.wide_value) c.args.strings.now) }
+loop-i-init g c = record { counted = omega arith; least = least_begins (map (weighted g.W.Weight.wide_value) c.args.strings.now) }
 
 pub end_out-requires : goal.end_out-requires
 end_out-requires g c =

@@ -6,9 +6,11 @@ use Rattle.fst_select.proofs.chaining.StringChainsChainSource.last.Goals as goal
 pub item-requires : goal.item-requires
 item-requires g c = string_low g.W.Weight.KIND g.W.Weight.wide_value c.self.inside.strings.now c.args.self.now c.args.chain c.self.view_is c.requires
 
-pub returns-in-Some : goal.returns-in-Some
-returns-in-Some g c =
-    c.narrow.ensures.found ∙ ap (λ (d : Chain). d.last) (chain_seen g.W.Weight.KIND g.W.Weight.wide_value c.self.inside.strings.now c.args.self.now c.args.chain c.item.result.now c.self.view_is c.item.ensures)
+pub returns : goal.returns
+returns g c =
+    c.in-Some.ensures.found ∙ ap (λ (d : Chain). d.last) (chain_seen g.W.Weight.KIND g.W.Weight.wide_value c.self.inside.strings.now c.args.self.now c.args.chain c.item.result.now c.self.view_is c.item.ensures)
 
-pub unreachable : goal.unreachable
-unreachable g c = c.narrow.ensures.none (string_fits g.W.Weight.wide_value c.self.inside.strings.now c.args.chain c.item.result.now c.item.ensures c.self.invariant.1)
+pub unreachable-requires : goal.unreachable-requires
+unreachable-requires g c =
+    let none = rw c.in_default.is at c.narrow.ensures.none in
+    none (string_fits g.W.Weight.wide_value c.self.inside.strings.now c.args.chain c.item.result.now c.item.ensures c.self.invariant.1)
