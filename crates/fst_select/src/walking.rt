@@ -35,9 +35,7 @@ fn append<D: Copy>(left: &mut Vec<Entry<D>>, parts: &mut Vec<Entry<D>>) -> Resul
     ensures moved { OnOk result (left.new.items ≡ left.old.items ++ parts.old.items) }
     ensures clear { OnOk result (parts.new.items ≡ []) }
 {
-    for part in parts.iter() {
-        left.push(*part)?;
-    }
+    left.extend_from_slice(parts.as_slice())?;
     parts.clear();
     Ok(())
 }
