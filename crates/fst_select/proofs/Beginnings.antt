@@ -41,7 +41,7 @@ no_less_few total v m n (inr (same, few)) tie = few
 
 module _ (kind : ArcType) (g : Graph ℕ) (f : Front) (key : IsKey (IsSpelled kind g) f) where
   -- the best string of a closed front is its prefix
-  pub closed_long : f.closed ≡ true → f.long ≡ length f.prefix
+  closed_long : f.closed ≡ true → f.long ≡ length f.prefix
   closed_long is_closed = sym key.long ∙ ap length (closed_covers f key.word is_closed key.inside)
 
   -- the best string of an open front is one of the best weight behind its prefix, and has the least number of labels of these
@@ -56,7 +56,7 @@ module _ (kind : ArcType) (g : Graph ℕ) (f : Front) (key : IsKey (IsSpelled ki
     own : WordWeighs kind g (f.prefix ++ rest.0) f.total
     own = subst (λ (x : List ℕ). WordWeighs kind g x f.total) rest.1 key.weighs.0
 
-    pub open_solid : f.total ≢ infinite
+    open_solid : f.total ≢ infinite
     open_solid = word_solid kind g weighted key.word f.total key.weighs.0
 
     -- no string behind the prefix has less
@@ -65,7 +65,7 @@ module _ (kind : ArcType) (g : Graph ℕ) (f : Front) (key : IsKey (IsSpelled ki
         → NoLess f.total f.long (best_total kind d part members) (length (f.prefix ++ other))
     behind other whole least = key.least (f.prefix ++ other) (best_total kind d part members) (open_covers f is_open other) (whole, λ v h. least v (record { rest = other; whole = h }))
 
-    pub open_total : f.total ≡ best_total kind d part members
+    open_total : f.total ≡ best_total kind d part members
     open_total = by_least laws.ahead
       where
         by_least : IsLeast (PrefixWeighs kind g f.prefix) (best_total kind d part members) → f.total ≡ best_total kind d part members
@@ -83,7 +83,7 @@ module _ (kind : ArcType) (g : Graph ℕ) (f : Front) (key : IsKey (IsSpelled ki
         by_least (inl none) v h = absurd (none.0 v h)
         by_least (inr some) v h = some.1 v h
 
-    pub open_long : (count : ℕ) → IsShortest kind g part (best_total kind d part members) members count → f.long ≡ length f.prefix + count
+    open_long : (count : ℕ) → IsShortest kind g part (best_total kind d part members) members count → f.long ≡ length f.prefix + count
     open_long count short =
         let s = laws.shortest count short in
         let up : f.long ≤ length (f.prefix ++ s.0)

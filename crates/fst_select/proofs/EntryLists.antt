@@ -6,7 +6,7 @@ use Rattle.std.specs.List.{All, AllZip, swap}
 use Rattle.std.specs.List.Sorted.{IsPermutation}
 use Rattle.std.proofs.lemmas.Bool.{cases_lt}
 use Rattle.std.proofs.lemmas.List.{get_or_append_left, get_or_past, length-append, take-append-le}
-use Rattle.std.proofs.lemmas.List.Elements.{All-cons, All-head, All-nil, All-tail, All-weaker}
+use Rattle.std.proofs.lemmas.List.Elements.{All-head, All-tail, All-weaker}
 use Rattle.std.proofs.lemmas.List.Sorted.{IsPermutation-keeps, IsPermutation-refl, IsPermutation-swap, IsPermutation-trans}
 use Rattle.std.proofs.lemmas.Slice.Zip.{AllZip-long}
 use Rattle.fst_semiring.specs.Cost.{Cost, cost_cmp}
@@ -25,7 +25,7 @@ use Rattle.fst_select.specs.Outlook.{IsDue}
 
 module _ {A B : Type 0} (R : A → B → Type 0) where
   -- the elements beside the first ones, and beside the others
-  pub zip_split : (xs more : List A) (zs : List B) → AllZip R (xs ++ more) zs → (ys : List B) × (others : List B) × (zs ≡ ys ++ others) × AllZip R xs ys × AllZip R more others
+  zip_split : (xs more : List A) (zs : List B) → AllZip R (xs ++ more) zs → (ys : List B) × (others : List B) × (zs ≡ ys ++ others) × AllZip R xs ys × AllZip R more others
   zip_split [] more zs h = ([], zs, refl, tt, h)
   zip_split (x ∷ xs) more [] h = absurd h
   zip_split (x ∷ xs) more (z ∷ zs) h = let rest = zip_split xs more zs h.1 in (z ∷ rest.0, rest.1, ap (λ (l : List B). z ∷ l) rest.2, (h.0, rest.3), rest.4)
@@ -51,7 +51,7 @@ module _ {A B : Type 0} (R : A → B → Type 0) where
       (zip_set (x ∷ xs) (y ∷ ys) i (get_or (x ∷ xs) j x) (get_or (y ∷ ys) j y) h (zip_get (x ∷ xs) (y ∷ ys) j x y h low_j)) (zip_get (x ∷ xs) (y ∷ ys) i x y h low_i)
 
   -- the first elements in another order stand beside the second in that order
-  pub zip_permuted : (xs new : List A) (ys : List B) → IsPermutation xs new → AllZip R xs ys → (zs : List B) × IsPermutation ys zs × AllZip R new zs
+  zip_permuted : (xs new : List A) (ys : List B) → IsPermutation xs new → AllZip R xs ys → (zs : List B) × IsPermutation ys zs × AllZip R new zs
   zip_permuted xs new ys same h = IsPermutation-keeps xs (λ (l : List A). (zs : List B) × IsPermutation ys zs × AllZip R l zs) (ys, IsPermutation-refl ys, h) step new same
     where
       step : (l : List A) (i j : ℕ) → i < length l → j < length l → (zs : List B) × IsPermutation ys zs × AllZip R l zs → (zs : List B) × IsPermutation ys zs × AllZip R (swap l i j) zs
@@ -95,7 +95,7 @@ keeps_on (w ∷ words) word more (suc i) n low = keeps_on words word more i n lo
 
 module _ {D : Type 0} (words more : List (List ℕ)) (keeps : KeepsBeginnings words more) where
   -- an entry keeps its prefix
-  pub prefix_kept : (e : Entry D) → CanCompare words e → prefix_of more e ≡ prefix_of words e
+  prefix_kept : (e : Entry D) → CanCompare words e → prefix_of more e ≡ prefix_of words e
   prefix_kept e can = ap (λ (l : List ℕ). l ++ tail_of e.tail) (keeps e.owner e.depth can.depth).1
 
   pub compare_kept : (e : Entry D) → CanCompare words e → CanCompare more e
@@ -138,7 +138,7 @@ module _ {D : Type 0} (kind : ArcType) (g : Graph ℕ) (value : D → Cost) (due
     subset = λ is_open. let s = h.subset is_open in (s.0, at_append_left subsets others e.slot s.0 s.1, s.2);
   }
 
-  pub entries_kept : (words more : List (List ℕ)) (subsets : List (List Member)) → KeepsBeginnings words more → (es : List (Entry D)) (fs : List Front)
+  entries_kept : (words more : List (List ℕ)) (subsets : List (List Member)) → KeepsBeginnings words more → (es : List (Entry D)) (fs : List Front)
       → AreEntries kind g value due words subsets es fs → AreEntries kind g value due more subsets es fs
   entries_kept words more subsets keeps es fs h = zip_weaker (IsEntry kind g value due words subsets) (IsEntry kind g value due more subsets) (entry_kept words more subsets keeps) es fs h
 
@@ -170,12 +170,6 @@ module _ {D : Type 0} (kind : ArcType) (g : Graph ℕ) (value : D → Cost) (due
         → (gs : List Front) × IsPermutation fs gs × AreEntries kind g value due words subsets new gs
     entries_permuted es new fs same h = zip_permuted (IsEntry kind g value due words subsets) es new fs same h
 
-    pub entries_compare : (es : List (Entry D)) (fs : List Front) → AreEntries kind g value due words subsets es fs → All (CanCompare words) es
-    entries_compare [] [] h = All-nil (CanCompare words)
-    entries_compare [] (f ∷ fs) h = absurd h
-    entries_compare (e ∷ es) [] h = absurd h
-    entries_compare (e ∷ es) (f ∷ fs) h = All-cons (CanCompare words) e es h.0.compare (entries_compare es fs h.1)
-
     -- an entry whose weight is due tells its front
     pub entry_front : (e : Entry D) (f : Front) → IsDue kind due (value e.total) → IsEntry kind g value due words subsets e f → f ≡ front_of value words e
     entry_front e f is h = λ i. record { prefix = h.prefix i; closed = h.closed i; total = h.total i; long = h.long is i }
@@ -187,23 +181,3 @@ module _ {D : Type 0} (kind : ArcType) (g : Graph ℕ) (value : D → Cost) (due
     entries_due (e ∷ es) (f ∷ fs) all h =
         ap₂ (λ (x : Front) (l : List Front). x ∷ l) (entry_front e f (All-head (λ (x : Entry D). IsDue kind due (value x.total)) e es all) h.0)
         (entries_due es fs (All-tail (λ (x : Entry D). IsDue kind due (value x.total)) e es all) h.1)
-
-    -- each stands for the front that it tells
-    pub entries_fronts : (es : List (Entry D)) (fs : List Front) → All (λ e. IsDue kind due (value e.total)) es → AreEntries kind g value due words subsets es fs
-        → All (λ e. IsEntry kind g value due words subsets e (front_of value words e)) es
-    entries_fronts [] [] all h = All-nil (λ (e : Entry D). IsEntry kind g value due words subsets e (front_of value words e))
-    entries_fronts [] (f ∷ fs) all h = absurd h
-    entries_fronts (e ∷ es) [] all h = absurd h
-    entries_fronts (e ∷ es) (f ∷ fs) all h =
-        All-cons (λ (x : Entry D). IsEntry kind g value due words subsets x (front_of value words x)) e es
-        (subst (IsEntry kind g value due words subsets e) (entry_front e f (All-head (λ (x : Entry D). IsDue kind due (value x.total)) e es all) h.0) h.0)
-        (entries_fronts es fs (All-tail (λ (x : Entry D). IsDue kind due (value x.total)) e es all) h.1)
-
-    pub fronts_entries : (es : List (Entry D)) → All (λ e. IsEntry kind g value due words subsets e (front_of value words e)) es
-        → AreEntries kind g value due words subsets es (map (front_of value words) es)
-    fronts_entries [] all = tt
-    fronts_entries (e ∷ es) all = (
-      All-head (λ (x : Entry D). IsEntry kind g value due words subsets x (front_of value words x)) e es all,
-      fronts_entries es
-          (All-tail (λ (x : Entry D). IsEntry kind g value due words subsets x (front_of value words x)) e es all),
-    )

@@ -1,18 +1,18 @@
 -- The prefixes of entries, label by label.
-use Rattle.std.proofs.Common.{◌≡◌, ◌⊎◌, inl, inr, ℕ, ◌+◌, ◌-◌, ◌<◌, ◌≤◌, zero, suc, Bool, true, false, List, [], ◌∷◌, ◌++◌, Some, length, drop, take, get_or, slice_get, refl, sym, ap, ap₂, ◌∙◌, min, arith}
+use Rattle.std.proofs.Common.{◌≡◌, ◌⊎◌, inl, inr, ℕ, ◌+◌, ◌<◌, ◌≤◌, zero, suc, Bool, true, false, List, [], ◌∷◌, ◌++◌, length, drop, take, get_or, refl, sym, ap, ap₂, ◌∙◌, arith}
 use Rattle.std.proofs.Common.{Ordering, Less, Equal, Greater}
 use Rattle.std.specs.Prelude.{nat_lt}
 use Rattle.std.specs.Ordering.{nat_cmp, ordering_then, is_lt}
 use Rattle.std.specs.Cmp.Lexicographic.{slice_cmp}
-use Rattle.std.proofs.lemmas.Bool.{cases_lt, lt-ltb, ltb-true}
-use Rattle.std.proofs.lemmas.List.{drop_more, get_or-append_right, get_or-take, get_or_append_left, length-append, length-drop, length-take-le, take-append-drop, take-append-le}
-use Rattle.std.proofs.lemmas.Option.{get_or_from_slice_get}
+use Rattle.std.proofs.lemmas.Bool.{lt-ltb, ltb-true}
+use Rattle.std.proofs.lemmas.List.{drop_more, length-append, length-drop, length-take-le, take-append-drop, take-append-le}
 use Rattle.fst_nbest.specs.Entries.{list_at}
 use Rattle.fst_nbest.proofs.Covering.{slice_behind}
 use Rattle.fst_nbest.proofs.Ranks.{nat_cases, nat_same}
 use Rattle.fst_select.specs.declared.entry.Entry.{Entry}
 use Rattle.fst_select.specs.Entries.{CanCompare, prefix_of, tail_of}
 
+-- a test of numbers, from what holds of them
 lt_true : (x y : ℕ) → x < y → nat_lt x y ≡ true
 lt_true x y low = lt-ltb x y low
 
@@ -23,27 +23,13 @@ lt_false x y low = by (nat_lt x y) refl
     by true e = let h = ltb-true x y e in absurd (omega (arith, h, low))
     by false e = e
 
--- no label, and one
-pub tail_none : (label : ℕ) → label ≡ 0 → tail_of label ≡ []
-tail_none zero e = refl
-tail_none (suc label) e = absurd (omega (arith, e))
-
-pub tail_some : (label : ℕ) → (label ≡ 0 → ⊥) → tail_of label ≡ label ∷ []
-tail_some zero some = absurd (some refl)
-tail_some (suc label) some = refl
-
 module _ {D : Type 0} (words : List (List ℕ)) (e : Entry D) (can : CanCompare words e) where
   begin_long : length (take e.depth (list_at words e.owner)) ≡ e.depth
   begin_long = length-take-le e.depth (list_at words e.owner) can.depth
 
+  -- it has at most one label more than those of the listed string
   pub prefix_long : length (prefix_of words e) ≡ e.depth + length (tail_of e.tail)
   prefix_long = let one = length-append (take e.depth (list_at words e.owner)) (tail_of e.tail) in omega (arith, one, begin_long)
-
-  pub prefix_long_none : e.tail ≡ 0 → length (prefix_of words e) ≡ e.depth
-  prefix_long_none none = let two : length (tail_of e.tail) ≡ 0 = ap length (tail_none e.tail none) in omega (arith, prefix_long, two)
-
-  pub prefix_long_some : (e.tail ≡ 0 → ⊥) → length (prefix_of words e) ≡ e.depth + 1
-  prefix_long_some some = let two : length (tail_of e.tail) ≡ 1 = ap length (tail_some e.tail some) in omega (arith, prefix_long, two)
 
   pub prefix_few : length (prefix_of words e) ≤ e.depth + 1
   prefix_few = by e.tail prefix_long
@@ -52,42 +38,8 @@ module _ {D : Type 0} (words : List (List ℕ)) (e : Entry D) (can : CanCompare 
       by zero h = omega (arith, h)
       by (suc label) h = omega (arith, h)
 
-  -- the listed string is there
-  pub owner_there : (k : ℕ) → k < e.depth → (e.owner < length words) × (k < length (list_at words e.owner))
-  owner_there k low = by (cases_lt e.owner (length words))
-    where
-      by : (e.owner < length words) ⊎ (length words ≤ e.owner) → (e.owner < length words) × (k < length (list_at words e.owner))
-      by (inl inside) = let deep = can.depth in (inside, omega (arith, low, deep))
-      by (inr past) = let deep = can.depth in absurd (let none : length (list_at words e.owner) ≡ 0 = past_none words e.owner past in omega (arith, low, deep, none))
-        where
-          past_none : (ws : List (List ℕ)) (i : ℕ) → length ws ≤ i → length (list_at ws i) ≡ 0
-          past_none [] i h = refl
-          past_none (w ∷ ws) zero h = absurd (omega (arith, h))
-          past_none (w ∷ ws) (suc i) h = past_none ws i (omega (arith, h))
-
-  -- the labels of the listed string, and the one behind them
-  pub label_within : (k : ℕ) (word : List ℕ) (label : ℕ) → k < e.depth → slice_get words e.owner ≡ Some word → slice_get word k ≡ Some label → label ≡ get_or (prefix_of words e) k 0
-  label_within k word label low there here =
-      let whole : list_at words e.owner ≡ word = get_or_from_slice_get words e.owner word [] there in
-      let at : get_or (take e.depth (list_at words e.owner)) k 0 ≡ label
-      = get_or-take e.depth (list_at words e.owner) k 0 low ∙ (ap (λ (l : List ℕ). get_or l k 0) whole ∙ get_or_from_slice_get word k label 0 here) in
-      sym (get_or_append_left (take e.depth (list_at words e.owner)) (tail_of e.tail) 0 k (omega (arith, low, begin_long)) ∙ at)
-
-  pub label_behind : (k : ℕ) → k < length (prefix_of words e) → e.depth ≤ k → e.tail ≡ get_or (prefix_of words e) k 0
-  label_behind k within high =
-      by e.tail prefix_long
-      ∙ sym (get_or-append_right (take e.depth (list_at words e.owner)) (tail_of e.tail) e.depth k 0 begin_long high)
-    where
-      first : (label n : ℕ) → n ≡ 0 → label ≡ get_or (label ∷ []) n 0
-      first label zero h = refl
-      first label (suc n) h = absurd (omega (arith, h))
-
-      by : (label : ℕ) → length (prefix_of words e) ≡ e.depth + length (tail_of label) → label ≡ get_or (tail_of label) (k - e.depth) 0
-      by zero h = absurd (omega (arith, h, within, high))
-      by (suc label) h = first (suc label) (k - e.depth) (omega (arith, h, within, high))
-
 -- lists that begin in the same way compare by what stands behind it
-pub lists_behind : (n : ℕ) (xs ys : List ℕ) → take n xs ≡ take n ys → slice_cmp nat_cmp xs ys ≡ slice_cmp nat_cmp (drop n xs) (drop n ys)
+lists_behind : (n : ℕ) (xs ys : List ℕ) → take n xs ≡ take n ys → slice_cmp nat_cmp xs ys ≡ slice_cmp nat_cmp (drop n xs) (drop n ys)
 lists_behind n xs ys same =
     ap₂ (slice_cmp nat_cmp) (sym (take-append-drop n xs)) (sym (take-append-drop n ys) ∙ ap (λ (l : List ℕ). l ++ drop n ys) (sym same))
     ∙ slice_behind (take n xs) (drop n xs) (drop n ys)
@@ -104,9 +56,6 @@ module _ (xs ys : List ℕ) (k x y : ℕ) (one : k < length xs) (two : k < lengt
   pub lists_differ : (x ≡ y → ⊥) → nat_lt x y ≡ is_lt (slice_cmp nat_cmp (drop k xs) (drop k ys))
   lists_differ other = by (nat_cases x y) ∙ ap is_lt (sym lists_at)
     where
-      rest : Ordering
-      rest = slice_cmp nat_cmp (drop (k + 1) xs) (drop (k + 1) ys)
-
       by : ((x < y) × (nat_cmp x y ≡ Less)) ⊎ (((x ≡ y) × (nat_cmp x y ≡ Equal)) ⊎ ((y < x) × (nat_cmp x y ≡ Greater)))
           → nat_lt x y ≡ is_lt (ordering_then (nat_cmp x y) (slice_cmp nat_cmp (drop (k + 1) xs) (drop (k + 1) ys)))
       by (inl r) = lt_true x y r.0 ∙ ap (λ (o : Ordering). is_lt (ordering_then o (slice_cmp nat_cmp (drop (k + 1) xs) (drop (k + 1) ys)))) (sym r.1)
@@ -124,13 +73,6 @@ lists_end xs ys m n k one two low_m low_n at =
     by (u ∷ us) [] p q h = lt_false m n (omega (arith, p, q))
     by (u ∷ us) (v ∷ vs) p q (inl e) = absurd (omega (arith, p, e))
     by (u ∷ us) (v ∷ vs) p q (inr e) = absurd (omega (arith, q, e))
-
-pub least_is : (n a b : ℕ) → n ≡ min a b → (n ≡ a) ⊎ (n ≡ b)
-least_is n a b is = by (cases_lt a b)
-  where
-    by : (a < b) ⊎ (b ≤ a) → (n ≡ a) ⊎ (n ≡ b)
-    by (inl low) = inl (omega (arith, low, is))
-    by (inr high) = inr (omega (arith, high, is))
 
 -- prefixes that begin as one listed string
 pub prefixes_begin : {D : Type 0} (words : List (List ℕ)) (a b : Entry D) (n : ℕ) → CanCompare words a → CanCompare words b → (a.owner ≡ b.owner) ⊎ (n ≡ 0) → n ≤ a.depth → n ≤ b.depth

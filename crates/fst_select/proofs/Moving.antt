@@ -30,7 +30,7 @@ use Rattle.fst_select.proofs.EntryLists.{entries_permuted, zip_all}
 use Rattle.fst_select.proofs.SubsetKeys.{word_solid}
 
 -- a weight that does not come after another is no worse
-pub not_after_plus : (a b : Cost) → is_gt (cost_cmp a b) ≡ false → plus a b ≡ a
+not_after_plus : (a b : Cost) → is_gt (cost_cmp a b) ≡ false → plus a b ≡ a
 not_after_plus a b h = by (cost_cmp a b) h
   where
     by : (o : Ordering) → is_gt o ≡ false → ranked o a b ≡ a
@@ -38,7 +38,7 @@ not_after_plus a b h = by (cost_cmp a b) h
     by Equal h = refl
     by Greater h = absurd (true≢false h)
 
-pub not_after_less : (a b : Cost) → is_gt (cost_cmp a b) ≡ false → (cost_cmp a b ≡ Equal → ⊥) → cost_cmp a b ≡ Less
+not_after_less : (a b : Cost) → is_gt (cost_cmp a b) ≡ false → (cost_cmp a b ≡ Equal → ⊥) → cost_cmp a b ≡ Less
 not_after_less a b h other = by (cost_cmp a b) refl
   where
     by : (o : Ordering) → cost_cmp a b ≡ o → cost_cmp a b ≡ Less
@@ -69,7 +69,7 @@ module _ {D : Type 0} (value : D → Cost) (items : List (Entry D)) (heap : IsHe
       (λ e h. better_then total (value first.total) (value e.total) less (not_after_plus (value first.total) (value e.total) h)) items (best_first first is)
 
   -- where the first has the best weight, so has an entry that leaves
-  pub best_leaves : (total : Cost) (first e : Entry D) (rest : List (Entry D)) → first ≡ get_or items 0 first → All (λ e. is_gt (cost_cmp total (value e.total)) ≡ false) items
+  best_leaves : (total : Cost) (first e : Entry D) (rest : List (Entry D)) → first ≡ get_or items 0 first → All (λ e. is_gt (cost_cmp total (value e.total)) ≡ false) items
       → cost_cmp total (value first.total) ≡ Equal
       → FirstLeaves (total_cmp value) items e rest → value e.total ≡ total
   best_leaves total first e rest is least same leaves =

@@ -17,8 +17,9 @@ pub index-requires : goal.index-requires
 index-requires g c =
     let w = g.W.Weight in
     let front = c.requires.front in
-    slot_there w.KIND w.value w.wide_value c.args.outlook.now c.machine-fst.ensures.known
-    (words_of c.args.listed.now) c.args.subsets.now.items c.args.entry.now front.0 front.1 front.2 front.3 c.if-entry.false
+    let low = slot_there w.KIND w.value w.wide_value c.args.outlook.now c.machine-fst.ensures.known
+    (words_of c.args.listed.now) c.args.subsets.now.items c.args.entry.now front.0 front.1 front.2 front.3 c.if-entry.false in
+    omega (arith, low, c.args.subsets.now.ok.0)
 
 pub left-requires : goal.left-requires
 left-requires g c =

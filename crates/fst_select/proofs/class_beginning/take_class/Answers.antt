@@ -16,7 +16,6 @@ returns-in_default g c =
     let w = g.W.Weight in
     let items = c.args.later.now.items in
     let total = w.wide_value c.args.total in
-    record {
-      heap = c.requires.heap;
-      taken = (refl, all_worse w.wide_value items c.requires.heap (search rules) total c.index.result.now c.index.ensures c.requires.least (λ tie. c.in_default.not-Equal (c.wide_compare.ensures.order ∙ tie)));
-    }
+    let worse = all_worse w.wide_value items c.requires.heap (search rules) total c.index.result.now c.index.ensures c.requires.least
+    (λ tie. c.in_default.not-Equal (c.wide_compare.ensures.order ∙ tie)) in
+    record { heap = c.requires.heap; taken = (refl, worse) }

@@ -1,7 +1,8 @@
 use Rattle.std.proofs.Common.{◌≡◌, inl, inr, sym, ap, ◌∙◌, arith}
 use Rattle.std.specs.Ordering.{is_lt}
+use Rattle.fst_nbest.proofs.Routes.{least_is}
 use Rattle.fst_select.specs.Entries.{prefix_of, words_of}
-use Rattle.fst_select.proofs.EntryPrefixes.{least_is, lists_differ, lists_end, lists_on, prefix_long, prefixes_begin}
+use Rattle.fst_select.proofs.EntryPrefixes.{lists_differ, lists_end, lists_on, prefix_long, prefixes_begin}
 use Rattle.fst_select.proofs.prefixes.is_prefix_before.Goals as goal
 use Rattle.fst_select.proofs.prefixes.is_prefix_before.Goals.{then-a-b, else-a-b}
 

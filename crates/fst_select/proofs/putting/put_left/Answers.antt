@@ -20,7 +20,9 @@ loop-entry-init g c =
     }
 
 pub put_one-requires-clause-entry : goal.put_one-requires-clause-entry
-put_one-requires-clause-entry g c = (all_popped (CanCompare (words_of c.args.listed.now)) c.loop-entry.left.items c.pop.new.self.items c.in-Some.entry c.in-Some.ensures.items c.loop-entry.invariant.left).1
+put_one-requires-clause-entry g c =
+    let can = CanCompare (words_of c.args.listed.now) in
+    (all_popped can c.loop-entry.left.items c.pop.new.self.items c.in-Some.entry c.in-Some.ensures.items c.loop-entry.invariant.left).1
 
 pub loop-entry-preserved : goal.loop-entry-preserved
 loop-entry-preserved g c =

@@ -12,29 +12,31 @@ pub returns-then-is_due : goal.returns-then-is_due
 returns-then-is_due g c =
     let w = g.W.Weight in
     let can = CanCompare (words_of c.args.listed.now) in
-    let table = c.args.table.now in
-    let now = c.put.new.items in
+    let e = c.args.entry in
+    let ready = c.args.table.now.ready.items in
+    let later = c.args.table.now.later.items in
+    let new = c.put.new.items.items in
+    let put = c.put.ensures in
     record {
-      ready = c.put.ensures.heap;
-      later = on_ok c.put.result _ _ (λ same. c.requires.later) c.put.ensures.same;
-      compare = on_ok c.put.result _ _ (λ same. All-permutation can (c.args.entry ∷ table.ready.items) now.items same (All-cons can c.args.entry table.ready.items c.requires.entry c.requires.compare)) c.put.ensures.same;
+      ready = put.heap;
+      later = on_ok c.put.result _ _ (λ same. c.requires.later) put.same;
+      compare = on_ok c.put.result _ _ (λ same. All-permutation can (e ∷ ready) new same (All-cons can e ready c.requires.entry c.requires.compare)) put.same;
       put = on_ok c.put.result _ _
-          (λ same. passing_put (λ (e : Entry _). IsDue w.KIND c.args.outlook.now.due (w.wide_value e.total)) c.args.entry table.ready.items table.later.items now.items
-          (c.is_due.ensures.0 c.if-is_due.true) same)
-          c.put.ensures.same;
+          (λ same. passing_put (λ (x : Entry _). IsDue w.KIND c.args.outlook.now.due (w.wide_value x.total)) e ready later new (c.is_due.ensures.0 c.if-is_due.true) same) put.same;
     }
 
 pub returns-else-is_due : goal.returns-else-is_due
 returns-else-is_due g c =
     let w = g.W.Weight in
-    let table = c.args.table.now in
-    let now = c.put-else-is_due.new.items in
+    let ready = c.args.table.now.ready.items in
+    let later = c.args.table.now.later.items in
+    let new = c.put-else-is_due.new.items.items in
+    let put = c.put-else-is_due.ensures in
     record {
-      ready = on_ok c.put-else-is_due.result _ _ (λ same. c.requires.ready) c.put-else-is_due.ensures.same;
-      later = c.put-else-is_due.ensures.heap;
-      compare = on_ok c.put-else-is_due.result _ _ (λ same. c.requires.compare) c.put-else-is_due.ensures.same;
+      ready = on_ok c.put-else-is_due.result _ _ (λ same. c.requires.ready) put.same;
+      later = put.heap;
+      compare = on_ok c.put-else-is_due.result _ _ (λ same. c.requires.compare) put.same;
       put = on_ok c.put-else-is_due.result _ _
-          (λ same. other_put (λ (e : Entry _). IsDue w.KIND c.args.outlook.now.due (w.wide_value e.total)) c.args.entry table.ready.items table.later.items now.items
-          (λ due. true≢false (sym (c.is_due.ensures.1 due) ∙ c.if-is_due.false)) same)
-          c.put-else-is_due.ensures.same;
+          (λ same. other_put (λ (x : Entry _). IsDue w.KIND c.args.outlook.now.due (w.wide_value x.total)) c.args.entry ready later new
+          (λ due. true≢false (sym (c.is_due.ensures.1 due) ∙ c.if-is_due.false)) same) put.same;
     }
