@@ -7,11 +7,11 @@ use Rattle.std.specs.List.{All, swap_remove}
 use Rattle.std.specs.List.Sorted.{IsPermutation}
 use Rattle.std.proofs.lemmas.Bool.{cases_lt}
 use Rattle.std.proofs.lemmas.Cmp.{tied_itself}
+use Rattle.std.proofs.lemmas.List.{get_or_default}
 use Rattle.std.proofs.lemmas.List.Elements.{All-tail}
 use Rattle.std.proofs.lemmas.List.Sorted.{All-permutation, IsPermutation-swap_remove}
 use Rattle.fst_queue.specs.HeapOrder.{NotAfter}
 use Rattle.fst_queue.proofs.HeapOrder.{before_NotAfter, not_before_NotAfter, NotAfter-trans}
-use Rattle.fst_nbest.proofs.Heaps.{get_or-default}
 
 module _ {X : Type 0} (R : X → X → Ordering) (total : IsTotalOrder R) (items : List X) where
   -- the element in this place comes after none of the first ones
@@ -48,4 +48,4 @@ module _ {X : Type 0} (R : X → X → Ordering) (total : IsTotalOrder R) (items
       → All (NotAfter R x) new
   least_first least n x new within is cut whole h =
       All-tail (NotAfter R x) x new (All-permutation (NotAfter R x) items (x ∷ new) (least_taken least x new within is cut)
-      (λ j d low. subst (λ (y : X). NotAfter R y (get_or items j d)) (get_or-default items least d x within ∙ sym is) (h j d (omega (arith, low, whole)))))
+      (λ j d low. subst (λ (y : X). NotAfter R y (get_or items j d)) (get_or_default items least d x within ∙ sym is) (h j d (omega (arith, low, whole)))))

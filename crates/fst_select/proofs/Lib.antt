@@ -26,7 +26,7 @@ pub mod Moving
 pub mod Beginnings
 pub mod OpenParts
 pub mod Parted
-pub mod Walking
+pub mod Walks
 pub mod SearchSteps
 pub mod OneStrings
 pub mod StringChains

@@ -1,10 +1,9 @@
 -- A listing on its way: an entry is taken, its string is listed, and what it leaves is put into the table.
-use Rattle.std.proofs.Common.{◌≡◌, ◌⊎◌, inl, inr, ℕ, ◌+◌, ◌<◌, ◌≤◌, Bool, true, false, List, [], ◌∷◌, ◌++◌, Some, length, map, slice_get, take, refl, sym, ap, ap₂, subst, ◌∙◌, append_assoc, append-nil, arith}
+use Rattle.std.proofs.Common.{◌≡◌, ◌⊎◌, inl, inr, ℕ, ◌+◌, ◌<◌, ◌≤◌, Bool, true, false, List, [], ◌∷◌, ◌++◌, length, map, slice_get, take, refl, sym, ap, ap₂, subst, ◌∙◌, append_assoc, arith}
 use Rattle.std.proofs.Common.{Less, Equal, Greater, Ordering}
 use Rattle.std.specs.Ordering.{is_gt, ordering_then}
 use Rattle.std.specs.List.{All}
 use Rattle.std.specs.List.Sorted.{IsPermutation}
-use Rattle.std.proofs.lemmas.List.{map-append}
 use Rattle.std.proofs.lemmas.List.Elements.{All-append, All-cons, All-head, All-nil, All-tail, All-weaker}
 use Rattle.std.proofs.lemmas.List.Sorted.{All-permutation, IsPermutation-append, IsPermutation-append_comm, IsPermutation-append_left, IsPermutation-append_right, IsPermutation-map, IsPermutation-sym, IsPermutation-trans}
 use Rattle.fst_semiring.specs.Cost.{Cost, cost_cmp}
@@ -20,7 +19,7 @@ use Rattle.fst_determinize.proofs.Runs.{Has_All}
 use Rattle.fst_nbest.specs.Heap.{FirstLeaves, IsHeap}
 use Rattle.fst_nbest.specs.Words.{WeightedWord, word_cmp}
 use Rattle.fst_nbest.proofs.Covering.{Has-permutation}
-use Rattle.fst_nbest.proofs.Searches.{All-has, Has-map, map_Has}
+use Rattle.fst_nbest.proofs.Searches.{All-has, Has-map}
 use Rattle.fst_select.specs.declared.entry.Entry.{Entry}
 use Rattle.fst_select.specs.Entries.{AreEntries, IsEntry, entry_cmp, front_of, prefix_of, tail_of, total_cmp}
 use Rattle.fst_nbest.specs.Entries.{list_at}
@@ -29,7 +28,7 @@ use Rattle.fst_select.specs.Outlook.{IsDue}
 use Rattle.fst_select.specs.Searching.{IsSearch, Waits, Walked}
 use Rattle.fst_select.specs.Strings.{AreFirstStrings, IsPlain, IsSpelled}
 use Rattle.fst_select.specs.Tables.{ArePut, AreKeyed, IsClassBegun, StandFor}
-use Rattle.fst_select.proofs.EntryLists.{entries_append, entries_due, entries_listed, entries_more, entries_none, entries_permuted, entries_split}
+use Rattle.fst_select.proofs.EntryLists.{entries_append, entries_due, entries_listed, entries_more, entries_permuted, entries_split}
 use Rattle.fst_select.proofs.Reorders.{frontier_permuted}
 use Rattle.fst_select.proofs.SearchFronts.{begins_nothing, begins_whole, first_strings}
 use Rattle.fst_select.proofs.Stricts.{strictly_before}
@@ -79,7 +78,7 @@ module _ {D : Type 0} (kind : ArcType) (g : Graph ℕ) (value : D → Cost) (due
 
   -- what waits comes behind what is due
   waits_behind : (total other : Cost) → IsDue kind due total → Waits kind due other → cost_cmp total other ≡ Less
-  waits_behind total other (inl cancel) w = absurd (w.kind cancel)
+  waits_behind total other (inl cancel) w = absurd (w.uncancelling cancel)
   waits_behind total other (inr same) w = subst (λ (t : Cost). cost_cmp t other ≡ Less) (sym same) w.worse
 
   abbrev Own : List (List ℕ) → List (List Member) → Entry D → Type 0
@@ -95,7 +94,7 @@ module _ {D : Type 0} (kind : ArcType) (g : Graph ℕ) (value : D → Cost) (due
     all_own = All-permutation (Own words subsets) ready (e ∷ rest) t.same s.entries
 
     all_due : All Due (e ∷ rest)
-    all_due = All-permutation Due ready (e ∷ rest) t.same s.due
+    all_due = All-permutation Due ready (e ∷ rest) t.same s.ready_due
 
     pub taken_entry : Own words subsets e
     taken_entry = All-head (Own words subsets) e rest all_own
@@ -198,7 +197,7 @@ module _ {D : Type 0} (kind : ArcType) (g : Graph ℕ) (value : D → Cost) (due
 
       -- an entry that is left and is not due waits
       other_waits : (x : Entry D) → Has put.others x → Waits kind due (value x.total)
-      other_waits x there = record { kind = λ cancel. fail (inl cancel); worse = by_order (cost_cmp due (value x.total)) refl }
+      other_waits x there = record { uncancelling = λ cancel. fail (inl cancel); worse = by_order (cost_cmp due (value x.total)) refl }
         where
           fail : IsDue kind due (value x.total) → ⊥
           fail = All-has (λ (y : Entry D). IsDue kind due (value y.total) → ⊥) put.others x put.fail there
@@ -236,7 +235,7 @@ module _ {D : Type 0} (kind : ArcType) (g : Graph ℕ) (value : D → Cost) (due
       pub listed_on : IsHeap (entry_cmp value more) ready_now → IsHeap (total_cmp value) later_now → IsSearch kind g value due (listed ++ found ∷ []) more new ready_now later_now
       listed_on heap later_heap = record {
         entries = entries_own more new ready_now firsts.0 firsts.2 firsts_own;
-        due = due_now;
+        ready_due = due_now;
         heap = heap;
         fronts = seconds.0;
         waiting = seconds.2;
@@ -252,15 +251,15 @@ module _ {D : Type 0} (kind : ArcType) (g : Graph ℕ) (value : D → Cost) (due
   waiting_keyed = record { entries = s.waiting; keys = s.frontier.keys }
 
   module _ (begun : IsClassBegun value words next ready_now later_now) (stands : StandFor kind g value next words subsets ready_now later_now s.fronts) where
-    ready_due : All (λ e. IsDue kind next (value e.total)) ready_now
-    ready_due = All-weaker (λ e. value e.total ≡ next) (λ e. IsDue kind next (value e.total)) (λ e same. inr same) ready_now begun.total
+    ready_due_now : All (λ e. IsDue kind next (value e.total)) ready_now
+    ready_due_now = All-weaker (λ e. value e.total ≡ next) (λ e. IsDue kind next (value e.total)) (λ e same. inr same) ready_now begun.total
 
     firsts_are : stands.firsts ≡ map (front_of value words) ready_now
-    firsts_are = entries_due kind g value next words subsets ready_now stands.firsts ready_due stands.ready
+    firsts_are = entries_due kind g value next words subsets ready_now stands.firsts ready_due_now stands.ready
 
     -- that totals wait is of arc types whose factors do not cancel
-    uncancelling : cancels kind ≡ true → ⊥
-    uncancelling cancel = by ready_now stands.firsts begun.some stands.ready refl
+    uncancelling_here : cancels kind ≡ true → ⊥
+    uncancelling_here cancel = by ready_now stands.firsts begun.some stands.ready refl
       where
         by : (es : List (Entry D)) (fs : List Front) → 0 < length es → AreEntries kind g value next words subsets es fs → fs ≡ stands.firsts → ⊥
         by [] fs some h same = omega (arith, some)
@@ -268,16 +267,16 @@ module _ {D : Type 0} (kind : ArcType) (g : Graph ℕ) (value : D → Cost) (due
         by (e ∷ es) (f ∷ fs) some h same =
             let there : Has (stands.firsts ++ stands.others) f = Has-append_left stands.firsts stands.others f (subst (λ (l : List Front). Has l f) same (inl refl)) in
             let from = front_behind kind g value due words subsets later s.fronts f s.waiting (Has-permutation s.fronts (stands.firsts ++ stands.others) f stands.same there) in
-            (All-has (λ (x : Entry D). Waits kind due (value x.total)) later from.0 s.worse from.1).kind cancel
+            (All-has (λ (x : Entry D). Waits kind due (value x.total)) later from.0 s.worse from.1).uncancelling cancel
 
     pub class_on : IsSearch kind g value next listed words subsets ready_now later_now
     class_on = record {
       entries = entries_own kind g value next words subsets ready_now stands.firsts stands.ready firsts_are;
-      due = ready_due;
+      ready_due = ready_due_now;
       heap = begun.ready_heap;
       fronts = stands.others;
       waiting = stands.later;
-      worse = All-weaker (λ e. cost_cmp next (value e.total) ≡ Less) (λ e. Waits kind next (value e.total)) (λ e less. record { kind = uncancelling; worse = less }) later_now begun.worse;
+      worse = All-weaker (λ e. cost_cmp next (value e.total) ≡ Less) (λ e. Waits kind next (value e.total)) (λ e less. record { uncancelling = uncancelling_here; worse = less }) later_now begun.worse;
       later_heap = begun.later_heap;
       frontier = subst (λ (fs : List Front). IsFrontier (IsSpelled kind g) listed (fs ++ stands.others)) firsts_are (frontier_permuted (IsSpelled kind g) listed s.fronts (stands.firsts ++ stands.others) stands.same s.frontier);
     }
@@ -295,7 +294,7 @@ module _ {D : Type 0} (kind : ArcType) (g : Graph ℕ) (value : D → Cost) (due
   pub nothing_listed : ((x : List ℕ) (v : Cost) → IsSpelled kind g x v → ⊥) → (subsets : List (List Member)) → IsSearch kind g value due [] [] subsets [] []
   nothing_listed none subsets = record {
     entries = All-nil (λ e. IsEntry kind g value due [] subsets e (front_of value [] e));
-    due = All-nil (λ e. IsDue kind due (value e.total));
+    ready_due = All-nil (λ e. IsDue kind due (value e.total));
     heap = no_heap (entry_cmp value []);
     fronts = [];
     waiting = tt;
@@ -309,7 +308,7 @@ module _ {D : Type 0} (kind : ArcType) (g : Graph ℕ) (value : D → Cost) (due
       → IsDue kind due (value e.total) → IsKey (IsSpelled kind g) (record { prefix = []; closed = false; total = value e.total; long = e.long }) → IsSearch kind g value due [] [] (members ∷ []) (e ∷ []) []
   root_listed e members owner depth tail is_open slot is due_now key = record {
     entries = All-cons (λ (x : Entry D). IsEntry kind g value due [] (members ∷ []) x (front_of value [] x)) e [] entry (All-nil (λ (x : Entry D). IsEntry kind g value due [] (members ∷ []) x (front_of value [] x)));
-    due = All-cons (λ (x : Entry D). IsDue kind due (value x.total)) e [] due_now (All-nil (λ (x : Entry D). IsDue kind due (value x.total)));
+    ready_due = All-cons (λ (x : Entry D). IsDue kind due (value x.total)) e [] due_now (All-nil (λ (x : Entry D). IsDue kind due (value x.total)));
     heap = one_heap (entry_cmp value []) e;
     fronts = [];
     waiting = tt;

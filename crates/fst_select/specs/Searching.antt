@@ -16,7 +16,7 @@ use Rattle.fst_select.specs.Strings.{IsSpelled}
 
 -- A total that waits for its turn is worse than the one that is due.
 pub record Waits (kind : ArcType) (due total : Cost) : Type 0 where
-  pub kind : cancels kind ≡ true → ⊥
+  pub uncancelling : cancels kind ≡ true → ⊥
   pub worse : cost_cmp due total ≡ Less
 
 module _ {D : Type 0} (kind : ArcType) (g : Graph ℕ) (value : D → Cost) (due : Cost) where
@@ -34,7 +34,7 @@ module _ {D : Type 0} (kind : ArcType) (g : Graph ℕ) (value : D → Cost) (due
   -- others wait for a worse total; together they have all other strings.
   pub record IsSearch (listed : List WeightedWord) (words : List (List ℕ)) (subsets : List (List Member)) (ready later : List (Entry D)) : Type 0 where
     pub entries : All (λ e. IsEntry kind g value due words subsets e (front_of value words e)) ready
-    pub due : All (λ e. IsDue kind due (value e.total)) ready
+    pub ready_due : All (λ e. IsDue kind due (value e.total)) ready
     pub heap : IsHeap (entry_cmp value words) ready
     pub fronts : List Front
     pub waiting : AreEntries kind g value due words subsets later fronts

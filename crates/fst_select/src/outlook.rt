@@ -62,7 +62,7 @@ fn is_same<W: Weight>(a: W::Wide, b: W::Wide) -> bool
 }
 
 /// The member of a subset in a place, with its residual in the wide form.
-fn member_at<W: SubsetWeight>(subset: &Subset<W>, place: usize) -> Held<W::Wide>
+pub(crate) fn member_at<W: SubsetWeight>(subset: &Subset<W>, place: usize) -> Held<W::Wide>
     requires { place < length subset.now }
     ensures { slice_get subset.now place ≡ Some (member_as W.wide_value result) }
 {

@@ -13,7 +13,8 @@ ghost use Rattle.fst_select.specs.Strings.{IsSpelled, weighted};
 use crate::entry::Entry;
 use crate::outlook::Outlook;
 use crate::parting::put_parts;
-use crate::prefixes::{prefix, take_least};
+use crate::prefixes::prefix;
+use crate::siblings::take_least;
 use crate::strings::{StringWeight, Strings};
 use fst_determinize::{Subset, SubsetWeight};
 use fst_setops::Labels;
@@ -34,9 +35,7 @@ fn append<D: Copy>(left: &mut Vec<Entry<D>>, parts: &mut Vec<Entry<D>>) -> Resul
     ensures moved { OnOk result (left.new.items ≡ left.old.items ++ parts.old.items) }
     ensures clear { OnOk result (parts.new.items ≡ []) }
 {
-    for part in parts.iter() {
-        left.push(*part)?;
-    }
+    left.extend_from_slice(parts.as_slice())?;
     parts.clear();
     Ok(())
 }

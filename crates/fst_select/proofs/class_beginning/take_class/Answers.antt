@@ -1,4 +1,4 @@
-use Rattle.std.proofs.Common.{refl, sym, rules}
+use Rattle.std.proofs.Common.{refl, sym, ◌∙◌, rules}
 use Rattle.fst_select.proofs.Moving.{all_worse, class_taken}
 use Rattle.fst_select.proofs.class_beginning.take_class.Goals as goal
 

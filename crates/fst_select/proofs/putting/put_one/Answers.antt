@@ -28,13 +28,13 @@ pub returns-else-is_due : goal.returns-else-is_due
 returns-else-is_due g c =
     let w = g.W.Weight in
     let table = c.args.table.now in
-    let now = c.put-2.new.items in
+    let now = c.put-else-is_due.new.items in
     record {
-      ready = on_ok c.put-2.result _ _ (λ same. c.requires.ready) c.put-2.ensures.same;
-      later = c.put-2.ensures.heap;
-      compare = on_ok c.put-2.result _ _ (λ same. c.requires.compare) c.put-2.ensures.same;
-      put = on_ok c.put-2.result _ _
+      ready = on_ok c.put-else-is_due.result _ _ (λ same. c.requires.ready) c.put-else-is_due.ensures.same;
+      later = c.put-else-is_due.ensures.heap;
+      compare = on_ok c.put-else-is_due.result _ _ (λ same. c.requires.compare) c.put-else-is_due.ensures.same;
+      put = on_ok c.put-else-is_due.result _ _
           (λ same. other_put (λ (e : Entry _). IsDue w.KIND c.args.outlook.now.due (w.wide_value e.total)) c.args.entry table.ready.items table.later.items now.items
           (λ due. true≢false (sym (c.is_due.ensures.1 due) ∙ c.if-is_due.false)) same)
-          c.put-2.ensures.same;
+          c.put-else-is_due.ensures.same;
     }

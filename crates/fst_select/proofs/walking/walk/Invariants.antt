@@ -3,7 +3,7 @@ use Rattle.fst_machine.specs.Graph.{graph_of}
 use Rattle.fst_machine.specs.Machine.{valued}
 use Rattle.fst_select.specs.Entries.{words_of}
 use Rattle.fst_select.specs.Outlook.{IsDue}
-use Rattle.fst_select.proofs.Walking.{IsWalking, labels_left}
+use Rattle.fst_select.proofs.Walks.{IsWalking, labels_left}
 use Rattle.fst_select.proofs.walking.walk.Given as goal
 
 abbrev pub invariant-loop-core : goal.invariant-loop-core
