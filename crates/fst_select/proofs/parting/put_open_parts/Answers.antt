@@ -80,8 +80,8 @@ open_part-requires-clause-subset g c =
     (y, omega (arith, length-append r.0 (a.ilabel ∷ []), r.2),
       subst (λ (n : List Member). IsSubset w.KIND graph y (w.wide_value c.wide_times-own.result) n) (sym next_is) (subst (λ (v : Cost). IsSubset w.KIND graph y v a.next) (sym own_is) at))
 
-pub loop-arc-preserved-in_default : goal.loop-arc-preserved-in_default
-loop-arc-preserved-in_default g c =
+pub loop-arc-preserved-in_default-open_part : goal.loop-arc-preserved-in_default-open_part
+loop-arc-preserved-in_default-open_part g c =
     let w = g.W.Weight in
     let o = c.args.outlook.now in
     let value = key_arc w.wide_value in
@@ -93,7 +93,7 @@ loop-arc-preserved-in_default g c =
     let next_is : c.arc.inside.next ≡ a.next = ap (λ (z : Arc g.row.W-Wide.Denot (List Member)). z.next) c.arc.view_is in
     let own_is : w.wide_value c.wide_times-own.result ≡ times w.KIND by (w.wide_value a.weight)
           = c.wide_times-own.ensures.product ∙ ap (λ (v : g.row.W-Wide.Denot). times w.KIND by (w.wide_value v)) weight_is in
-    let none : best_total w.KIND d (times w.KIND by (w.wide_value a.weight)) a.next ≡ infinite = ap₂ (best_total w.KIND d) (sym own_is) (sym next_is) ∙ c.in_default.ensures.none in
+    let none : best_total w.KIND d (times w.KIND by (w.wide_value a.weight)) a.next ≡ infinite = ap₂ (best_total w.KIND d) (sym own_is) (sym next_is) ∙ c.in_default-open_part.ensures.none in
     record {
       grow = c.loop-arc.invariant.grow;
       parts = λ x s long is same.
@@ -113,14 +113,14 @@ loop-arc-preserved g c =
     let a = c.in-Some.arc in
     let subsets = c.loop-arc.subsets.items in
     let parts = c.loop-arc.parts.items in
-    let part = c.in-Some-2.part in
-    let place = c.in-Some-2.ensures.place in
+    let part = c.in-Some-open_part.part in
+    let place = c.in-Some-open_part.ensures.place in
     let weight_is : c.arc.inside.weight ≡ a.weight = ap (λ (z : Arc g.row.W-Wide.Denot (List Member)). z.weight) c.arc.view_is in
     let next_is : c.arc.inside.next ≡ a.next = ap (λ (z : Arc g.row.W-Wide.Denot (List Member)). z.next) c.arc.view_is in
     let own_is : w.wide_value c.wide_times-own.result ≡ times w.KIND by (w.wide_value a.weight)
           = c.wide_times-own.ensures.product ∙ ap (λ (v : g.row.W-Wide.Denot). times w.KIND by (w.wide_value v)) weight_is in
     let goes : GoesOn w.KIND graph d o.due w.wide_value a.next c.args.owner c.args.depth part
-          = subst (λ (n : List Member). GoesOn w.KIND graph d o.due w.wide_value n c.args.owner c.args.depth part) next_is c.in-Some-2.ensures.some in
+          = subst (λ (n : List Member). GoesOn w.KIND graph d o.due w.wide_value n c.args.owner c.args.depth part) next_is c.in-Some-open_part.ensures.some in
     let grown : c.push-2.new.self.items ≡ subsets ++ a.next ∷ [] = c.in_ok-push-2.ensures.items ∙ ap (λ (n : List Member). subsets ++ n ∷ []) next_is in
     let slot : part.slot ≡ length subsets = omega (arith, place.0, c.len-slot.ensures, c.loop-arc.subsets.ok) in
     let tail : part.tail ≡ a.ilabel = place.1 ∙ ap (λ (z : Arc g.row.W-Wide.Denot (List Member)). z.ilabel) c.arc.view_is in
