@@ -1,5 +1,5 @@
 -- The least count of the tight members of a prefix is that of the labels that are left.
-use Rattle.std.proofs.Common.{◌≡◌, ◌≢◌, ◌⊎◌, inl, inr, ℕ, ◌+◌, ◌<◌, ◌≤◌, Bool, true, false, true≢false, List, [], ◌∷◌, ◌++◌, Some, length, take, get_or, slice_get, refl, sym, ap, ap₂, subst, ◌∙◌, arith}
+use Rattle.std.proofs.Common.{◌≡◌, ◌≢◌, ◌⊎◌, inl, inr, ℕ, ◌+◌, ◌≤◌, true, false, true≢false, List, [], ◌∷◌, ◌++◌, Some, take, slice_get, refl, sym, ap, ap₂, subst, ◌∙◌, arith}
 use Rattle.std.proofs.lemmas.Bool.{cases_Bool}
 use Rattle.std.proofs.lemmas.List.{get_or_default, take_more}
 use Rattle.std.proofs.lemmas.Option.{get_or_from_slice_get, slice_get_within}
@@ -9,7 +9,7 @@ use Rattle.fst_semiring.specs.declared.arc_type.ArcType.TheVariants.{Boolean, Tr
 use Rattle.fst_semiring.specs.Semiring.{cancels, times}
 use Rattle.fst_semiring.proofs.Order.{plus_antisym, plus_trans}
 use Rattle.fst_machine.specs.BreadthFirst.{Has}
-use Rattle.fst_machine.specs.Distance.{Finishes, IsLeast}
+use Rattle.fst_machine.specs.Distance.{Finishes}
 use Rattle.fst_machine.specs.Graph.{graph_of}
 use Rattle.fst_machine.specs.Machine.{valued}
 use Rattle.fst_machine.proofs.Elements.{Has-append_cases, Has-append_left, Has-append_right}
@@ -42,9 +42,6 @@ total_more kind ahead by members i m so_far own new at before made more =
 -- ---- the least count of tight members
 
 module _ (kind : ArcType) (d : ℕ → Cost) (by total : Cost) (count : ℕ → ℕ) where
-  pub tight_none : IsLeastTight kind d by total count [] 4294967295
-  tight_none = record { least = λ m none tight. absurd none; few = λ m none tight. absurd none; one = inl refl }
-
   module _ (members : List Member) (i : ℕ) (m : Member) (c : ℕ) (at : slice_get members i ≡ Some m) (before : IsLeastTight kind d by total count (take i members) c) where
     -- what holds of the first members and of the one that follows
     of_more : (P : Member → Type 0) → ((n : Member) → Has (take i members) n → P n) → P m → (n : Member) → Has (take (i + 1) members) n → P n
@@ -74,21 +71,21 @@ module _ (kind : ArcType) (d : ℕ → Cost) (by total : Cost) (count : ℕ → 
       one = still before.one;
     }
 
-    -- one that is tight, and has a count of at least as many
-    pub tight_kept : count m.state ≤ 4294967295 → c ≤ count m.state → IsLeastTight kind d by total count (take (i + 1) members) c
-    tight_kept low more = record {
+    -- one that has a count of at least as many
+    pub tight_kept : (e : ℕ) → e ≡ c → count m.state ≤ 4294967295 → c ≤ count m.state → IsLeastTight kind d by total count (take (i + 1) members) e
+    tight_kept e same low more = subst (λ (n : ℕ). IsLeastTight kind d by total count (take (i + 1) members) n) (sym same) (record {
       least = of_more (λ n. IsTight kind d by total n → c ≤ count n.state) before.least (λ tight. more);
       few = of_more (λ n. IsTight kind d by total n → count n.state ≤ 4294967295) before.few (λ tight. low);
       one = still before.one;
-    }
+    })
 
     -- one that is tight, and has a lesser count
-    pub tight_less : IsTight kind d by total m → count m.state ≤ 4294967295 → count m.state ≤ c → IsLeastTight kind d by total count (take (i + 1) members) (count m.state)
-    tight_less tight low less = record {
-      least = of_more (λ n. IsTight kind d by total n → count m.state ≤ count n.state) (λ n was t. (let l = before.least n was t in omega (arith, l, less))) (λ t. (let e : count m.state ≤ count m.state = omega arith in e));
+    pub tight_less : (e : ℕ) → e ≡ count m.state → IsTight kind d by total m → count m.state ≤ 4294967295 → count m.state ≤ c → IsLeastTight kind d by total count (take (i + 1) members) e
+    tight_less e same tight low less = subst (λ (n : ℕ). IsLeastTight kind d by total count (take (i + 1) members) n) (sym same) (record {
+      least = of_more (λ n. IsTight kind d by total n → count m.state ≤ count n.state) (λ n was t. (let l = before.least n was t in omega (arith, l, less))) (λ t. omega arith);
       few = of_more (λ n. IsTight kind d by total n → count n.state ≤ 4294967295) before.few (λ t. low);
       one = inr (m, last_of_more, tight, refl);
-    }
+    })
 
 -- where a product is the worst of three weights
 worst_parts : (kind : ArcType) (a b c w : Cost) → cancels kind ≡ false → times kind a (times kind b c) ≡ w → (plus a w ≡ a) × (plus b w ≡ b) × (plus c w ≡ c)

@@ -1,5 +1,5 @@
 -- The counts of arcs that are kept of states are counts of labels.
-use Rattle.std.proofs.Common.{◌≡◌, ◌≢◌, ◌⊎◌, inl, inr, ℕ, ◌-◌, ◌<◌, ◌≤◌, Bool, true, cond, List, [], ◌∷◌, Some, length, map, refl, sym, ap, subst, ◌∙◌, arith}
+use Rattle.std.proofs.Common.{◌≡◌, ◌≢◌, ◌⊎◌, inl, inr, ℕ, ◌-◌, ◌<◌, ◌≤◌, Bool, true, cond, List, [], ◌∷◌, length, map, refl, sym, ap, subst, ◌∙◌, arith}
 use Rattle.std.proofs.lemmas.Bool.{cases_lt, lt-ltb}
 use Rattle.std.proofs.lemmas.List.{get_or_past, length-map}
 use Rattle.fst_semiring.specs.Cost.{Cost, infinite, plus}
@@ -17,8 +17,8 @@ use Rattle.fst_machine.specs.Paths.{IsPath, Transition, letters}
 use Rattle.fst_trim.specs.WordWeights.{Weighs}
 use Rattle.fst_determinize.proofs.Spelling.{word_length}
 use Rattle.fst_nbest.specs.Classes.{IsClassLink, IsClassReady, IsClassStop, class_links, is_reached, state_at}
-use Rattle.fst_nbest.specs.Counts.{Ends, Hops, count_of, uncounted}
-use Rattle.fst_nbest.specs.PathWords.{AreDistances, HasSolidArcs, path_words}
+use Rattle.fst_nbest.specs.Counts.{Ends, Hops, count_of}
+use Rattle.fst_nbest.specs.PathWords.{AreDistances, path_words}
 use Rattle.fst_nbest.specs.Ready.{HasDistances, IsReady, count_in, dist_in}
 use Rattle.fst_nbest.specs.Words.{Says}
 use Rattle.fst_nbest.proofs.ClassWords.{ends_path, path_ends}

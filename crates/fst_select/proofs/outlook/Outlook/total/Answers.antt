@@ -1,8 +1,6 @@
-use Rattle.std.proofs.Common.{◌≡◌, take, length, ap, ◌∙◌, arith}
+use Rattle.std.proofs.Common.{ap, ◌∙◌, arith}
 use Rattle.std.proofs.lemmas.List.{take_all}
 use Rattle.fst_determinize.specs.Kept.{member_as}
-use Rattle.fst_determinize.specs.Subsets.{Member}
-use Rattle.fst_machine.specs.BreadthFirst.{Has}
 use Rattle.fst_machine.proofs.Elements.{at_Has}
 use Rattle.fst_nbest.specs.Ready.{dist_in}
 use Rattle.fst_select.specs.Keys.{best_total}
@@ -24,4 +22,4 @@ loop-place-preserved g c =
 pub returns : goal.returns
 returns g c =
     let wide = g.W.Weight.wide_value in
-    c.loop-place.invariant ∙ ap (best_total g.W.Weight.KIND (dist_in wide c.args.self.now.dist) (wide c.args.by)) (take_all c.args.subset.now c.loop-place.place (omega (arith, c.loop-place-test.false, c.loop-place.auto.place-end, c.len-place-end.ensures)))
+    c.loop-place.invariant ∙ ap (best_total g.W.Weight.KIND (dist_in wide c.args.self.now.dist) (wide c.args.by)) (take_all c.loop-place.place c.args.subset.now (omega (arith, c.loop-place-test.false, c.loop-place.auto.place-end, c.len-place-end.ensures)))
