@@ -121,7 +121,7 @@ loop-arc-preserved g c =
           = c.wide_times-own.ensures.product ∙ ap (λ (v : g.row.W-Wide.Denot). times w.KIND by (w.wide_value v)) weight_is in
     let goes : GoesOn w.KIND graph d o.due w.wide_value a.next c.args.owner c.args.depth part
           = subst (λ (n : List Member). GoesOn w.KIND graph d o.due w.wide_value n c.args.owner c.args.depth part) next_is c.in-Some-open_part.ensures.some in
-    let grown : c.push-2.new.self.items ≡ subsets ++ a.next ∷ [] = c.in_ok-push-2.ensures.items ∙ ap (λ (n : List Member). subsets ++ n ∷ []) next_is in
+    let grown : c.push-in-Some.new.self.items ≡ subsets ++ a.next ∷ [] = c.in_ok-push-2.ensures.items ∙ ap (λ (n : List Member). subsets ++ n ∷ []) next_is in
     let slot : part.slot ≡ length subsets = omega (arith, place.0, c.len-slot.ensures, c.loop-arc.subsets.ok) in
     let tail : part.tail ≡ a.ilabel = place.1 ∙ ap (λ (z : Arc g.row.W-Wide.Denot (List Member)). z.ilabel) c.arc.view_is in
     let weight : w.wide_value part.by ≡ times w.KIND by (w.wide_value a.weight) = ap w.wide_value place.2 ∙ own_is in
@@ -135,7 +135,7 @@ loop-arc-preserved g c =
           (value a ∷ before.0, all,
             one_added w.KIND graph d o.due w.wide_value x by c.args.owner c.args.depth (value a) before.0 subsets parts before.2
             (arc_subset w.KIND graph s c.requires.weighed.weighted x by is (value a) (between arcs (map value c.pop.new.self.items) before.0 (value a) all))
-            (labels_ascend w.KIND graph s (map value c.pop.new.self.items) before.0 (value a) all) part c.push-2.new.self.items c.push.new.self.items c.in_ok-push.ensures.items grown slot tail weight goes);
+            (labels_ascend w.KIND graph s (map value c.pop.new.self.items) before.0 (value a) all) part c.push-in-Some.new.self.items c.push.new.self.items c.in_ok-push.ensures.items grown slot tail weight goes);
     }
 
 pub returns-clause-grow : goal.returns-clause-grow
