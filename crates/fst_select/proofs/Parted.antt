@@ -103,10 +103,10 @@ module _ {D : Type 0} (kind : ArcType) (g : Graph ℕ) (weighted : IsWeighted ki
     pub entry : IsEntry kind g value due words subsets e f
     pub key : IsKey (IsSpelled kind g) f
 
-  closed_face : (e : Entry D) → IsClosedPart kind g value h.best h.members owner depth e → (f : Front) × IsFace e f
+  closed_face : (e : Entry D) → IsClosedPart kind g value h.by h.members owner depth e → (f : Front) × IsFace e f
   closed_face e c =
       let prefix : prefix_of words e ≡ x = prefix_is e c.same_owner c.same_depth ∙ (ap (λ (t : ℕ). x ++ tail_of t) c.tail ∙ append-nil x) in
-      let f : Front = record { prefix = x; closed = true; total = best_total kind g.final h.best h.members; long = length x } in
+      let f : Front = record { prefix = x; closed = true; total = best_total kind g.final h.by h.members; long = length x } in
       (f, record {
         entry = record {
           prefix = sym prefix;
@@ -117,7 +117,7 @@ module _ {D : Type 0} (kind : ArcType) (g : Graph ℕ) (weighted : IsWeighted ki
           short = λ is. c.tail;
           subset = λ not. absurd (true≢false (sym c.closed ∙ not));
         };
-        key = closed_key kind g weighted d far x h.best h.members h.subset (λ none. c.solid (c.total ∙ none));
+        key = closed_key kind g weighted d far x h.by h.members h.subset (λ none. c.solid (c.total ∙ none));
       })
 
   -- the label of a part of which strings go on
@@ -158,14 +158,14 @@ module _ {D : Type 0} (kind : ArcType) (g : Graph ℕ) (weighted : IsWeighted ki
   has_face : (e : Entry D) → Has parts e → (f : Front) × IsFace e f
   has_face e there = by_part (h.each e there)
     where
-      by_part : IsClosedPart kind g value h.best h.members owner depth e ⊎ IsOpenPart kind g d due value x owner depth subsets e → (f : Front) × IsFace e f
+      by_part : IsClosedPart kind g value h.by h.members owner depth e ⊎ IsOpenPart kind g d due value x owner depth subsets e → (f : Front) × IsFace e f
       by_part (inl c) = closed_face e c
       by_part (inr o) = open_face e o
 
   prefix_of_part : (e : Entry D) → Has parts e → prefix_of words e ≡ x ++ tail_of e.tail
   prefix_of_part e there = by_part (h.each e there)
     where
-      by_part : IsClosedPart kind g value h.best h.members owner depth e ⊎ IsOpenPart kind g d due value x owner depth subsets e → prefix_of words e ≡ x ++ tail_of e.tail
+      by_part : IsClosedPart kind g value h.by h.members owner depth e ⊎ IsOpenPart kind g d due value x owner depth subsets e → prefix_of words e ≡ x ++ tail_of e.tail
       by_part (inl c) = prefix_is e c.same_owner c.same_depth
       by_part (inr o) = prefix_is e o.goes.same_owner o.goes.same_depth
 
@@ -173,7 +173,7 @@ module _ {D : Type 0} (kind : ArcType) (g : Graph ℕ) (weighted : IsWeighted ki
   covers_from : (e : Entry D) (f : Front) → Has parts e → IsFace e f → (y : List ℕ) → Covers f y → (rest : List ℕ) × (y ≡ x ++ rest) × (number_of rest ≡ part_number e)
   covers_from e f there face y covers = by_part (h.each e there)
     where
-      by_part : IsClosedPart kind g value h.best h.members owner depth e ⊎ IsOpenPart kind g d due value x owner depth subsets e
+      by_part : IsClosedPart kind g value h.by h.members owner depth e ⊎ IsOpenPart kind g d due value x owner depth subsets e
           → (rest : List ℕ) × (y ≡ x ++ rest) × (number_of rest ≡ part_number e)
       by_part (inl c) =
           let prefix : f.prefix ≡ x ++ [] = face.entry.prefix ∙ (prefix_is e c.same_owner c.same_depth ∙ ap (λ (t : ℕ). x ++ tail_of t) c.tail) in
@@ -187,7 +187,7 @@ module _ {D : Type 0} (kind : ArcType) (g : Graph ℕ) (weighted : IsWeighted ki
   covers_back : (e : Entry D) (f : Front) → Has parts e → IsFace e f → (rest : List ℕ) → number_of rest ≡ part_number e → Covers f (x ++ rest)
   covers_back e f there face rest number = by_part (h.each e there) rest number
     where
-      by_part : IsClosedPart kind g value h.best h.members owner depth e ⊎ IsOpenPart kind g d due value x owner depth subsets e
+      by_part : IsClosedPart kind g value h.by h.members owner depth e ⊎ IsOpenPart kind g d due value x owner depth subsets e
           → (rest : List ℕ) → number_of rest ≡ part_number e → Covers f (x ++ rest)
       by_part (inl c) [] number =
           let prefix : f.prefix ≡ x ++ [] = face.entry.prefix ∙ (prefix_is e c.same_owner c.same_depth ∙ ap (λ (t : ℕ). x ++ tail_of t) c.tail) in

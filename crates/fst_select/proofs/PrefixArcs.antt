@@ -32,17 +32,17 @@ module _ (kind : ArcType) (g : Graph ℕ) (members : List Member) where
             = grouped_ascends (λ (y : Way). y.label) (arc_by kind) (λ c. c.ilabel) (λ label ys. refl) (ways kind g members) in
       ascends_behind (λ c. c.ilabel) front a back (subst (λ (cs : List (Arc Cost (List Member))). AscendsBy (λ c. c.ilabel) cs) parts up) b h
 
-  module _ (weighted : IsWeighted kind g) (x : List ℕ) (best : Cost) (is : IsSubset kind g x best members) where
+  module _ (weighted : IsWeighted kind g) (x : List ℕ) (by : Cost) (is : IsSubset kind g x by members) where
     -- an arc leads to the subset of the prefix and its label
-    pub arc_subset : (a : Arc Cost (List Member)) → Has (arcs_of kind g members) a → IsSubset kind g (x ++ a.ilabel ∷ []) (times kind best a.weight) a.next
-    arc_subset a h = let at = Has_at (arcs_of kind g members) a h in (arc_steps kind g weighted x best members is at.0 a at.1).exact
+    pub arc_subset : (a : Arc Cost (List Member)) → Has (arcs_of kind g members) a → IsSubset kind g (x ++ a.ilabel ∷ []) (times kind by a.weight) a.next
+    arc_subset a h = let at = Has_at (arcs_of kind g members) a h in (arc_steps kind g weighted x by members is at.0 a at.1).exact
 
     -- each label of an arc of a member has its arc
     pub member_arc : (n : Member) (k : ℕ) (b : Arc Cost ℕ) → Has members n → slice_get (g.arcs n.state) k ≡ Some b
         → (a : Arc Cost (List Member)) × Has (arcs_of kind g members) a × (a.ilabel ≡ b.ilabel)
     member_arc n k b h at =
         let y = way_by kind n b in
-        (arc_by kind b.ilabel (having (λ (z : Way). z.label) b.ilabel (ways kind g members)), way_arc kind g weighted x best members is y (Has_ways kind g members n k b h at), refl)
+        (arc_by kind b.ilabel (having (λ (z : Way). z.label) b.ilabel (ways kind g members)), way_arc kind g weighted x by members is y (Has_ways kind g members n k b h at), refl)
 
 -- the weights of the arcs of members can be computed with
 pub arc_wide : {V : Type 0} (kind : ArcType) (value : V → Cost) (m : Machine V) (h : IsWeighed kind value m) (members : List Member) → AreMembers (length m.states) members

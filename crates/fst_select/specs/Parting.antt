@@ -27,13 +27,13 @@ part_number e = number_by e.closed e.tail
 
 -- The string that ends with a prefix of so many labels, where this is the best weight of the prefix and these are the members
 -- of its subset.
-pub record IsClosedPart {D : Type 0} (kind : ArcType) (g : Graph ℕ) (value : D → Cost) (best : Cost) (members : List Member) (owner depth : ℕ)
+pub record IsClosedPart {D : Type 0} (kind : ArcType) (g : Graph ℕ) (value : D → Cost) (by : Cost) (members : List Member) (owner depth : ℕ)
     (e : Entry D) : Type 0 where
   pub closed : e.closed ≡ true
   pub same_owner : e.owner ≡ owner
   pub same_depth : e.depth ≡ depth
   pub tail : e.tail ≡ 0
-  pub total : value e.total ≡ best_total kind g.final best members
+  pub total : value e.total ≡ best_total kind g.final by members
   pub solid : value e.total ≢ infinite
   pub long : e.long ≡ depth
 
@@ -56,24 +56,18 @@ module _ {D : Type 0} (kind : ArcType) (g : Graph ℕ) (d : ℕ → Cost) (due :
     pub goes : GoesOn members owner depth e
 
   -- These are the parts of x by these arcs of its subset: one for each arc whose end has strings ahead.
-  pub record AreOpenParts (x : List ℕ) (best : Cost) (owner depth : ℕ) (arcs : List (Arc Cost (List Member))) (subsets : List (List Member)) (parts : List (Entry D)) : Type 0 where
+  pub record AreOpenParts (x : List ℕ) (by : Cost) (owner depth : ℕ) (arcs : List (Arc Cost (List Member))) (subsets : List (List Member)) (parts : List (Entry D)) : Type 0 where
     pub each : (e : Entry D) → Has parts e → IsOpenPart x owner depth subsets e
     pub labels : (e : Entry D) → Has parts e → (a : Arc Cost (List Member)) × Has arcs a × (a.ilabel ≡ e.tail)
-    pub all : (a : Arc Cost (List Member)) → Has arcs a → best_total kind d (times kind best a.weight) a.next ≢ infinite → (e : Entry D) × Has parts e × (e.tail ≡ a.ilabel)
+    pub all : (a : Arc Cost (List Member)) → Has arcs a → best_total kind d (times kind by a.weight) a.next ≢ infinite → (e : Entry D) × Has parts e × (e.tail ≡ a.ilabel)
     pub apart : Apart (map (λ e. e.tail) parts)
-
-  -- The part by an arc is put behind the others, and the subset to which the arc leads; or no string goes on by the arc.
-  abbrev pub PutsOpenPart : Cost → ℕ → ℕ → Arc Cost (List Member) → (subsets more : List (List Member)) → (parts new : List (Entry D)) → Type 0
-  PutsOpenPart best owner depth a subsets more parts new = ((best_total kind d (times kind best a.weight) a.next ≡ infinite) × (more ≡ subsets) × (new ≡ parts))
-      ⊎ ((e : Entry D) × (new ≡ parts ++ e ∷ []) × (more ≡ subsets ++ a.next ∷ []) × (e.slot ≡ length subsets) × (e.tail ≡ a.ilabel) × (value e.by ≡ times kind best a.weight)
-      × GoesOn a.next owner depth e)
 
   -- The parts of x: no two have one label, and each string with a weight that begins with x is in one of them.
   pub record AreParts (x : List ℕ) (owner depth : ℕ) (subsets : List (List Member)) (parts : List (Entry D)) : Type 0 where
-    pub best : Cost
+    pub by : Cost
     pub members : List Member
-    pub subset : IsSubset kind g x best members
-    pub each : (e : Entry D) → Has parts e → IsClosedPart kind g value best members owner depth e ⊎ IsOpenPart x owner depth subsets e
+    pub subset : IsSubset kind g x by members
+    pub each : (e : Entry D) → Has parts e → IsClosedPart kind g value by members owner depth e ⊎ IsOpenPart x owner depth subsets e
     pub apart : Apart (map part_number parts)
     pub stops : (w : Cost) → WordWeighs kind g x w → (e : Entry D) × Has parts e × (e.closed ≡ true)
     pub goes : (label : ℕ) (rest : List ℕ) (w : Cost) → WordWeighs kind g (x ++ label ∷ rest) w → (e : Entry D) × Has parts e × (e.closed ≡ false) × (e.tail ≡ label)

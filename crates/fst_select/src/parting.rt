@@ -3,7 +3,6 @@
 ghost use Rattle.std.specs.Prelude.{◌≡◌, ◌≢◌, ◌≤◌, ◌+◌, ◌++◌, ◌∷◌, [], ℕ, List, IfNone, IfOk, IfSome, OnOk, Some, length, map, slice_get};
 ghost use Rattle.fst_semiring.specs.Cost.{infinite};
 ghost use Rattle.fst_semiring.specs.Semiring.{IsCost, Within};
-ghost use Rattle.fst_machine.specs.BreadthFirst.{Has};
 ghost use Rattle.fst_machine.specs.Graph.{graph_of};
 ghost use Rattle.fst_machine.specs.Machine.{valued};
 ghost use Rattle.fst_walk.specs.Names.{key_arc};
@@ -14,7 +13,7 @@ ghost use Rattle.fst_nbest.specs.Entries.{most_long};
 ghost use Rattle.fst_nbest.specs.Ready.{dist_in};
 ghost use Rattle.fst_select.specs.Keys.{IsShortest, best_total};
 ghost use Rattle.fst_select.specs.Outlook.{IsDue, most_by};
-ghost use Rattle.fst_select.specs.Parting.{AreOpenParts, AreParts, GoesOn, IsClosedPart, PutsOpenPart, arcs_of};
+ghost use Rattle.fst_select.specs.Parting.{AreOpenParts, AreParts, GoesOn, IsClosedPart, arcs_of};
 
 use crate::entry::Entry;
 use crate::outlook::{Outlook, member_at};
@@ -134,38 +133,6 @@ fn open_part<W: SubsetWeight>(
     })
 }
 
-/// Puts the part of a prefix by one arc of its subset behind the others, and the subset to which the arc leads; nothing where
-/// no string goes on by it.
-fn put_open_part<W: SubsetWeight>(
-    outlook: &Outlook<W>,
-    subsets: &mut Vec<Subset<W>>,
-    parts: &mut Vec<Entry<W::Wide>>,
-    arc: SubsetArc<W>,
-    by: W::Wide,
-    owner: usize,
-    depth: usize,
-) -> Result<(), AllocError>
-    requires weighed { IsWeighed W.KIND W.value outlook.now.machine }
-    requires arc { (x : List ℕ) × (s : List Member) × (length x ≡ depth) × IsSubset W.KIND (graph_of (valued W.value outlook.now.machine)) x (W.wide_value by) s × Has (arcs_of W.KIND (graph_of (valued W.value outlook.now.machine)) s) (key_arc W.wide_value arc) }
-    requires depth { depth ≤ most_long }
-    ensures { OnOk result (PutsOpenPart W.KIND (graph_of (valued W.value outlook.now.machine)) (dist_in W.wide_value outlook.now.dist) outlook.now.due W.wide_value (W.wide_value by) owner depth (key_arc W.wide_value arc) subsets.old.items subsets.new.items parts.old.items parts.new.items) }
-{
-    let NameArc {
-        ilabel,
-        olabel: _,
-        weight,
-        next,
-    } = arc;
-    let own = W::wide_times(by, weight);
-    let slot = subsets.len();
-    let Some(part) = open_part::<W>(outlook, own, &next, owner, depth, ilabel, slot) else {
-        return Ok(());
-    };
-    subsets.push(next)?;
-    parts.push(part)?;
-    Ok(())
-}
-
 /// Puts the parts of a prefix by the arcs of its subset, the last first, and the subsets to which these lead.
 fn put_open_parts<W: SubsetWeight>(
     outlook: &Outlook<W>,
@@ -185,7 +152,19 @@ fn put_open_parts<W: SubsetWeight>(
         → AreOpenParts W.KIND (graph_of (valued W.value outlook.now.machine)) (dist_in W.wide_value outlook.now.dist) outlook.now.due W.wide_value x (W.wide_value by) owner depth (arcs_of W.KIND (graph_of (valued W.value outlook.now.machine)) s) subsets.new.items parts.new.items) }
 {
     while let Some(arc) = arcs.pop() {
-        put_open_part(outlook, subsets, parts, arc, by, owner, depth)?;
+        let NameArc {
+            ilabel,
+            olabel: _,
+            weight,
+            next,
+        } = arc;
+        let own = W::wide_times(by, weight);
+        let slot = subsets.len();
+        let Some(part) = open_part::<W>(outlook, own, &next, owner, depth, ilabel, slot) else {
+            continue;
+        };
+        parts.push(part)?;
+        subsets.push(next)?;
     }
     Ok(())
 }
@@ -217,8 +196,9 @@ pub(crate) fn put_parts<W: SubsetWeight>(
     let closed = closed_part::<W>(fst, by, subset, owner, depth);
     let mut arcs = subset_arcs(alloc, fst, subset)?;
     put_open_parts(outlook, subsets, parts, &mut arcs, by, owner, depth)?;
-    if let Some(part) = closed {
-        parts.push(part)?;
-    }
+    let Some(part) = closed else {
+        return Ok(());
+    };
+    parts.push(part)?;
     Ok(())
 }
