@@ -66,7 +66,7 @@ enum Told {
 }
 
 /// What a fault tells.
-fn told(fault: &UniqueFault) -> Told {
+fn tell(fault: &UniqueFault) -> Told {
     match fault {
         UniqueFault::NotAcceptor { state, place } => Told::TwoLabels(*state, *place),
         UniqueFault::HasEpsilon { state, place } => Told::Epsilon(*state, *place),
@@ -91,7 +91,7 @@ fn tells_why_no_strings_are_listed(rt: HostRuntime) -> Result<(), Fail> {
         let fst: Fst<Tropical> = machine(alloc, text)?;
         match firsts::<Tropical, Brand>(alloc, &fst, 5, Blank::new(1)) {
             Ok(_) => assert!(rt; false, "{text:?}"),
-            Err(fault) => assert_eq!(rt; told(&fault), *want, "{text:?}"),
+            Err(fault) => assert_eq!(rt; tell(&fault), *want, "{text:?}"),
         }
     }
     Ok(())
@@ -158,7 +158,7 @@ fn compared<W: SubsetWeight>(
             Ok(Some(plain.len()))
         }
         Err(fault) => {
-            assert!(rt; matches!(told(&fault), Told::Cycle(_)), "{seed}");
+            assert!(rt; matches!(tell(&fault), Told::Cycle(_)), "{seed}");
             Ok(None)
         }
     }
