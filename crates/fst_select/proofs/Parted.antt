@@ -121,7 +121,7 @@ module _ {D : Type 0} (kind : ArcType) (g : Graph ℕ) (weighted : IsWeighted ki
       })
 
   -- the label of a part of which strings go on
-  tail_is : (e : Entry D) → (o : IsOpenPart kind g d due value x owner depth subsets e) → tail_of e.tail ≡ e.tail ∷ []
+  pub tail_is : (e : Entry D) → (o : IsOpenPart kind g d due value x owner depth subsets e) → tail_of e.tail ≡ e.tail ∷ []
   tail_is e o =
       let weigh : Member → Cost = λ m. times kind (value e.by) (times kind m.residual (d m.state)) in
       let not : best_total kind d (value e.by) o.members ≢ infinite = λ none. o.goes.solid (o.goes.total ∙ none) in
@@ -162,7 +162,7 @@ module _ {D : Type 0} (kind : ArcType) (g : Graph ℕ) (weighted : IsWeighted ki
       by_part (inl c) = closed_face e c
       by_part (inr o) = open_face e o
 
-  prefix_of_part : (e : Entry D) → Has parts e → prefix_of words e ≡ x ++ tail_of e.tail
+  pub prefix_of_part : (e : Entry D) → Has parts e → prefix_of words e ≡ x ++ tail_of e.tail
   prefix_of_part e there = by_part (h.each e there)
     where
       by_part : IsClosedPart kind g value h.by h.members owner depth e ⊎ IsOpenPart kind g d due value x owner depth subsets e → prefix_of words e ≡ x ++ tail_of e.tail

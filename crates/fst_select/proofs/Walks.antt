@@ -1,22 +1,31 @@
 -- A walk from an entry to the end of its best string.
-use Rattle.std.proofs.Common.{◌≡◌, inl, ℕ, ◌+◌, ◌-◌, ◌<◌, ◌≤◌, Bool, true, false, List, [], ◌∷◌, ◌++◌, Some, length, map, slice_get, refl, sym, ap, ap₂, subst, ◌∙◌, append_assoc, append-nil, arith, absurd}
-use Rattle.std.proofs.lemmas.List.{length-append}
+use Rattle.std.proofs.Common.{◌≡◌, ◌⊎◌, inl, inr, ℕ, ◌+◌, ◌-◌, ◌<◌, ◌≤◌, suc, Bool, true, false, List, [], ◌∷◌, ◌++◌, Some, length, slice_get, get_or, take, refl, sym, ap, subst, ◌∙◌, append_assoc, append-nil, arith}
+use Rattle.std.proofs.lemmas.List.{get_or_push, length-append, take_all}
+use Rattle.std.specs.List.{All}
 use Rattle.std.specs.List.Sorted.{IsPermutation}
-use Rattle.std.proofs.lemmas.List.Sorted.{IsPermutation-append, IsPermutation-append_comm, IsPermutation-append_left, IsPermutation-cons, IsPermutation-sym}
+use Rattle.std.specs.Ordering.{is_gt}
+use Rattle.std.proofs.lemmas.List.Sorted.{IsPermutation-append_comm, IsPermutation-append_left, IsPermutation-cons}
 use Rattle.fst_semiring.specs.Cost.{Cost}
 use Rattle.fst_semiring.specs.declared.arc_type.ArcType.{ArcType}
 use Rattle.fst_machine.specs.BreadthFirst.{Has}
+use Rattle.fst_machine.specs.Cycles.{IsAccessible}
+use Rattle.fst_machine.specs.Distance.{IsFinalDistance}
 use Rattle.fst_machine.specs.Graph.{Graph}
 use Rattle.fst_determinize.specs.Subsets.{IsSubset, Member}
+use Rattle.fst_trim.specs.Weighed.{IsWeighted}
+use Rattle.fst_trim.specs.WordWeights.{WordWeighs}
+use Rattle.fst_nbest.specs.Entries.{list_at, most_long}
 use Rattle.fst_nbest.specs.Words.{WeightedWord}
 use Rattle.fst_select.specs.declared.entry.Entry.{Entry}
-use Rattle.fst_select.specs.Entries.{AreEntries, IsEntry, front_of, prefix_of, tail_of}
+use Rattle.fst_select.specs.Entries.{AreEntries, IsEntry, front_of, prefix_of, sibling_cmp, tail_of}
 use Rattle.fst_select.specs.Frontier.{ComesFirst, CoversBy, Front, IsFrontier, IsKey, IsParted}
 use Rattle.fst_select.specs.Outlook.{IsDue}
 use Rattle.fst_select.specs.Searching.{Walked}
-use Rattle.fst_select.specs.Strings.{IsSpelled}
+use Rattle.fst_select.specs.Parting.{AreParts, IsClosedPart, IsOpenPart}
+use Rattle.fst_select.specs.Strings.{IsPlain, IsSpelled}
 use Rattle.fst_select.proofs.EntryLists.{entries_append, entries_more, entries_on}
 use Rattle.fst_select.proofs.Frontiers.{lists_closed, parts_open}
+use Rattle.fst_select.proofs.Parted.{parted, prefix_of_part, tail_is}
 use Rattle.fst_select.proofs.Reorders.{frontier_permuted}
 use Rattle.fst_select.proofs.SearchFronts.{spelled_once}
 use Rattle.fst_nbest.proofs.Covering.{Has-permutation}
@@ -25,6 +34,12 @@ use Rattle.fst_nbest.proofs.Covering.{Has-permutation}
 abbrev pub labels_left : Bool → ℕ → ℕ → ℕ
 labels_left true long n = 0
 labels_left false long n = long + 1 - n
+
+-- a step leaves less to do
+pub labels_less : (b c : Bool) (long more n m : ℕ) → c ≡ false → n ≤ long → more ≡ long → (b ≡ false → n < m) → suc (labels_left b more m) ≤ labels_left c long n
+labels_less b true long more n m is_open low same longer = absurd (let wrong : true ≡ false = is_open in cc)
+labels_less true false long more n m is_open low same longer = omega (arith, low)
+labels_less false false long more n m is_open low same longer = let longer_now = longer refl in omega (arith, low, same, longer_now)
 
 module _ {D : Type 0} (kind : ArcType) (g : Graph ℕ) (value : D → Cost) (due : Cost) where
   -- the front of an entry whose prefix is this word
@@ -47,6 +62,7 @@ module _ {D : Type 0} (kind : ArcType) (g : Graph ℕ) (value : D → Cost) (due
   -- The parts of a prefix, of which one was taken that comes first.
   pub record IsTakenApart (words : List (List ℕ)) (now : List (List Member)) (core : Entry D) (word : List ℕ) (first : Entry D) (others : List (Entry D)) : Type 0 where
     pub subset : first.closed ≡ false → (s : List Member) × (slice_get now first.slot ≡ Some s) × IsSubset kind g (word ++ tail_of first.tail) (value first.by) s
+    pub label : first.closed ≡ false → length (tail_of first.tail) ≡ 1
     pub fronts : List Front
     pub entries : AreEntries kind g value due (words ++ word ∷ []) now others fronts
     pub parted : IsParted (IsSpelled kind g) (front_at word core) (front_at (word ++ tail_of first.tail) first) fronts
@@ -141,3 +157,49 @@ module _ {D : Type 0} (kind : ArcType) (g : Graph ℕ) (value : D → Cost) (due
       by false e =
           let more : (rest : List ℕ) × (w.key.word ≡ word ++ rest) = subst (λ (c : Bool). CoversBy c word w.key.word) e w.key.inside in
           omega (arith, ap length more.1, length-append word more.0, w.key.long)
+
+  -- some part is there, since the front has a best string
+  pub some_part : (d : ℕ → Cost) (x : List ℕ) (owner depth : ℕ) (subsets : List (List Member)) (parts : List (Entry D)) (core : Entry D)
+      → AreParts kind g d due value x owner depth subsets parts → core.closed ≡ false → IsKey (IsSpelled kind g) (front_at x core) → 0 < length parts
+  some_part d x owner depth subsets parts core h is_open key = by behind.0 behind.1
+    where
+      behind : (rest : List ℕ) × (key.word ≡ x ++ rest)
+      behind = subst (λ (b : Bool). CoversBy b x key.word) is_open key.inside
+
+      there : (es : List (Entry D)) (e : Entry D) → Has es e → 0 < length es
+      there [] e none = absurd none
+      there (k ∷ es) e has = omega arith
+
+      by : (rest : List ℕ) → key.word ≡ x ++ rest → 0 < length parts
+      by [] same =
+          let e = h.stops (value core.total) (subst (λ (y : List ℕ). WordWeighs kind g y (value core.total)) (same ∙ append-nil x) key.weighs.0) in
+          there parts e.0 e.1
+      by (label ∷ rest) same =
+          let e = h.goes label rest (value core.total) (subst (λ (y : List ℕ). WordWeighs kind g y (value core.total)) same key.weighs.0) in
+          there parts e.0 e.1
+
+  -- the parts of a prefix, of which one that comes first was taken
+  pub taken_apart : IsWeighted kind g → IsPlain g → (d : ℕ → Cost) → ((q : ℕ) → IsAccessible g q → IsFinalDistance kind g q (d q)) → (words : List (List ℕ)) (now : List (List Member)) (core first : Entry D)
+      (word : List ℕ) (parts others : List (Entry D)) → AreParts kind g d due value word (length words) (length word) now parts → length word ≤ most_long → core.closed ≡ false
+      → IsKey (IsSpelled kind g) (front_at word core) → IsDue kind due (value core.total) → IsPermutation parts (first ∷ others) → All (λ e. is_gt (sibling_cmp value first e) ≡ false) others
+      → IsTakenApart words now core word first others
+  taken_apart weighted plain d far words now core first word parts others h few is_open key ready moved least =
+      let own : list_at (words ++ word ∷ []) (length words) ≡ word = get_or_push words word [] (length words) refl in
+      let begins : take (length word) (list_at (words ++ word ∷ []) (length words)) ≡ word = ap (take (length word)) own ∙ take_all (length word) word (omega arith) in
+      let within : length word ≤ length (list_at (words ++ word ∷ []) (length words)) = omega (arith, ap length own) in
+      let p = parted kind g weighted plain d far due value word (length words) (length word) (words ++ word ∷ []) now parts h refl few begins within (front_at word core) refl is_open key ready first others moved least in
+      let there : Has parts first = Has-permutation parts (first ∷ others) first moved (inl refl) in
+      let same : prefix_of (words ++ word ∷ []) first ≡ word ++ tail_of first.tail
+            = prefix_of_part kind g weighted plain d far due value word (length words) (length word) (words ++ word ∷ []) now parts h refl few begins within first there in
+      record {
+        subset = λ open_one. let s = p.first.subset open_one in (s.0, s.1, subst (λ (x : List ℕ). IsSubset kind g x (value first.by) s.0) same s.2);
+        label = λ open_one. by_part begins within open_one (h.each first there);
+        fronts = p.fronts;
+        entries = p.entries;
+        parted = subst (λ (x : List ℕ). IsParted (IsSpelled kind g) (front_at word core) (record { prefix = x; closed = first.closed; total = value first.total; long = first.long }) p.fronts) same p.parted;
+      }
+    where
+      by_part : take (length word) (list_at (words ++ word ∷ []) (length words)) ≡ word → length word ≤ length (list_at (words ++ word ∷ []) (length words)) → first.closed ≡ false
+          → IsClosedPart kind g value h.by h.members (length words) (length word) first ⊎ IsOpenPart kind g d due value word (length words) (length word) now first → length (tail_of first.tail) ≡ 1
+      by_part begins within open_one (inl c) = absurd (let wrong : true ≡ false = sym c.closed ∙ open_one in cc)
+      by_part begins within open_one (inr o) = ap length (tail_is kind g weighted plain d far due value word (length words) (length word) (words ++ word ∷ []) now parts h refl few begins within first o)

@@ -112,6 +112,7 @@ fn list_one<W: SubsetWeight>(
     left: &mut Vec<Entry<W::Wide>>,
     entry: Entry<W::Wide>,
 ) -> Result<(), AllocError>
+    requires plain { IsPlain (graph_of (valued W.value outlook.now.machine)) }
     requires clear { left.old.items ≡ [] }
     requires taken { (ready : List (Entry W.Wide)) × IsSearch W.KIND (graph_of (valued W.value outlook.now.machine)) W.wide_value outlook.now.due (map (weighted W.wide_value) listed.old) (words_of listed.old) subsets.old.items ready table.old.later.items × FirstLeaves (entry_cmp W.wide_value (words_of listed.old)) ready entry table.old.ready.items }
     ensures clear { OnOk result (left.new.items ≡ []) }

@@ -8,7 +8,7 @@ ghost use Rattle.fst_select.specs.Entries.{IsEntry, front_of, tail_of, words_of}
 ghost use Rattle.fst_select.specs.Frontier.{IsKey};
 ghost use Rattle.fst_select.specs.Outlook.{IsDue};
 ghost use Rattle.fst_select.specs.Searching.{Walked};
-ghost use Rattle.fst_select.specs.Strings.{IsSpelled, weighted};
+ghost use Rattle.fst_select.specs.Strings.{IsPlain, IsSpelled, weighted};
 
 use crate::entry::Entry;
 use crate::outlook::Outlook;
@@ -50,6 +50,7 @@ pub(crate) fn walk<W: SubsetWeight>(
     left: &mut Vec<Entry<W::Wide>>,
     entry: Entry<W::Wide>,
 ) -> Result<StringWeight<W>, AllocError>
+    requires plain { IsPlain (graph_of (valued W.value outlook.now.machine)) }
     requires entry { IsEntry W.KIND (graph_of (valued W.value outlook.now.machine)) W.wide_value outlook.now.due (words_of listed.now) subsets.old.items entry (front_of W.wide_value (words_of listed.now) entry) }
     requires key { IsKey (IsSpelled W.KIND (graph_of (valued W.value outlook.now.machine))) (front_of W.wide_value (words_of listed.now) entry) }
     requires due { IsDue W.KIND outlook.now.due (W.wide_value entry.total) }
@@ -57,6 +58,8 @@ pub(crate) fn walk<W: SubsetWeight>(
     requires clear { left.old.items ≡ [] }
     ensures walked { IfOk result (λ s. Walked W.KIND (graph_of (valued W.value outlook.now.machine)) W.wide_value outlook.now.due (words_of listed.now) subsets.old.items subsets.new.items entry left.new.items (weighted W.wide_value s)) }
 {
+    // What holds of the machine.
+    let _fst = outlook.machine();
     let owner = listed.len();
     let mut word = prefix(alloc, listed, &entry)?;
     let mut parts = Vec::new(alloc);
