@@ -1,4 +1,4 @@
-use Rattle.std.proofs.Common.{◌+◌, true≢false, refl, sym, ◌∙◌, arith}
+use Rattle.std.proofs.Common.{true≢false, refl, sym, ◌∙◌, arith}
 use Rattle.fst_select.proofs.PrefixBounds.{prefix_kind, prefix_members, prefix_range}
 use Rattle.fst_select.proofs.parting.open_part.Goals as goal
 

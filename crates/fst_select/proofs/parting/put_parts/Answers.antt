@@ -1,9 +1,8 @@
-use Rattle.std.proofs.Common.{◌≡◌, ◌+◌, ◌++◌, ◌∷◌, [], List, length, map, sym, ap₂, ◌∙◌, subst, arith}
+use Rattle.std.proofs.Common.{◌≡◌, List, length, sym, ap₂, ◌∙◌, subst, arith}
 use Rattle.std.proofs.lemmas.Option.{get_or_from_slice_get}
-use Rattle.fst_semiring.specs.Cost.{Cost, infinite}
+use Rattle.fst_semiring.specs.Cost.{infinite}
 use Rattle.fst_machine.specs.Graph.{graph_of}
 use Rattle.fst_machine.specs.Machine.{Machine, valued}
-use Rattle.fst_walk.specs.Names.{key_arc}
 use Rattle.fst_determinize.specs.Subsets.{IsSubset, Member}
 use Rattle.fst_determinize.specs.Weighed.{AreMembers}
 use Rattle.fst_nbest.specs.Ready.{dist_in}
@@ -60,7 +59,7 @@ returns-in_default-clause-parts g c x s long at is =
     let here : c.index-subset.result.now ≡ s = c.index-subset.ensures ∙ get_or_from_slice_get c.args.subsets.now.items c.args.slot s c.index-subset.result.now at in
     let arcs = c.in_ok-arcs.ensures ∙ ap₂ (λ (z : Machine g.row.W.Denot) (n : List Member). arcs_of w.KIND (graph_of (valued w.value z)) n) c.machine-fst.ensures.same here in
     let none : best_total w.KIND graph.final by s ≡ infinite
-          = sym (ap₂ (λ (z : Machine g.row.W.Denot) (n : List Member). best_total w.KIND (graph_of (valued w.value z)).final by n) c.machine-fst.ensures.same here) ∙ c.in_default.ensures.none in
+    = sym (ap₂ (λ (z : Machine g.row.W.Denot) (n : List Member). best_total w.KIND (graph_of (valued w.value z)).final by n) c.machine-fst.ensures.same here) ∙ c.in_default.ensures.none in
     open_only w.KIND graph d o.due w.wide_value x by c.args.owner c.args.depth c.machine-fst.ensures.weighed.weighted (far w.KIND graph d c.machine-fst.ensures.known.measured.exact) s is
     c.put_open_parts.new.subsets.items c.put_open_parts.new.parts.items (c.in_ok-put_open_parts.ensures.parts x s long is arcs) none
 
@@ -76,8 +75,8 @@ returns-clause-parts g c x s long at is =
     let here : c.index-subset.result.now ≡ s = c.index-subset.ensures ∙ get_or_from_slice_get c.args.subsets.now.items c.args.slot s c.index-subset.result.now at in
     let arcs = c.in_ok-arcs.ensures ∙ ap₂ (λ (z : Machine g.row.W.Denot) (n : List Member). arcs_of w.KIND (graph_of (valued w.value z)) n) c.machine-fst.ensures.same here in
     let closed : IsClosedPart w.KIND graph w.wide_value by s c.args.owner c.args.depth part
-          = subst (λ (n : List Member). IsClosedPart w.KIND graph w.wide_value by n c.args.owner c.args.depth part) here
-            (subst (λ (z : Machine g.row.W.Denot). IsClosedPart w.KIND (graph_of (valued w.value z)) w.wide_value by c.index-subset.result.now c.args.owner c.args.depth part) c.machine-fst.ensures.same c.in-Some.ensures.some) in
+    = subst (λ (n : List Member). IsClosedPart w.KIND graph w.wide_value by n c.args.owner c.args.depth part) here
+    (subst (λ (z : Machine g.row.W.Denot). IsClosedPart w.KIND (graph_of (valued w.value z)) w.wide_value by c.index-subset.result.now c.args.owner c.args.depth part) c.machine-fst.ensures.same c.in-Some.ensures.some) in
     subst (λ (es : List (Entry g.row.W-Wide.Denot)). AreParts w.KIND graph d o.due w.wide_value x c.args.owner c.args.depth subsets es) (sym c.in_ok-push.ensures.items)
     (with_closed w.KIND graph d o.due w.wide_value x by c.args.owner c.args.depth c.machine-fst.ensures.weighed.weighted (far w.KIND graph d c.machine-fst.ensures.known.measured.exact) s is
     subsets c.put_open_parts.new.parts.items (c.in_ok-put_open_parts.ensures.parts x s long is arcs) part closed)

@@ -1,4 +1,4 @@
-use Rattle.std.proofs.Common.{◌≡◌, ◌+◌, Some, take, slice_get, sym, ap, ◌∙◌, subst, lit≤, arith}
+use Rattle.std.proofs.Common.{◌≡◌, ◌+◌, Some, slice_get, sym, ap, ◌∙◌, subst, lit≤, arith}
 use Rattle.std.proofs.lemmas.List.{take_all}
 use Rattle.fst_semiring.specs.Semiring.{IsWide, times}
 use Rattle.fst_semiring.proofs.Ranges.{Within-more, Within-times}
