@@ -1,5 +1,5 @@
-use Rattle.std.proofs.Common.{◌≡◌, ℕ, List, [], ◌∷◌, ◌++◌, length, map, refl, sym, ap, ap₂, ◌∙◌, subst, append-nil, append_assoc, lit≤, arith}
-use Rattle.std.proofs.lemmas.List.{length-append}
+use Rattle.std.proofs.Common.{◌≡◌, ℕ, List, [], ◌∷◌, ◌++◌, length, map, sym, ap, ap₂, ◌∙◌, subst, append-nil, append_assoc, lit≤, arith}
+use Rattle.std.proofs.lemmas.List.{length-append, nil_from_length}
 use Rattle.fst_semiring.specs.Cost.{Cost, infinite}
 use Rattle.fst_semiring.specs.Semiring.{IsWide, times}
 use Rattle.fst_semiring.proofs.Ranges.{Within-more}
@@ -19,11 +19,6 @@ use Rattle.fst_select.proofs.parting.put_open_parts.Given.{Over}
 use Rattle.fst_select.proofs.parting.put_open_parts.Goals.{In-Some}
 use Rattle.fst_select.proofs.parting.put_open_parts.Goals as goal
 
--- a list without elements
-none_left : {X : Type 0} (xs : List X) → length xs ≡ 0 → xs ≡ []
-none_left [] e = refl
-none_left (x ∷ xs) e = absurd (omega (arith, e))
-
 -- the arc that is taken off is one of the subset's
 there : (g : Over) (c : In-Some g)
     → Has (arcs_of g.W.Weight.KIND (graph_of (valued g.W.Weight.value c.args.outlook.now.machine)) c.requires.subset.1) (key_arc g.W.Weight.wide_value c.in-Some.arc)
@@ -33,7 +28,8 @@ there g c =
     let r = c.requires.subset in
     let arcs = arcs_of w.KIND (graph_of (valued w.value c.args.outlook.now.machine)) r.1 in
     let before = c.loop-arc.invariant.parts r.0 r.1 r.2 r.3 r.4 in
-    between arcs (map value c.pop.new.self.items) before.0 (value c.in-Some.arc) (one_done value arcs before.0 c.loop-arc.arcs.items c.pop.new.self.items c.in-Some.arc c.in-Some.ensures.items before.1)
+    let all = one_done value arcs before.0 c.loop-arc.arcs.items c.pop.new.self.items c.in-Some.arc c.in-Some.ensures.items before.1 in
+    between arcs (map value c.pop.new.self.items) before.0 (value c.in-Some.arc) all
 
 pub loop-arc-init : goal.loop-arc-init
 loop-arc-init g c =
@@ -140,7 +136,8 @@ loop-arc-preserved g c =
             all,
             one_added w.KIND graph d o.due w.wide_value x by c.args.owner c.args.depth (value a) before.0 subsets parts before.2
                 (arc_subset w.KIND graph s c.requires.weighed.weighted x by is (value a) (between arcs (map value c.pop.new.self.items) before.0 (value a) all))
-                (labels_ascend w.KIND graph s (map value c.pop.new.self.items) before.0 (value a) all) part c.push-in-Some.new.self.items c.push.new.self.items c.in_ok-push.ensures.items grown slot tail weight goes,
+                (labels_ascend w.KIND graph s (map value c.pop.new.self.items) before.0 (value a) all)
+                part c.push-in-Some.new.self.items c.push.new.self.items c.in_ok-push.ensures.items grown slot tail weight goes,
           );
     }
 
@@ -153,7 +150,9 @@ returns-clause-parts g c x s long is same =
     let o = c.args.outlook.now in
     let graph = graph_of (valued w.value o.machine) in
     let before = c.loop-arc.invariant.parts x s long is same in
-    let none : c.loop-arc.arcs.items ≡ [] = none_left c.loop-arc.arcs.items (omega (arith, c.in_default.ensures.cases, c.loop-arc.arcs.ok)) in
+    let none : c.loop-arc.arcs.items ≡ [] = nil_from_length c.loop-arc.arcs.items (omega (arith, c.in_default.ensures.cases, c.loop-arc.arcs.ok)) in
     let all : arcs_of w.KIND graph s ≡ before.0 = before.1 ∙ ap (λ (left : List (Arc g.row.W-Wide.Denot (List Member))). map (key_arc w.wide_value) left ++ before.0) none in
-    subst (λ (arcs : List (Arc Cost (List Member))). AreOpenParts w.KIND graph (dist_in w.wide_value o.dist) o.due w.wide_value x (w.wide_value c.args.by) c.args.owner c.args.depth arcs c.loop-arc.subsets.items c.loop-arc.parts.items)
+    let d = dist_in w.wide_value o.dist in
+    let by = w.wide_value c.args.by in
+    subst (λ (arcs : List (Arc Cost (List Member))). AreOpenParts w.KIND graph d o.due w.wide_value x by c.args.owner c.args.depth arcs c.loop-arc.subsets.items c.loop-arc.parts.items)
     (sym all) before.2
