@@ -1,5 +1,5 @@
 -- The parts of a prefix, arc by arc.
-use Rattle.std.proofs.Common.{◌≡◌, ◌≢◌, ◌⊎◌, inl, inr, ℕ, ◌+◌, ◌<◌, zero, suc, Bool, true, false, List, [], ◌∷◌, ◌++◌, Some, length, map, slice_get, refl, sym, ap, ap₂, ◌∙◌, subst, append_assoc, append-nil, arith}
+use Rattle.std.proofs.Common.{◌≡◌, ◌≢◌, ◌⊎◌, inl, inr, ℕ, ◌<◌, suc, Bool, false, List, [], ◌∷◌, ◌++◌, Some, length, map, slice_get, refl, sym, ap, ◌∙◌, subst, append_assoc, arith}
 use Rattle.std.proofs.lemmas.List.{map-append}
 use Rattle.fst_semiring.specs.Cost.{Cost, infinite}
 use Rattle.fst_semiring.specs.Semiring.{times}
@@ -15,17 +15,13 @@ use Rattle.fst_trim.specs.Weighed.{IsWeighted}
 use Rattle.fst_trim.specs.WordWeights.{WordWeighs}
 use Rattle.fst_determinize.specs.Subsets.{IsSubset, Member}
 use Rattle.fst_determinize.proofs.Elements.{Has_map, map_Has}
+use Rattle.fst_distance.proofs.Lists.{push_last}
 use Rattle.fst_select.specs.declared.entry.Entry.{Entry}
 use Rattle.fst_select.specs.Branches.{Branch}
 use Rattle.fst_select.specs.Keys.{best_total}
 use Rattle.fst_select.specs.Parting.{AreOpenParts, AreParts, GoesOn, IsClosedPart, IsOpenPart, arcs_of, number_by, part_number}
 use Rattle.fst_select.proofs.BranchFronts.{in_branch, stop_solid}
 use Rattle.fst_select.proofs.PrefixArcs.{arc_subset, member_arc}
-
--- the last element of a list
-at_end : {X : Type 0} (xs : List X) (x : X) → slice_get (xs ++ x ∷ []) (length xs) ≡ Some x
-at_end [] x = refl
-at_end (y ∷ xs) x = at_end xs x
 
 -- one element less is left of a list, and one more is done
 pub one_done : {X Y : Type 0} (f : X → Y) (all done : List Y) (left rest : List X) (x : X) → left ≡ rest ++ x ∷ [] → all ≡ map f left ++ done → all ≡ map f rest ++ f x ∷ done
@@ -86,7 +82,7 @@ module _ {D : Type 0} (kind : ArcType) (g : Graph ℕ) (d : ℕ → Cost) (due :
           own : IsOpenPart kind g d due value x owner depth (subsets ++ a.next ∷ []) e
           own = record {
             members = a.next;
-            there = ap (slice_get (subsets ++ a.next ∷ [])) slot ∙ at_end subsets a.next;
+            there = ap (slice_get (subsets ++ a.next ∷ [])) slot ∙ push_last subsets a.next;
             subset = subst (λ (w : Cost). IsSubset kind g (x ++ e.tail ∷ []) w a.next) (sym weight)
                 (subst (λ (l : ℕ). IsSubset kind g (x ++ l ∷ []) (times kind by a.weight) a.next) (sym tail) leads);
             goes = goes;

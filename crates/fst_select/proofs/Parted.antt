@@ -88,7 +88,6 @@ module _ {D : Type 0} (kind : ArcType) (g : Graph ℕ) (weighted : IsWeighted ki
     (far : (q : ℕ) → IsAccessible g q → IsFinalDistance kind g q (d q)) (due : Cost) (value : D → Cost)
     (x : List ℕ) (owner depth : ℕ) (words : List (List ℕ)) (subsets : List (List Member)) (parts : List (Entry D)) (h : AreParts kind g d due value x owner depth subsets parts)
     (long : length x ≡ depth) (few : depth ≤ most_long) (begins : take depth (list_at words owner) ≡ x) (within : depth ≤ length (list_at words owner)) where
-
   prefix_is : (e : Entry D) → e.owner ≡ owner → e.depth ≡ depth → prefix_of words e ≡ x ++ tail_of e.tail
   prefix_is e own deep = ap (λ (p : List ℕ). p ++ tail_of e.tail) (ap₂ (λ (n i : ℕ). take n (list_at words i)) deep own ∙ begins)
 
@@ -106,19 +105,21 @@ module _ {D : Type 0} (kind : ArcType) (g : Graph ℕ) (weighted : IsWeighted ki
   closed_face : (e : Entry D) → IsClosedPart kind g value h.by h.members owner depth e → (f : Front) × IsFace e f
   closed_face e c =
       let prefix : prefix_of words e ≡ x = prefix_is e c.same_owner c.same_depth ∙ (ap (λ (t : ℕ). x ++ tail_of t) c.tail ∙ append-nil x) in
-      let f : Front = record { prefix = x; closed = true; total = best_total kind g.final h.by h.members; long = length x } in
-      (f, record {
-        entry = record {
-          prefix = sym prefix;
-          closed = sym c.closed;
-          total = sym c.total;
-          long = λ is. long ∙ sym c.long;
-          compare = compares e c.same_owner c.same_depth;
-          short = λ is. c.tail;
-          subset = λ not. absurd (true≢false (sym c.closed ∙ not));
-        };
-        key = closed_key kind g weighted d far x h.by h.members h.subset (λ none. c.solid (c.total ∙ none));
-      })
+      let f : Front = record { prefix = x; closed = true; total = best_total kind g.final h.by h.members; long = length x } in (
+        f,
+        record {
+          entry = record {
+            prefix = sym prefix;
+            closed = sym c.closed;
+            total = sym c.total;
+            long = λ is. long ∙ sym c.long;
+            compare = compares e c.same_owner c.same_depth;
+            short = λ is. c.tail;
+            subset = λ not. absurd (true≢false (sym c.closed ∙ not));
+          };
+          key = closed_key kind g weighted d far x h.by h.members h.subset (λ none. c.solid (c.total ∙ none));
+        },
+      )
 
   -- the label of a part of which strings go on
   pub tail_is : (e : Entry D) → (o : IsOpenPart kind g d due value x owner depth subsets e) → tail_of e.tail ≡ e.tail ∷ []
@@ -139,21 +140,23 @@ module _ {D : Type 0} (kind : ArcType) (g : Graph ℕ) (weighted : IsWeighted ki
       let c = shortest_exists kind g weighted d far y (value e.by) o.members o.subset not in
       let f : Front = record { prefix = y; closed = false; total = best_total kind d (value e.by) o.members; long = length y + c.0 } in
       let known : IsDue kind due (value e.total) → length y + c.0 ≡ e.long = λ is.
-          let own = o.goes.long is in
-          let once = shortest_once kind g (value e.by) (value e.total) o.members own.0 c.0 own.1 (subst (λ (t : Cost). IsShortest kind g (value e.by) t o.members c.0) (sym o.goes.total) c.1) in
-          omega (arith, length-append x (e.tail ∷ []), long, once, own.2) in
-      (f, record {
-        entry = record {
-          prefix = sym prefix;
-          closed = sym o.goes.closed;
-          total = sym o.goes.total;
-          long = known;
-          compare = compares e o.goes.same_owner o.goes.same_depth;
-          short = λ is. absurd (true≢false (sym is ∙ o.goes.closed));
-          subset = λ is. (o.members, o.there, subst (λ (p : List ℕ). IsSubset kind g p (value e.by) o.members) (sym prefix) o.subset);
-        };
-        key = open_key kind g weighted d far y (value e.by) o.members o.subset c.0 not c.1;
-      })
+      let own = o.goes.long is in
+      let once = shortest_once kind g (value e.by) (value e.total) o.members own.0 c.0 own.1 (subst (λ (t : Cost). IsShortest kind g (value e.by) t o.members c.0) (sym o.goes.total) c.1) in
+      omega (arith, length-append x (e.tail ∷ []), long, once, own.2) in (
+        f,
+        record {
+          entry = record {
+            prefix = sym prefix;
+            closed = sym o.goes.closed;
+            total = sym o.goes.total;
+            long = known;
+            compare = compares e o.goes.same_owner o.goes.same_depth;
+            short = λ is. absurd (true≢false (sym is ∙ o.goes.closed));
+            subset = λ is. (o.members, o.there, subst (λ (p : List ℕ). IsSubset kind g p (value e.by) o.members) (sym prefix) o.subset);
+          };
+          key = open_key kind g weighted d far y (value e.by) o.members o.subset c.0 not c.1;
+        },
+      )
 
   has_face : (e : Entry D) → Has parts e → (f : Front) × IsFace e f
   has_face e there = by_part (h.each e there)
@@ -232,9 +235,9 @@ module _ {D : Type 0} (kind : ArcType) (g : Graph ℕ) (weighted : IsWeighted ki
       let own = has_face e (inside e (inl refl)) in
       let rest = faces es (λ k there. inside k (inr there)) apart.1 in
       let apart_from : (f : Front) → Has rest.fronts f → Disjoint own.0 f = λ f there.
-          let k = rest.from f there in
-          faces_disjoint e k.0 own.0 f (inside e (inl refl)) (inside k.0 (inr k.1)) own.1 k.2
-          (λ equal. apart.0 (subst (λ (n : ℕ). Has (map part_number es) n) (sym equal) (Has_map part_number es k.0 k.1))) in
+      let k = rest.from f there in
+      faces_disjoint e k.0 own.0 f (inside e (inl refl)) (inside k.0 (inr k.1)) own.1 k.2
+      (λ equal. apart.0 (subst (λ (n : ℕ). Has (map part_number es) n) (sym equal) (Has_map part_number es k.0 k.1))) in
       record {
         fronts = own.0 ∷ rest.fronts;
         entries = (own.1.entry, rest.entries);
@@ -290,11 +293,11 @@ module _ {D : Type 0} (kind : ArcType) (g : Graph ℕ) (weighted : IsWeighted ki
         let face = has_face holder.0 holder.1 in
         let covers = covers_back holder.0 face.0 holder.1 face.1 word.0 holder.2 in
         let low : NoLess (value holder.0.total) 0 whole.total 0 = subst (λ (t : Cost). NoLess t 0 whole.total 0) face.1.entry.total
-            (weights_only face.0.total whole.total face.0.long _ (face.1.key.least (x ++ word.0) whole.total covers says)) in
+        (weights_only face.0.total whole.total face.0.long _ (face.1.key.least (x ++ word.0) whole.total covers says)) in
         let down = NoLess-trans (value core.total) (value holder.0.total) whole.total 0 0 0 (no_worse holder.0 (among holder.0 holder.1)) low in
         let best_word = own.1.key in
         let high = weights_only whole.total own.0.total whole.long _
-            (key.least best_word.word own.0.total (inside_whole core own.0 core_there own.1 best_word.word best_word.inside) best_word.weighs) in
+        (key.least best_word.word own.0.total (inside_whole core own.0 core_there own.1 best_word.word best_word.inside) best_word.weighs) in
         let up : NoLess whole.total 0 (value core.total) 0 = subst (λ (t : Cost). NoLess whole.total 0 t 0) own.1.entry.total high in
         (NoLess-antisym (value core.total) whole.total 0 0 down up).0
 
@@ -336,7 +339,7 @@ module _ {D : Type 0} (kind : ArcType) (g : Graph ℕ) (weighted : IsWeighted ki
             let equal : value core.total ≡ value e.total = cost_cmp_equal (value core.total) (value e.total) tie in
             let length_is : f.long ≡ e.long = face.entry.long (subst (IsDue kind due) equal core_due) in
             let rest : ordering_then (nat_cmp core.long f.long) (slice_cmp nat_cmp (prefix_of words core) f.prefix) ≡ ordering_then (nat_cmp core.long e.long) (nat_cmp core.tail e.tail)
-                  = ap₂ ordering_then (ap (nat_cmp core.long) length_is) prefixes in
+            = ap₂ ordering_then (ap (nat_cmp core.long) length_is) prefixes in
             ap is_gt (ap₂ ordering_then total rest) ∙ late
         by_weight Greater greater = absurd (true≢false (sym (ap (λ (o : Ordering). is_gt (ordering_then o (ordering_then (nat_cmp core.long e.long) (nat_cmp core.tail e.tail)))) greater) ∙ late))
 

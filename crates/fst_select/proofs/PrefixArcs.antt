@@ -1,12 +1,12 @@
 -- The arcs of the subset of a prefix.
-use Rattle.std.proofs.Common.{◌≡◌, ℕ, ◌<◌, List, [], ◌∷◌, ◌++◌, Some, length, slice_get, refl, subst, ap, sym}
-use Rattle.fst_semiring.specs.Cost.{Cost, infinite}
+use Rattle.std.proofs.Common.{◌≡◌, ℕ, ◌<◌, List, [], ◌∷◌, ◌++◌, Some, length, slice_get, refl, subst}
+use Rattle.fst_semiring.specs.Cost.{Cost}
 use Rattle.fst_semiring.specs.Semiring.{IsWide, times}
 use Rattle.fst_semiring.specs.declared.arc_type.ArcType.{ArcType}
 use Rattle.fst_machine.specs.BreadthFirst.{Has}
 use Rattle.fst_machine.specs.Graph.{Graph, graph_of}
 use Rattle.fst_machine.specs.Machine.{Arc, Machine, valued}
-use Rattle.fst_machine.proofs.Elements.{Has-append_right, Has_at}
+use Rattle.fst_machine.proofs.Elements.{Has_at}
 use Rattle.fst_trim.specs.Weighed.{IsWeighed, IsWeighted}
 use Rattle.fst_determinize.specs.Subsets.{AscendsBy, IsSubset, Member}
 use Rattle.fst_determinize.specs.Ways.{Way, arc_by, having, way_by, ways}
@@ -29,7 +29,7 @@ module _ (kind : ArcType) (g : Graph ℕ) (members : List Member) where
       → (b : Arc Cost (List Member)) → Has back b → a.ilabel < b.ilabel
   labels_ascend front back a parts b h =
       let up : AscendsBy (λ (c : Arc Cost (List Member)). c.ilabel) (arcs_of kind g members)
-            = grouped_ascends (λ (y : Way). y.label) (arc_by kind) (λ c. c.ilabel) (λ label ys. refl) (ways kind g members) in
+      = grouped_ascends (λ (y : Way). y.label) (arc_by kind) (λ c. c.ilabel) (λ label ys. refl) (ways kind g members) in
       ascends_behind (λ c. c.ilabel) front a back (subst (λ (cs : List (Arc Cost (List Member))). AscendsBy (λ c. c.ilabel) cs) parts up) b h
 
   module _ (weighted : IsWeighted kind g) (x : List ℕ) (by : Cost) (is : IsSubset kind g x by members) where

@@ -161,15 +161,17 @@ module _ (kind : ArcType) (g : Graph ℕ) where
     some_shortest : (n : ℕ) → GoesBy n → (count : ℕ) × IsShortest kind g by total members count
     some_shortest n goes =
         let first = first_of GoesBy told_goes n goes in
-        let way = first.1.0 in
-        (first.0, record {
-          member = way.0;
-          there = way.1;
-          rest = way.2;
-          goes = way.3;
-          long = way.4;
-          least = λ m other has on. first.1.1 (length other) (m, has, other, on, refl);
-        })
+        let way = first.1.0 in (
+          first.0,
+          record {
+            member = way.0;
+            there = way.1;
+            rest = way.2;
+            goes = way.3;
+            long = way.4;
+            least = λ m other has on. first.1.1 (length other) (m, has, other, on, refl);
+          },
+        )
 
     -- of which there is one
     pub shortest_once : (b c : ℕ) → IsShortest kind g by total members b → IsShortest kind g by total members c → b ≡ c

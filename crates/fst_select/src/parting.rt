@@ -74,8 +74,8 @@ fn closed_part<W: SubsetWeight>(
     })
 }
 
-/// How many labels the shortest of the best strings that begin with a prefix of so many labels have; 0 where their weight is
-/// not due.
+/// How many labels the shortest of the best strings that begin with a prefix has, where the prefix has so many; 0 where their
+/// weight is not due.
 fn known_length<W: SubsetWeight>(
     outlook: &Outlook<W>,
     by: W::Wide,

@@ -1,5 +1,6 @@
-use Rattle.std.proofs.Common.{◌+◌, true≢false, refl, sym, ◌∙◌, arith}
+use Rattle.std.proofs.Common.{true≢false, refl, sym, ◌∙◌, arith}
 use Rattle.fst_select.proofs.PrefixBounds.{prefix_kind, prefix_members, prefix_range}
+use Rattle.fst_select.proofs.parting.open_part.Goals.{Start}
 use Rattle.fst_select.proofs.parting.open_part.Goals as goal
 
 pub total-total-requires-clause-members : goal.total-total-requires-clause-members
@@ -21,22 +22,13 @@ total-total-requires-clause-kind g c =
     prefix_kind w.KIND w.value c.args.outlook.now.machine c.requires.weighed r.0 (w.wide_value c.args.by) c.args.subset.now r.2
 
 pub known_length-long-requires-clause-members : goal.known_length-long-requires-clause-members
-known_length-long-requires-clause-members g c =
-    let w = g.W.Weight in
-    let r = c.requires.subset in
-    prefix_members w.KIND w.value c.args.outlook.now.machine c.requires.weighed r.0 (w.wide_value c.args.by) c.args.subset.now r.2 (omega (arith, r.1, c.requires.depth))
+known_length-long-requires-clause-members g c = total-total-requires-clause-members g (goal.at.known_length-long-requires-clause-members g c).Start
 
 pub known_length-long-requires-clause-range : goal.known_length-long-requires-clause-range
-known_length-long-requires-clause-range g c =
-    let w = g.W.Weight in
-    let r = c.requires.subset in
-    prefix_range w.KIND w.value c.args.outlook.now.machine c.requires.weighed r.0 (w.wide_value c.args.by) c.args.subset.now r.2 (omega (arith, r.1, c.requires.depth))
+known_length-long-requires-clause-range g c = total-total-requires-clause-range g (goal.at.known_length-long-requires-clause-range g c).Start
 
 pub known_length-long-requires-clause-kind : goal.known_length-long-requires-clause-kind
-known_length-long-requires-clause-kind g c =
-    let w = g.W.Weight in
-    let r = c.requires.subset in
-    prefix_kind w.KIND w.value c.args.outlook.now.machine c.requires.weighed r.0 (w.wide_value c.args.by) c.args.subset.now r.2
+known_length-long-requires-clause-kind g c = total-total-requires-clause-kind g (goal.at.known_length-long-requires-clause-kind g c).Start
 
 pub known_length-long-requires-clause-subset : goal.known_length-long-requires-clause-subset
 known_length-long-requires-clause-subset g c = (c.requires.subset.0, c.requires.subset.2)

@@ -1,10 +1,10 @@
-use Rattle.std.proofs.Common.{◌≡◌, ℕ, ◌+◌, List, [], ◌∷◌, ◌++◌, length, map, refl, sym, ap, ap₂, ◌∙◌, subst, append-nil, append_assoc, lit≤, arith}
-use Rattle.std.proofs.lemmas.List.{length-append}
+use Rattle.std.proofs.Common.{◌≡◌, ℕ, List, [], ◌∷◌, ◌++◌, length, map, sym, ap, ap₂, ◌∙◌, subst, append-nil, append_assoc, lit≤, arith}
+use Rattle.std.proofs.lemmas.List.{length-append, nil_from_length}
 use Rattle.fst_semiring.specs.Cost.{Cost, infinite}
 use Rattle.fst_semiring.specs.Semiring.{IsWide, times}
 use Rattle.fst_semiring.proofs.Ranges.{Within-more}
 use Rattle.fst_machine.specs.BreadthFirst.{Has}
-use Rattle.fst_machine.specs.Graph.{Graph, graph_of}
+use Rattle.fst_machine.specs.Graph.{graph_of}
 use Rattle.fst_machine.specs.Machine.{Arc, valued}
 use Rattle.fst_walk.specs.Names.{key_arc}
 use Rattle.fst_determinize.specs.Subsets.{IsSubset, Member}
@@ -19,21 +19,17 @@ use Rattle.fst_select.proofs.parting.put_open_parts.Given.{Over}
 use Rattle.fst_select.proofs.parting.put_open_parts.Goals.{In-Some}
 use Rattle.fst_select.proofs.parting.put_open_parts.Goals as goal
 
--- a list without elements
-none_left : {X : Type 0} (xs : List X) → length xs ≡ 0 → xs ≡ []
-none_left [] e = refl
-none_left (x ∷ xs) e = absurd (omega (arith, e))
-
 -- the arc that is taken off is one of the subset's
 there : (g : Over) (c : In-Some g)
     → Has (arcs_of g.W.Weight.KIND (graph_of (valued g.W.Weight.value c.args.outlook.now.machine)) c.requires.subset.1) (key_arc g.W.Weight.wide_value c.in-Some.arc)
 there g c =
     let w = g.W.Weight in
-    let value = key_arc w.wide_value in
+    let value : Arc g.row.W-Wide.Denot (List Member) → Arc Cost (List Member) = key_arc w.wide_value in
     let r = c.requires.subset in
     let arcs = arcs_of w.KIND (graph_of (valued w.value c.args.outlook.now.machine)) r.1 in
     let before = c.loop-arc.invariant.parts r.0 r.1 r.2 r.3 r.4 in
-    between arcs (map value c.pop.new.self.items) before.0 (value c.in-Some.arc) (one_done value arcs before.0 c.loop-arc.arcs.items c.pop.new.self.items c.in-Some.arc c.in-Some.ensures.items before.1)
+    let all = one_done value arcs before.0 c.loop-arc.arcs.items c.pop.new.self.items c.in-Some.arc c.in-Some.ensures.items before.1 in
+    between arcs (map value c.pop.new.self.items) before.0 (value c.in-Some.arc) all
 
 pub loop-arc-init : goal.loop-arc-init
 loop-arc-init g c =
@@ -42,9 +38,11 @@ loop-arc-init g c =
     let graph = graph_of (valued w.value o.machine) in
     record {
       grow = ([], sym (append-nil c.args.subsets.now.items));
-      parts = λ x s long is same.
-          ([], sym same ∙ sym (append-nil (map (key_arc w.wide_value) c.args.arcs.now.items)),
-            no_parts w.KIND graph (dist_in w.wide_value o.dist) o.due w.wide_value x (w.wide_value c.args.by) c.args.owner c.args.depth c.args.subsets.now.items c.args.parts.now.items c.requires.clear);
+      parts = λ x s long is same. (
+        [],
+        sym same ∙ sym (append-nil (map (key_arc w.wide_value) c.args.arcs.now.items)),
+        no_parts w.KIND graph (dist_in w.wide_value o.dist) o.due w.wide_value x (w.wide_value c.args.by) c.args.owner c.args.depth c.args.subsets.now.items c.args.parts.now.items c.requires.clear,
+      );
     }
 
 pub wide_times-own-requires-clause-a_wide : goal.wide_times-own-requires-clause-a_wide
@@ -76,15 +74,17 @@ open_part-requires-clause-subset g c =
     let weight_is : c.arc.inside.weight ≡ a.weight = ap (λ (z : Arc g.row.W-Wide.Denot (List Member)). z.weight) c.arc.view_is in
     let next_is : c.arc.inside.next ≡ a.next = ap (λ (z : Arc g.row.W-Wide.Denot (List Member)). z.next) c.arc.view_is in
     let own_is : w.wide_value c.wide_times-own.result ≡ times w.KIND (w.wide_value c.args.by) (w.wide_value a.weight)
-          = c.wide_times-own.ensures.product ∙ ap (λ (v : g.row.W-Wide.Denot). times w.KIND (w.wide_value c.args.by) (w.wide_value v)) weight_is in
-    (y, omega (arith, length-append r.0 (a.ilabel ∷ []), r.2),
-      subst (λ (n : List Member). IsSubset w.KIND graph y (w.wide_value c.wide_times-own.result) n) (sym next_is) (subst (λ (v : Cost). IsSubset w.KIND graph y v a.next) (sym own_is) at))
+    = c.wide_times-own.ensures.product ∙ ap (λ (v : g.row.W-Wide.Denot). times w.KIND (w.wide_value c.args.by) (w.wide_value v)) weight_is in (
+      y,
+      omega (arith, length-append r.0 (a.ilabel ∷ []), r.2),
+      subst (λ (n : List Member). IsSubset w.KIND graph y (w.wide_value c.wide_times-own.result) n) (sym next_is) (subst (λ (v : Cost). IsSubset w.KIND graph y v a.next) (sym own_is) at),
+    )
 
 pub loop-arc-preserved-in_default-open_part : goal.loop-arc-preserved-in_default-open_part
 loop-arc-preserved-in_default-open_part g c =
     let w = g.W.Weight in
     let o = c.args.outlook.now in
-    let value = key_arc w.wide_value in
+    let value : Arc g.row.W-Wide.Denot (List Member) → Arc Cost (List Member) = key_arc w.wide_value in
     let graph = graph_of (valued w.value o.machine) in
     let d = dist_in w.wide_value o.dist in
     let by = w.wide_value c.args.by in
@@ -92,7 +92,7 @@ loop-arc-preserved-in_default-open_part g c =
     let weight_is : c.arc.inside.weight ≡ a.weight = ap (λ (z : Arc g.row.W-Wide.Denot (List Member)). z.weight) c.arc.view_is in
     let next_is : c.arc.inside.next ≡ a.next = ap (λ (z : Arc g.row.W-Wide.Denot (List Member)). z.next) c.arc.view_is in
     let own_is : w.wide_value c.wide_times-own.result ≡ times w.KIND by (w.wide_value a.weight)
-          = c.wide_times-own.ensures.product ∙ ap (λ (v : g.row.W-Wide.Denot). times w.KIND by (w.wide_value v)) weight_is in
+    = c.wide_times-own.ensures.product ∙ ap (λ (v : g.row.W-Wide.Denot). times w.KIND by (w.wide_value v)) weight_is in
     let none : best_total w.KIND d (times w.KIND by (w.wide_value a.weight)) a.next ≡ infinite = ap₂ (best_total w.KIND d) (sym own_is) (sym next_is) ∙ c.in_default-open_part.ensures.none in
     record {
       grow = c.loop-arc.invariant.grow;
@@ -106,7 +106,7 @@ pub loop-arc-preserved : goal.loop-arc-preserved
 loop-arc-preserved g c =
     let w = g.W.Weight in
     let o = c.args.outlook.now in
-    let value = key_arc w.wide_value in
+    let value : Arc g.row.W-Wide.Denot (List Member) → Arc Cost (List Member) = key_arc w.wide_value in
     let graph = graph_of (valued w.value o.machine) in
     let d = dist_in w.wide_value o.dist in
     let by = w.wide_value c.args.by in
@@ -118,9 +118,9 @@ loop-arc-preserved g c =
     let weight_is : c.arc.inside.weight ≡ a.weight = ap (λ (z : Arc g.row.W-Wide.Denot (List Member)). z.weight) c.arc.view_is in
     let next_is : c.arc.inside.next ≡ a.next = ap (λ (z : Arc g.row.W-Wide.Denot (List Member)). z.next) c.arc.view_is in
     let own_is : w.wide_value c.wide_times-own.result ≡ times w.KIND by (w.wide_value a.weight)
-          = c.wide_times-own.ensures.product ∙ ap (λ (v : g.row.W-Wide.Denot). times w.KIND by (w.wide_value v)) weight_is in
+    = c.wide_times-own.ensures.product ∙ ap (λ (v : g.row.W-Wide.Denot). times w.KIND by (w.wide_value v)) weight_is in
     let goes : GoesOn w.KIND graph d o.due w.wide_value a.next c.args.owner c.args.depth part
-          = subst (λ (n : List Member). GoesOn w.KIND graph d o.due w.wide_value n c.args.owner c.args.depth part) next_is c.in-Some-open_part.ensures.some in
+    = subst (λ (n : List Member). GoesOn w.KIND graph d o.due w.wide_value n c.args.owner c.args.depth part) next_is c.in-Some-open_part.ensures.some in
     let grown : c.push-in-Some.new.self.items ≡ subsets ++ a.next ∷ [] = c.in_ok-push-2.ensures.items ∙ ap (λ (n : List Member). subsets ++ n ∷ []) next_is in
     let slot : part.slot ≡ length subsets = omega (arith, place.0, c.len-slot.ensures, c.loop-arc.subsets.ok) in
     let tail : part.tail ≡ a.ilabel = place.1 ∙ ap (λ (z : Arc g.row.W-Wide.Denot (List Member)). z.ilabel) c.arc.view_is in
@@ -131,11 +131,14 @@ loop-arc-preserved g c =
       parts = λ x s long is same.
           let arcs = arcs_of w.KIND graph s in
           let before = c.loop-arc.invariant.parts x s long is same in
-          let all = one_done value arcs before.0 c.loop-arc.arcs.items c.pop.new.self.items a c.in-Some.ensures.items before.1 in
-          (value a ∷ before.0, all,
+          let all = one_done value arcs before.0 c.loop-arc.arcs.items c.pop.new.self.items a c.in-Some.ensures.items before.1 in (
+            value a ∷ before.0,
+            all,
             one_added w.KIND graph d o.due w.wide_value x by c.args.owner c.args.depth (value a) before.0 subsets parts before.2
-            (arc_subset w.KIND graph s c.requires.weighed.weighted x by is (value a) (between arcs (map value c.pop.new.self.items) before.0 (value a) all))
-            (labels_ascend w.KIND graph s (map value c.pop.new.self.items) before.0 (value a) all) part c.push-in-Some.new.self.items c.push.new.self.items c.in_ok-push.ensures.items grown slot tail weight goes);
+                (arc_subset w.KIND graph s c.requires.weighed.weighted x by is (value a) (between arcs (map value c.pop.new.self.items) before.0 (value a) all))
+                (labels_ascend w.KIND graph s (map value c.pop.new.self.items) before.0 (value a) all)
+                part c.push-in-Some.new.self.items c.push.new.self.items c.in_ok-push.ensures.items grown slot tail weight goes,
+          );
     }
 
 pub returns-clause-grow : goal.returns-clause-grow
@@ -147,7 +150,9 @@ returns-clause-parts g c x s long is same =
     let o = c.args.outlook.now in
     let graph = graph_of (valued w.value o.machine) in
     let before = c.loop-arc.invariant.parts x s long is same in
-    let none : c.loop-arc.arcs.items ≡ [] = none_left c.loop-arc.arcs.items (omega (arith, c.in_default.ensures.cases, c.loop-arc.arcs.ok)) in
+    let none : c.loop-arc.arcs.items ≡ [] = nil_from_length c.loop-arc.arcs.items (omega (arith, c.in_default.ensures.cases, c.loop-arc.arcs.ok)) in
     let all : arcs_of w.KIND graph s ≡ before.0 = before.1 ∙ ap (λ (left : List (Arc g.row.W-Wide.Denot (List Member))). map (key_arc w.wide_value) left ++ before.0) none in
-    subst (λ (arcs : List (Arc Cost (List Member))). AreOpenParts w.KIND graph (dist_in w.wide_value o.dist) o.due w.wide_value x (w.wide_value c.args.by) c.args.owner c.args.depth arcs c.loop-arc.subsets.items c.loop-arc.parts.items)
+    let d = dist_in w.wide_value o.dist in
+    let by = w.wide_value c.args.by in
+    subst (λ (arcs : List (Arc Cost (List Member))). AreOpenParts w.KIND graph d o.due w.wide_value x by c.args.owner c.args.depth arcs c.loop-arc.subsets.items c.loop-arc.parts.items)
     (sym all) before.2

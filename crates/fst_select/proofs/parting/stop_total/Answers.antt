@@ -1,4 +1,4 @@
-use Rattle.std.proofs.Common.{◌≡◌, ◌+◌, Some, take, slice_get, sym, ap, ◌∙◌, subst, lit≤, arith}
+use Rattle.std.proofs.Common.{◌≡◌, ◌+◌, Some, slice_get, sym, ap, ◌∙◌, subst, lit≤, arith}
 use Rattle.std.proofs.lemmas.List.{take_all}
 use Rattle.fst_semiring.specs.Semiring.{IsWide, times}
 use Rattle.fst_semiring.proofs.Ranges.{Within-more, Within-times}
@@ -45,7 +45,8 @@ wide_times-own-requires-clause-b_wide g c =
     let last = w.value c.final_weight.result in
     subst IsWide (sym (c.wide_times-rest.ensures.product ∙ ap (times w.KIND m.residual) c.widen-last.ensures.same))
     (Within-more (332306998946228968225951765070086144 + 1000000000000000000) 1329227995784915872903807060280344575 (times w.KIND m.residual last) (lit≤ tt)
-    (Within-times w.KIND 332306998946228968225951765070086144 1000000000000000000 m.residual last (c.requires.members.modest m (at_Has c.args.subset.now c.loop-place.place m at)) c.widen-last.ensures.range))
+    (Within-times w.KIND 332306998946228968225951765070086144 1000000000000000000 m.residual last
+    (c.requires.members.modest m (at_Has c.args.subset.now c.loop-place.place m at)) c.widen-last.ensures.range))
 
 pub loop-place-preserved : goal.loop-place-preserved
 loop-place-preserved g c =
@@ -55,8 +56,9 @@ loop-place-preserved g c =
     let at : slice_get c.args.subset.now c.loop-place.place ≡ Some m = c.member_at-member.ensures ∙ ap (λ (h : HeldAs g.row.W-Wide.Denot). Some (member_as w.wide_value h)) (sym c.member.view_is) in
     let final = (graph_of (valued w.value c.args.fst.now)).final in
     let last : final m.state ≡ w.wide_value c.widen-last.result = graph_final w.value c.args.fst.now m.state c.final_weight.result c.final_weight.ensures ∙ sym c.widen-last.ensures.same in
-    total_more w.KIND final (w.wide_value c.args.by) c.args.subset.now c.loop-place.place m (w.wide_value c.loop-place.best) (w.wide_value c.wide_times-own.result) (w.wide_value c.wide_plus-best.result)
-    at c.loop-place.invariant (c.wide_times-own.ensures.product ∙ ap (times w.KIND (w.wide_value c.args.by)) (c.wide_times-rest.ensures.product ∙ ap (times w.KIND m.residual) (sym last))) c.wide_plus-best.ensures.sum
+    let by = w.wide_value c.args.by in
+    total_more w.KIND final by c.args.subset.now c.loop-place.place m (w.wide_value c.loop-place.best) (w.wide_value c.wide_times-own.result) (w.wide_value c.wide_plus-best.result)
+    at c.loop-place.invariant (c.wide_times-own.ensures.product ∙ ap (times w.KIND by) (c.wide_times-rest.ensures.product ∙ ap (times w.KIND m.residual) (sym last))) c.wide_plus-best.ensures.sum
 
 pub returns : goal.returns
 returns g c =
