@@ -29,6 +29,6 @@ pub mod Through
 pub mod Remaining
 pub mod SameString
 mod Resorted
-mod Unweighing
+pub mod Unweighing
 pub mod OneAnswer
 mod Answering
