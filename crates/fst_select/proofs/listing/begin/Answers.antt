@@ -72,8 +72,9 @@ returns-clause-search g c =
     (c.left-left.ensures [] (subst (λ (z : Machine g.row.W.Denot). IsSubset w.KIND (graph_of (valued w.value z)) [] by members) (sym c.in_ok-make_due.ensures.machine) is)) in
     let key : IsKey (IsSpelled w.KIND graph) (record { prefix = []; closed = false; total = w.wide_value c.total-total.result; long = c.left-left.result }) =
     subst (λ (t : Cost). IsKey (IsSpelled w.KIND graph) (record { prefix = []; closed = false; total = t; long = c.left-left.result })) (sym total)
+    (subst (λ (n : ℕ). IsKey (IsSpelled w.KIND graph) (record { prefix = []; closed = false; total = best_total w.KIND d by members; long = n })) (omega arith)
     (open_key w.KIND graph c.machine.ensures.weighed.weighted d (far w.KIND graph d c.machine.ensures.known.measured.exact) [] by members is c.left-left.result solid
-        (subst (λ (t : Cost). IsShortest w.KIND graph by t members c.left-left.result) total short)) in
+        (subst (λ (t : Cost). IsShortest w.KIND graph by t members c.left-left.result) total short))) in
     let subsets : members ∷ [] ≡ c.push.new.self.items = sym (c.in_ok-push.ensures.items ∙ ap (λ (l : List (List Member)). l ++ members ∷ []) c.requires.clear) in
     let ready : entry ∷ [] ≡ c.push-2.new.self.items = sym (c.in_ok-push-2.ensures.items ∙ ap (λ (l : List (Entry g.row.W-Wide.Denot)). l ++ entry ∷ []) c.new.ensures.items) in
     subst (λ (es : List (Entry g.row.W-Wide.Denot)). IsSearch w.KIND graph w.wide_value due [] [] c.push.new.self.items c.push-2.new.self.items es) (sym c.new-2.ensures.items)
