@@ -132,12 +132,12 @@ module _ (kind : ArcType) (m : Machine Cost) (good : IsMachine (λ (v : Cost). v
   -- a label of a string stands on an arc
   string_label : (path : List (Transition ℕ)) (p q : ℕ) → IsPath (graph_of m) p path q → (l : ℕ) → Has (input (letters path)) l → (1 ≤ l) × (l ≤ greatest_label)
   string_label [] p q leads l has = absurd has
-  string_label (t ∷ path) p q leads l has = by t.arc.ilabel (machine_arc m good p t.place t.arc leads.0.1).ilabel has
+  string_label (t ∷ path) p q leads l has = by t.arc.ilabel (machine_arc m good p t.place t.arc leads.0.1).ilabel (string_label path t.arc.next q leads.1 l) has
     where
-      by : (n : ℕ) → n ≤ greatest_label → Has (before n (input (letters path))) l → (1 ≤ l) × (l ≤ greatest_label)
-      by zero small h = string_label path t.arc.next q leads.1 l h
-      by (suc n) small (inl e) = (omega (arith, e), omega (arith, e, small))
-      by (suc n) small (inr h) = string_label path t.arc.next q leads.1 l h
+      by : (n : ℕ) → n ≤ greatest_label → (Has (input (letters path)) l → (1 ≤ l) × (l ≤ greatest_label)) → Has (before n (input (letters path))) l → (1 ≤ l) × (l ≤ greatest_label)
+      by zero small rest h = rest h
+      by (suc n) small rest (inl e) = (omega (arith, e), omega (arith, e, small))
+      by (suc n) small rest (inr h) = rest h
 
   -- a pair that is related has no weight Zero
   related_solid : (x y : List ℕ) (w : Cost) → Rel kind (graph_of m) x y w → w ≡ infinite → ⊥

@@ -1,34 +1,42 @@
 -- A listing on its way: an entry is taken, its string is listed, and what it leaves is put into the table.
 use Rattle.std.proofs.Common.{◌≡◌, ◌⊎◌, inl, inr, ℕ, ◌+◌, ◌<◌, ◌≤◌, Bool, true, false, List, [], ◌∷◌, ◌++◌, length, map, slice_get, take, refl, sym, ap, ap₂, subst, ◌∙◌, append_assoc, arith}
-use Rattle.std.proofs.Common.{Less, Equal, Greater, Ordering}
+use Rattle.std.proofs.Common.{Less, Equal, Greater, Ordering, Option, None, Some, Ok, Err}
 use Rattle.std.specs.Ordering.{is_gt, ordering_then}
 use Rattle.std.specs.List.{All}
+use Rattle.std.specs.Option.{option_map}
+use Rattle.std.specs.Prelude.{IfSome, OnOk, Result}
 use Rattle.std.specs.List.Sorted.{IsPermutation}
+use Rattle.std.proofs.lemmas.List.{map-append}
 use Rattle.std.proofs.lemmas.List.Elements.{All-append, All-cons, All-head, All-nil, All-tail, All-weaker}
 use Rattle.std.proofs.lemmas.List.Sorted.{All-permutation, IsPermutation-append, IsPermutation-append_comm, IsPermutation-append_left, IsPermutation-append_right, IsPermutation-map, IsPermutation-sym, IsPermutation-trans}
 use Rattle.fst_semiring.specs.Cost.{Cost, cost_cmp}
 use Rattle.fst_semiring.specs.declared.arc_type.ArcType.{ArcType}
-use Rattle.fst_semiring.specs.Semiring.{cancels}
+use Rattle.fst_semiring.specs.Semiring.{cancels, one_of}
 use Rattle.fst_semiring.proofs.Order.{cost_cmp_equal}
 use Rattle.fst_machine.specs.BreadthFirst.{Has}
-use Rattle.fst_machine.specs.Graph.{Graph}
+use Rattle.fst_machine.specs.Graph.{Graph, graph_of}
+use Rattle.fst_machine.specs.Machine.{Machine, valued}
 use Rattle.fst_machine.proofs.Elements.{Has-append_cases, Has-append_left, Has-append_right}
 use Rattle.fst_queue.specs.HeapOrder.{NotAfter}
 use Rattle.fst_determinize.specs.Subsets.{IsSubset, Member}
+use Rattle.fst_determinize.specs.Ways.{start_members}
+use Rattle.fst_determinize.proofs.Following.{start_subset, starts_there}
 use Rattle.fst_determinize.proofs.Runs.{Has_All}
-use Rattle.fst_nbest.specs.Heap.{FirstLeaves, IsHeap}
+use Rattle.fst_nbest.specs.Heap.{FirstLeaves, IsHeap, TakesFirst}
 use Rattle.fst_nbest.specs.Words.{WeightedWord, word_cmp}
 use Rattle.fst_nbest.proofs.Covering.{Has-permutation}
 use Rattle.fst_nbest.proofs.Searches.{All-has, Has-map}
 use Rattle.fst_select.specs.declared.entry.Entry.{Entry}
-use Rattle.fst_select.specs.Entries.{AreEntries, IsEntry, entry_cmp, front_of, prefix_of, tail_of, total_cmp}
+use Rattle.fst_select.specs.declared.strings.StringWeight.{StringWeight}
+use Rattle.fst_select.specs.Entries.{AreEntries, CanCompare, IsEntry, entry_cmp, front_of, prefix_of, tail_of, total_cmp, words_of}
 use Rattle.fst_nbest.specs.Entries.{list_at}
 use Rattle.fst_select.specs.Frontier.{ComesFirst, Front, IsFrontier, IsKey, front_cmp}
 use Rattle.fst_select.specs.Outlook.{IsDue}
 use Rattle.fst_select.specs.Searching.{IsSearch, Waits, Walked}
-use Rattle.fst_select.specs.Strings.{AreFirstStrings, IsPlain, IsSpelled}
+use Rattle.fst_select.specs.Strings.{AreFirstStrings, IsPlain, IsSpelled, weighted}
 use Rattle.fst_select.specs.Tables.{ArePut, AreKeyed, IsClassBegun, StandFor}
 use Rattle.fst_select.proofs.EntryLists.{entries_append, entries_due, entries_listed, entries_more, entries_permuted, entries_split}
+use Rattle.fst_select.proofs.Moving.{no_heap}
 use Rattle.fst_select.proofs.Reorders.{frontier_permuted}
 use Rattle.fst_select.proofs.SearchFronts.{begins_nothing, begins_whole, first_strings}
 use Rattle.fst_select.proofs.Stricts.{strictly_before}
@@ -76,6 +84,12 @@ module _ {D : Type 0} (kind : ArcType) (g : Graph ℕ) (value : D → Cost) (due
       let all : AreEntries kind g value due words subsets (e ∷ es) (map (front_of value words) (e ∷ es)) = subst (AreEntries kind g value due words subsets (e ∷ es)) same h in
       All-cons own e es all.0 (entries_own words subsets es (map (front_of value words) es) all.1 refl)
 
+  -- entries that have fronts can be compared
+  pub entries_compare : (words : List (List ℕ)) (subsets : List (List Member)) (es : List (Entry D)) (fs : List Front) → AreEntries kind g value due words subsets es fs → All (CanCompare words) es
+  entries_compare words subsets [] fs h = All-nil (CanCompare words)
+  entries_compare words subsets (e ∷ es) [] h = absurd h
+  entries_compare words subsets (e ∷ es) (f ∷ fs) h = All-cons (CanCompare words) e es h.0.compare (entries_compare words subsets es fs h.1)
+
   -- what waits comes behind what is due
   waits_behind : (total other : Cost) → IsDue kind due total → Waits kind due other → cost_cmp total other ≡ Less
   waits_behind total other (inl cancel) w = absurd (w.uncancelling cancel)
@@ -107,6 +121,9 @@ module _ {D : Type 0} (kind : ArcType) (g : Graph ℕ) (value : D → Cost) (due
 
     pub rest_due : All Due rest
     rest_due = All-tail Due e rest all_due
+
+    pub rest_compare : All (CanCompare words) rest
+    rest_compare = All-weaker (Own words subsets) (CanCompare words) (λ x own. own.compare) rest rest_entries
 
     abbrev pub behind : List Front
     behind = map (front_of value words) rest ++ s.fronts
@@ -283,25 +300,27 @@ module _ {D : Type 0} (kind : ArcType) (g : Graph ℕ) (value : D → Cost) (due
 
 -- how a listing begins
 module _ {D : Type 0} (kind : ArcType) (g : Graph ℕ) (value : D → Cost) (due : Cost) where
-  -- a table of one, and one of none, is a heap
+  -- a table of one is a heap
   one_heap : {X : Type 0} (R : X → X → Ordering) (x : X) → IsHeap R (x ∷ [])
   one_heap R x d p c below low = absurd (omega (arith, below, low))
 
-  no_heap : {X : Type 0} (R : X → X → Ordering) → IsHeap R []
-  no_heap R d p c below low = absurd (omega (arith, low))
-
   -- where no string is there
-  pub nothing_listed : ((x : List ℕ) (v : Cost) → IsSpelled kind g x v → ⊥) → (subsets : List (List Member)) → IsSearch kind g value due [] [] subsets [] []
-  nothing_listed none subsets = record {
-    entries = All-nil (λ e. IsEntry kind g value due [] subsets e (front_of value [] e));
-    ready_due = All-nil (λ e. IsDue kind due (value e.total));
-    heap = no_heap (entry_cmp value []);
-    fronts = [];
-    waiting = tt;
-    worse = All-nil (λ e. Waits kind due (value e.total));
-    later_heap = no_heap (total_cmp value);
-    frontier = begins_nothing (IsSpelled kind g) none;
-  }
+  pub nothing_listed : ((x : List ℕ) (v : Cost) → IsSpelled kind g x v → ⊥) → (subsets : List (List Member)) (ready later : List (Entry D)) → ready ≡ [] → later ≡ []
+      → IsSearch kind g value due [] [] subsets ready later
+  nothing_listed none subsets ready later is_clear are_none =
+      subst (λ (es : List (Entry D)). IsSearch kind g value due [] [] subsets es later) (sym is_clear) (subst (λ (es : List (Entry D)). IsSearch kind g value due [] [] subsets [] es) (sym are_none) empty)
+    where
+      empty : IsSearch kind g value due [] [] subsets [] []
+      empty = record {
+        entries = All-nil (λ e. IsEntry kind g value due [] subsets e (front_of value [] e));
+        ready_due = All-nil (λ e. IsDue kind due (value e.total));
+        heap = no_heap (entry_cmp value []);
+        fronts = [];
+        waiting = tt;
+        worse = All-nil (λ e. Waits kind due (value e.total));
+        later_heap = no_heap (total_cmp value);
+        frontier = begins_nothing (IsSpelled kind g) none;
+      }
 
   -- with the prefix without labels
   pub root_listed : (e : Entry D) (members : List Member) → e.owner ≡ 0 → e.depth ≡ 0 → e.tail ≡ 0 → e.closed ≡ false → e.slot ≡ 0 → IsSubset kind g [] (value e.by) members
@@ -346,3 +365,40 @@ module _ {D : Type 0} (kind : ArcType) (g : Graph ℕ) (value : D → Cost) (due
       none : (fs : List Front) → AreEntries kind g value due words subsets [] fs → fs ≡ []
       none [] h = refl
       none (f ∷ fs) h = absurd h
+
+-- where a machine has no start it has no strings
+pub no_start : {N : Type 0} (kind : ArcType) (g : Graph N) → g.start ≡ None → (x : List ℕ) (v : Cost) → IsSpelled kind g x v → ⊥
+no_start kind g none x v h = let e : None ≡ Some h.0.first = sym none ∙ h.0.starts in cc
+
+-- the start, where its subset is none, and where it is some
+pub none_started : {V : Type 0} (kind : ArcType) (value : V → Cost) (m z : Machine V) (o : Option (List Member)) → o ≡ option_map (start_members kind) z.start → z ≡ m → o ≡ None → (graph_of (valued value m)).start ≡ None
+none_started kind value m z o is same none = ap (λ (y : Machine _). y.start) (sym same) ∙ unmapped z.start (sym is ∙ none)
+  where
+    unmapped : (s : Option ℕ) → option_map (start_members kind) s ≡ None → s ≡ None
+    unmapped None e = refl
+    unmapped (Some p) e = let wrong : Some (start_members kind p) ≡ None = e in cc
+
+pub root_subset : {V : Type 0} (kind : ArcType) (value : V → Cost) (m z : Machine V) (o : Option (List Member)) (members : List Member) (by : Cost) → o ≡ option_map (start_members kind) z.start → z ≡ m
+    → o ≡ Some members → by ≡ one_of kind → IsSubset kind (graph_of (valued value m)) [] by members
+root_subset kind value m z o members by is same some one =
+    let g = graph_of (valued value m) in
+    let starts = starts_there kind g members (ap (λ (y : Machine _). option_map (start_members kind) y.start) (sym same) ∙ (sym is ∙ some)) in
+    subst (λ (b : Cost). IsSubset kind g [] b members) (sym one) (subst (λ (s : List Member). IsSubset kind g [] (one_of kind) s) starts.2 (start_subset kind g starts.0 starts.1))
+
+-- one more listed string
+pub words_more : {V X : Type 0} (xs ys : List (StringWeight V X)) (s : StringWeight V X) → ys ≡ xs ++ s ∷ [] → words_of xs ++ s.word ∷ [] ≡ words_of ys
+words_more xs ys s is = sym (ap words_of is ∙ map-append (λ (t : StringWeight _ _). t.word) xs (s ∷ []))
+
+pub weighted_more : {V X : Type 0} (value : X → Cost) (xs ys : List (StringWeight V X)) (s : StringWeight V X) → ys ≡ xs ++ s ∷ [] → map (weighted value) xs ++ weighted value s ∷ [] ≡ map (weighted value) ys
+weighted_more value xs ys s is = sym (ap (map (weighted value)) is ∙ map-append (weighted value) xs (s ∷ []))
+
+-- an entry that is taken, if one is
+pub some_taken : {D : Type 0} (kind : ArcType) (g : Graph ℕ) (value : D → Cost) (due : Cost) (listed : List WeightedWord) (words : List (List ℕ)) (subsets : List (List Member)) (ready later rest : List (Entry D))
+    (o : Option (Entry D)) → IsSearch kind g value due listed words subsets ready later → TakesFirst (entry_cmp value words) ready o rest
+    → IfSome o (λ e. (es : List (Entry D)) × IsSearch kind g value due listed words subsets es later × FirstLeaves (entry_cmp value words) es e rest)
+some_taken kind g value due listed words subsets ready later rest None s t = tt
+some_taken kind g value due listed words subsets ready later rest (Some e) s t = (ready, s, t)
+
+pub on_ok_three : {X E P Q R S : Type 0} (r : Result X E) → (P → Q → R → S) → OnOk r P → OnOk r Q → OnOk r R → OnOk r S
+on_ok_three (Ok x) f p q t = f p q t
+on_ok_three (Err e) f p q t = tt

@@ -10,7 +10,8 @@ use Rattle.fst_select.specs.Parting.{AreParts}
 use Rattle.fst_select.proofs.StateCounts.{far}
 use Rattle.fst_select.proofs.Walks.{IsTakenApart, labels_left, labels_less, some_part, taken_apart, walk_begins, walk_ends, walk_long, walk_on}
 use Rattle.fst_select.proofs.walking.walk.Goals as goal
-use Rattle.fst_select.proofs.walking.walk.Goals.{Over, In_ok-put_parts, In_ok-put_label}
+use Rattle.fst_select.proofs.walking.walk.Given.{Over}
+use Rattle.fst_select.proofs.walking.walk.Goals.{In_ok-put_parts, In_ok-put_label}
 
 pub loop-core-init : goal.loop-core-init
 loop-core-init g c =
