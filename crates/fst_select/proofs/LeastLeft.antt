@@ -10,7 +10,7 @@ use Rattle.fst_semiring.specs.Semiring.{cancels, times}
 use Rattle.fst_semiring.proofs.Order.{plus_antisym, plus_trans}
 use Rattle.fst_machine.specs.BreadthFirst.{Has}
 use Rattle.fst_machine.specs.Distance.{Finishes}
-use Rattle.fst_machine.specs.Graph.{graph_of}
+use Rattle.fst_machine.specs.Graph.{Graph, graph_of}
 use Rattle.fst_machine.specs.Machine.{valued}
 use Rattle.fst_machine.proofs.Elements.{Has-append_cases, Has-append_left, Has-append_right}
 use Rattle.fst_determinize.specs.Subsets.{IsSubset, Member}
@@ -33,8 +33,8 @@ member_more : (members : List Member) (i : ℕ) (m : Member) → slice_get membe
 member_more members i m at = take_more members i m (slice_get_within members i m at) ∙ ap (λ (n : Member). take i members ++ n ∷ []) (get_or_from_slice_get members i m m at)
 
 -- the best total of members, with that of one more
-pub total_more : (kind : ArcType) (ahead : ℕ → Cost) (by : Cost) (members : List Member) (i : ℕ) (m : Member) (so_far own new : Cost) → slice_get members i ≡ Some m → so_far ≡ best_total kind ahead by (take i members)
-    → own ≡ times kind by (times kind m.residual (ahead m.state)) → new ≡ plus so_far own → new ≡ best_total kind ahead by (take (i + 1) members)
+pub total_more : (kind : ArcType) (ahead : ℕ → Cost) (by : Cost) (members : List Member) (i : ℕ) (m : Member) (so_far own new : Cost) → slice_get members i ≡ Some m
+    → so_far ≡ best_total kind ahead by (take i members) → own ≡ times kind by (times kind m.residual (ahead m.state)) → new ≡ plus so_far own → new ≡ best_total kind ahead by (take (i + 1) members)
 total_more kind ahead by members i m so_far own new at before made more =
     let weigh : Member → Cost = λ n. times kind by (times kind n.residual (ahead n.state)) in
     more ∙ (ap₂ plus before made ∙ (sym (best_push weigh (take i members) m) ∙ ap (best_by weigh) (sym (member_more members i m at))))
@@ -150,48 +150,54 @@ module _ (kind : ArcType) (d : ℕ → Cost) (by : Cost) (members : List Member)
 -- ---- what the program knows
 
 module _ {V D : Type 0} (kind : ArcType) (value : V → Cost) (wide : D → Cost) (o : OutlookAs V D) (is : IsOutlook kind value wide o) where
+  abbrev g : Graph ℕ
+  g = graph_of (valued value o.machine)
+
+  abbrev d : ℕ → Cost
+  d = dist_in wide o.dist
+
   -- the counts of a total that is due, where factors do not cancel
-  worst_counts : (other : cancels kind ≡ false) (total : Cost) → total ≢ infinite → total ≡ o.due → (q : ℕ) → plus (dist_in wide o.dist q) total ≡ dist_in wide o.dist q
-      → IsStateCount kind (graph_of (valued value o.machine)) (λ u. plus u total ≡ u) q (count_in o.count q)
+  worst_counts : (other : cancels kind ≡ false) (total : Cost) → total ≢ infinite → total ≡ o.due → (q : ℕ) → plus (d q) total ≡ d q
+      → IsStateCount kind g (λ u. plus u total ≡ u) q (count_in o.count q)
   worst_counts other total solid due q under =
-      let g = graph_of (valued value o.machine) in
-      let d = dist_in wide o.dist in
       let class = is.class other (λ e. solid (due ∙ e)) in
       let some = not_zero_below (d q) total under solid in
       let low = distant_low kind value wide (λ w. Unit {0}) o.machine o.dist is.measured q some in
       let done = (best_path kind g d is.measured.exact is.measured.firm q some).1 in
       let worst = not_cancelling kind other in
       let counted = class_state_count value (λ w. Unit {0}) o.machine is.weighed.machine o.due o.count class q low (d q)
-          (subst (λ (k : ArcType). Finishes k g q (d q)) worst done) (subst (λ (t : Cost). plus (d q) t ≡ d q) due under) in
+      (subst (λ (k : ArcType). Finishes k g q (d q)) worst done) (subst (λ (t : Cost). plus (d q) t ≡ d q) due under) in
       let size = class.size in
       let read : count_of o.count q ≡ count_in o.count q = get_or_default o.count q uncounted 0 (omega (arith, size, low)) in
       subst (λ (n : ℕ). IsStateCount kind g (λ u. plus u total ≡ u) q n) read
       (subst (λ (t : Cost). IsStateCount kind g (λ u. plus u t ≡ u) q (count_of o.count q)) (sym due)
       (subst (λ (k : ArcType). IsStateCount k g (λ u. plus u o.due ≡ u) q (count_of o.count q)) (sym worst) counted))
 
-  module _ (by : Cost) (members : List Member) (x : List ℕ) (sub : IsSubset kind (graph_of (valued value o.machine)) x by members) where
-    left_best : best_total kind (dist_in wide o.dist) by members ≢ infinite → IsDue kind o.due (best_total kind (dist_in wide o.dist) by members)
-        → (c : ℕ) → IsLeastTight kind (dist_in wide o.dist) by (best_total kind (dist_in wide o.dist) by members) (count_in o.count) members c
-        → IsShortest kind (graph_of (valued value o.machine)) by (best_total kind (dist_in wide o.dist) by members) members c
+  module _ (by : Cost) (members : List Member) (x : List ℕ) (sub : IsSubset kind g x by members) where
+    left_best : best_total kind d by members ≢ infinite → IsDue kind o.due (best_total kind d by members)
+        → (c : ℕ) → IsLeastTight kind d by (best_total kind d by members) (count_in o.count) members c → IsShortest kind g by (best_total kind d by members) members c
     left_best solid due c tight = part (cases_Bool (cancels kind))
       where
-        part : (cancels kind ≡ true) ⊎ (cancels kind ≡ false) → IsShortest kind (graph_of (valued value o.machine)) by (best_total kind (dist_in wide o.dist) by members) members c
+        fewest : IsFewest (count_in o.count) (λ m. IsTight kind d by (best_total kind d by members) m) members c
+        fewest = tight_fewest kind d by members solid (count_in o.count) c tight
+
+        due_one : IsDue kind o.due (best_total kind d by members) → cancels kind ≡ false → best_total kind d by members ≡ o.due
+        due_one (inl cancel) not = absurd (true≢false (sym cancel ∙ not))
+        due_one (inr same) not = same
+
+        part : (cancels kind ≡ true) ⊎ (cancels kind ≡ false) → IsShortest kind g by (best_total kind d by members) members c
         part (inl cancel) =
-            count_cancelling kind (graph_of (valued value o.machine)) is.weighed.weighted (dist_in wide o.dist) (far kind (graph_of (valued value o.machine)) (dist_in wide o.dist) is.measured.exact) x by members sub (count_in o.count) c cancel solid
-            (λ m there some. ready_counts kind value wide (λ w. Unit {0}) o.machine o.dist o.count (is.ready cancel) m.state some)
-            (tight_fewest kind (dist_in wide o.dist) by members solid (count_in o.count) c tight)
+            count_cancelling kind g is.weighed.weighted d (far kind g d is.measured.exact) x by members sub (count_in o.count) c cancel solid
+            (λ m there some. ready_counts kind value wide (λ w. Unit {0}) o.machine o.dist o.count (is.ready cancel) m.state some) fewest
         part (inr other) =
-            count_worst kind (graph_of (valued value o.machine)) is.weighed.weighted (dist_in wide o.dist) (far kind (graph_of (valued value o.machine)) (dist_in wide o.dist) is.measured.exact) x by members sub (count_in o.count) c other solid
-            (λ m there under. worst_counts other (best_total kind (dist_in wide o.dist) by members) solid (due_one due other) m.state under)
-            (worst_fewest kind (dist_in wide o.dist) by members solid other (count_in o.count) c (tight_fewest kind (dist_in wide o.dist) by members solid (count_in o.count) c tight))
-          where
-            due_one : IsDue kind o.due (best_total kind (dist_in wide o.dist) by members) → cancels kind ≡ false → best_total kind (dist_in wide o.dist) by members ≡ o.due
-            due_one (inl cancel) not = absurd (true≢false (sym cancel ∙ not))
-            due_one (inr same) not = same
+            count_worst kind g is.weighed.weighted d (far kind g d is.measured.exact) x by members sub (count_in o.count) c other solid
+            (λ m there under. worst_counts other (best_total kind d by members) solid (due_one due other) m.state under)
+            (worst_fewest kind d by members solid other (count_in o.count) c fewest)
 
     -- the least count of the tight members is the least number of labels left
-    pub left_shortest : (total : Cost) → total ≡ best_total kind (dist_in wide o.dist) by members → total ≢ infinite → IsDue kind o.due total
-        → (c : ℕ) → IsLeastTight kind (dist_in wide o.dist) by total (count_in o.count) members c → IsShortest kind (graph_of (valued value o.machine)) by total members c
+    pub left_shortest : (total : Cost) → total ≡ best_total kind d by members → total ≢ infinite → IsDue kind o.due total
+        → (c : ℕ) → IsLeastTight kind d by total (count_in o.count) members c → IsShortest kind g by total members c
     left_shortest total same solid due c tight =
-        subst (λ (t : Cost). IsShortest kind (graph_of (valued value o.machine)) by t members c) (sym same)
-        (left_best (λ e. solid (same ∙ e)) (subst (λ (t : Cost). IsDue kind o.due t) same due) c (subst (λ (t : Cost). IsLeastTight kind (dist_in wide o.dist) by t (count_in o.count) members c) same tight))
+        subst (λ (t : Cost). IsShortest kind g by t members c) (sym same)
+        (left_best (λ e. solid (same ∙ e)) (subst (λ (t : Cost). IsDue kind o.due t) same due) c
+        (subst (λ (t : Cost). IsLeastTight kind d by t (count_in o.count) members c) same tight))

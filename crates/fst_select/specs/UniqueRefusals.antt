@@ -1,6 +1,6 @@
 -- What a listing of strings says of its machine: why there is none, each cause where it is the first that holds, and what holds
 -- where there is one.
-use Rattle.std.specs.Prelude.{ℕ, Result, Ok, Err}
+use Rattle.std.specs.Prelude.{Result, Ok, Err}
 use Rattle.fst_semiring.specs.Cost.{Cost}
 use Rattle.fst_semiring.specs.declared.arc_type.ArcType.{ArcType}
 use Rattle.fst_machine.specs.Cycles.{IsUseful}

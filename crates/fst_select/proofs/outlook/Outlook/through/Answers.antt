@@ -14,7 +14,8 @@ modest g c = subst IsModest (sym (ap (λ (h : HeldAs g.row.W-Wide.Denot). g.W.We
 
 pub wide_times-rest-requires-clause-a_wide : goal.wide_times-rest-requires-clause-a_wide
 wide_times-rest-requires-clause-a_wide g c =
-    Within-more 332306998946228968225951765070086144 1329227995784915872903807060280344575 (g.W.Weight.wide_value c.member.inside.residual) (lit≤ tt) (modest g (goal.at.wide_times-rest-requires-clause-a_wide g c).After-distance)
+    Within-more 332306998946228968225951765070086144 1329227995784915872903807060280344575 (g.W.Weight.wide_value c.member.inside.residual) (lit≤ tt)
+    (modest g (goal.at.wide_times-rest-requires-clause-a_wide g c).After-distance)
 
 pub wide_times-rest-requires-clause-b_wide : goal.wide_times-rest-requires-clause-b_wide
 wide_times-rest-requires-clause-b_wide g c = Within-more most_distance 1329227995784915872903807060280344575 (g.W.Weight.wide_value c.distance.result) (lit≤ tt) c.distance.ensures.range

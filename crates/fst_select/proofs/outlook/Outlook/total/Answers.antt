@@ -16,10 +16,11 @@ through-requires-clause-modest g c = c.requires.members.modest (member_as g.W.We
 pub loop-place-preserved : goal.loop-place-preserved
 loop-place-preserved g c =
     let wide = g.W.Weight.wide_value in
-    total_more g.W.Weight.KIND (dist_in wide c.args.self.now.dist) (wide c.args.by) c.args.subset.now c.loop-place.place (member_as wide c.member_at-member.result) (wide c.loop-place.best) (wide c.through.result) _
-    c.member_at-member.ensures c.loop-place.invariant c.through.ensures c.wide_plus-best.ensures.sum
+    total_more g.W.Weight.KIND (dist_in wide c.args.self.now.dist) (wide c.args.by) c.args.subset.now c.loop-place.place (member_as wide c.member_at-member.result)
+    (wide c.loop-place.best) (wide c.through.result) _ c.member_at-member.ensures c.loop-place.invariant c.through.ensures c.wide_plus-best.ensures.sum
 
 pub returns : goal.returns
 returns g c =
     let wide = g.W.Weight.wide_value in
-    c.loop-place.invariant ∙ ap (best_total g.W.Weight.KIND (dist_in wide c.args.self.now.dist) (wide c.args.by)) (take_all c.loop-place.place c.args.subset.now (omega (arith, c.loop-place-test.false, c.loop-place.auto.place-end, c.len-place-end.ensures)))
+    let whole = take_all c.loop-place.place c.args.subset.now (omega (arith, c.loop-place-test.false, c.loop-place.auto.place-end, c.len-place-end.ensures)) in
+    c.loop-place.invariant ∙ ap (best_total g.W.Weight.KIND (dist_in wide c.args.self.now.dist) (wide c.args.by)) whole
