@@ -1,5 +1,5 @@
 -- There is one list of first strings; and their words differ, have labels of the machine and weights that are not Zero.
-use Rattle.std.proofs.Common.{◌≡◌, ◌⊎◌, inl, inr, ℕ, zero, suc, ◌≤◌, List, [], ◌∷◌, Some, length, map, slice_get, sym, refl, ap, ap₂, ◌∙◌, subst, Less, Equal, arith}
+use Rattle.std.proofs.Common.{◌≡◌, ◌⊎◌, inl, inr, ℕ, zero, suc, ◌≤◌, List, [], ◌∷◌, length, map, sym, refl, ap, ap₂, ◌∙◌, subst, Less, Equal, arith}
 use Rattle.std.specs.List.{All}
 use Rattle.std.proofs.lemmas.Cmp.{tied_itself}
 use Rattle.std.proofs.lemmas.List.Elements.{All-cons, All-nil}
@@ -119,7 +119,7 @@ module _ {N : Type 0} (kind : ArcType) (g : Graph N) where
             let t = Has-map (λ (t : StringWeight W D). t.word) strings s.word has in
             let there = map_Has (weighted value) strings t.0 t.1 in
             let same : weighted value s ≡ weighted value t.0 =
-                same_string (weighted value s) (weighted value t.0) (weighs (weighted value s) (inl refl)) (weighs (weighted value t.0) (inr there)) (sym t.2) in
+            same_string (weighted value s) (weighted value t.0) (weighs (weighted value s) (inl refl)) (weighs (weighted value t.0) (inr there)) (sym t.2) in
             not_before_itself (weighted value s) (subst (λ (z : WeightedWord). word_cmp (weighted value s) z ≡ Less) (sym same) (ascends.0 (weighted value t.0) there))
 
     -- no word is listed twice
@@ -154,7 +154,7 @@ module _ (kind : ArcType) (m : Machine Cost) (good : IsMachine (λ (v : Cost). v
     labels_known (s ∷ strings) weighs =
         let r = (weighs (weighted value s) (inl refl)).reached in
         let own : All (λ l. (1 ≤ l) × (l ≤ greatest_label)) s.word = Has_All (λ l. (1 ≤ l) × (l ≤ greatest_label)) s.word
-            (λ l has. string_label r.says.path r.first r.says.last r.says.leads l (subst (λ (word : List ℕ). Has word l) r.says.reads has)) in
+        (λ l has. string_label r.says.path r.first r.says.last r.says.leads l (subst (λ (word : List ℕ). Has word l) r.says.reads has)) in
         All-cons (λ (t : StringWeight W D). All (λ l. (1 ≤ l) × (l ≤ greatest_label)) t.word) s strings own (labels_known strings (λ a h. weighs a (inr h)))
 
     -- the labels of listed words are those of arcs, and not 0
