@@ -1,5 +1,5 @@
 -- The machine of listed strings: what it relates, and the least state in which a weight is out of range.
-use Rattle.std.proofs.Common.{◌≡◌, ◌≢◌, ◌↔◌, ◌⊎◌, inl, inr, ℕ, ◌+◌, ◌<◌, ◌≤◌, zero, suc, List, [], ◌∷◌, Option, None, Some, length, map, min, drop, slice_get, refl, sym, ap, ap₂, subst, ◌∙◌, arith}
+use Rattle.std.proofs.Common.{◌≡◌, ◌≢◌, ◌↔◌, ◌⊎◌, inl, inr, ℕ, ◌+◌, ◌<◌, ◌≤◌, zero, suc, List, [], ◌∷◌, Option, None, Some, length, map, min, drop, slice_get, refl, sym, ap, subst, ◌∙◌, arith}
 use Rattle.std.proofs.Math.Nat.{min-eq_left, min-eq_right, min-le_left, min-le_right}
 use Rattle.std.specs.List.{All}
 use Rattle.std.specs.Option.{IfSome, IfNone, MatchOption}
@@ -24,7 +24,7 @@ use Rattle.fst_determinize.proofs.Elements.{Has_map, map_Has}
 use Rattle.fst_determinize.proofs.Runs.{All_Has}
 use Rattle.fst_nbest.specs.Chains.{Chain, AreLetters, HaveLetters, chain_at, chained, letter_at}
 use Rattle.fst_nbest.specs.Words.{WeightedWord}
-use Rattle.fst_nbest.proofs.Chained.{EndAlike, EndsAs, SayChains, SaysChain, chained_say}
+use Rattle.fst_nbest.proofs.Chained.{EndAlike, EndsAs, SayChains, chained_say}
 use Rattle.fst_nbest.proofs.Remaining.{drop_at}
 use Rattle.fst_select.specs.StringChains.{EndsOut, IsLeastEnd, end_state, label_letter, lesser, string_chain}
 use Rattle.fst_select.specs.Strings.{labels_listed, weighted}

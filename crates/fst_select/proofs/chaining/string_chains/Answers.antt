@@ -1,4 +1,4 @@
-use Rattle.std.proofs.Common.{map, arith}
+use Rattle.std.proofs.Common.{map}
 use Rattle.fst_machine.specs.Machine.{valued}
 use Rattle.fst_select.specs.Strings.{weighted}
 use Rattle.fst_select.proofs.StringChains.{have_letters, none_out, relates_listed}

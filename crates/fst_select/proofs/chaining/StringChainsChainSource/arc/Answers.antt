@@ -1,6 +1,5 @@
-use Rattle.std.proofs.Common.{sym, ap, arith, ◌∙◌}
+use Rattle.std.proofs.Common.{ap, arith, ◌∙◌}
 use Rattle.fst_semiring.specs.Cost.{Cost}
-use Rattle.fst_machine.specs.Letters.{Letter}
 use Rattle.fst_select.proofs.StringChains.{count_seen, letter_seen, string_low}
 use Rattle.fst_select.proofs.chaining.StringChainsChainSource.arc.Goals as goal
 
