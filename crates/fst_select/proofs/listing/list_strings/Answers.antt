@@ -28,14 +28,14 @@ returns-in_default-clause-first g c =
     let due = c.next_entry.new.outlook.due in
     let there : IsSearch w.KIND (graph_of (valued w.value c.strings.outlook.machine)) w.wide_value due listed words subsets [] []
           = subst (λ (o : Option (Entry g.row.W-Wide.Denot)). IfNone o (IsSearch w.KIND (graph_of (valued w.value c.strings.outlook.machine)) w.wide_value due listed words subsets [] [])) c.in_default.is c.in_ok-entry.ensures.none in
-    let here = subst (λ (z : Machine g.row.W.Denot). IsSearch w.KIND (graph_of (valued w.value z)) w.wide_value due listed words subsets [] []) c.strings.invariant.machine there in
+    let here = subst (λ (z : Machine g.row.W.Denot). IsSearch w.KIND (graph_of (valued w.value z)) w.wide_value due listed words subsets [] []) (c.strings.invariant.machine ∙ c.in_ok-table.ensures.machine) there in
     all_listed w.KIND (graph_of (valued w.value c.args.outlook.now.machine)) w.wide_value due c.requires.plain listed words subsets c.args.n
     (omega (arith, c.strings.invariant.few, length-map c.strings.listed (weighted w.wide_value))) here
 
 pub list_one-requires-clause-plain : goal.list_one-requires-clause-plain
 list_one-requires-clause-plain g c =
     let w = g.W.Weight in
-    subst (λ (z : Machine g.row.W.Denot). IsPlain (graph_of (valued w.value z))) (sym (c.in_ok-entry.ensures.machine ∙ c.strings.invariant.machine)) c.requires.plain
+    subst (λ (z : Machine g.row.W.Denot). IsPlain (graph_of (valued w.value z))) (sym (c.in_ok-entry.ensures.machine ∙ (c.strings.invariant.machine ∙ c.in_ok-table.ensures.machine))) c.requires.plain
 
 pub list_one-requires-clause-taken : goal.list_one-requires-clause-taken
 list_one-requires-clause-taken g c =
@@ -66,6 +66,8 @@ strings-preserved g c =
 pub returns-clause-first : goal.returns-clause-first
 returns-clause-first g c =
     let w = g.W.Weight in
+    let s = subst (λ (z : Machine g.row.W.Denot). IsSearch w.KIND (graph_of (valued w.value z)) w.wide_value c.strings.outlook.due (map (weighted w.wide_value) c.strings.listed) (words_of c.strings.listed)
+        c.strings.subsets.items c.strings.table.ready.items c.strings.table.later.items) c.in_ok-table.ensures.machine c.strings.invariant.search in
     full_listed w.KIND (graph_of (valued w.value c.args.outlook.now.machine)) w.wide_value c.strings.outlook.due c.requires.plain (map (weighted w.wide_value) c.strings.listed) (words_of c.strings.listed)
     c.strings.subsets.items c.args.n c.strings.table.ready.items c.strings.table.later.items
-    (omega (arith, c.strings.invariant.few, c.strings-test.false, c.len.ensures, length-map c.strings.listed (weighted w.wide_value))) c.strings.invariant.search
+    (omega (arith, c.strings.invariant.few, c.strings-test.false, c.len.ensures, length-map c.strings.listed (weighted w.wide_value))) s
