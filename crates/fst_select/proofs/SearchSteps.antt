@@ -221,9 +221,12 @@ module _ {D : Type 0} (kind : ArcType) (g : Graph ℕ) (value : D → Cost) (due
 
           front : (f : Front) × Has (firsts.0 ++ seconds.0) f × IsEntry kind g value due more new x f
           front =
-              let at = entry_front more new put.others parts.1 x parts.4 there in
-              (at.0, Has-permutation (firsts.0 ++ seconds.0) (w.fronts ++ behind) at.0 (IsPermutation-sym (w.fronts ++ behind) (firsts.0 ++ seconds.0) fronts_now)
-                  (Has-append_left w.fronts behind at.0 (Has-permutation w.fronts (parts.0 ++ parts.1) at.0 (subst (IsPermutation w.fronts) parts.2 lefts.1) (Has-append_right parts.0 parts.1 at.0 at.1))), at.2)
+              let at = entry_front more new put.others parts.1 x parts.4 there in (
+                at.0,
+                Has-permutation (firsts.0 ++ seconds.0) (w.fronts ++ behind) at.0 (IsPermutation-sym (w.fronts ++ behind) (firsts.0 ++ seconds.0) fronts_now)
+                    (Has-append_left w.fronts behind at.0 (Has-permutation w.fronts (parts.0 ++ parts.1) at.0 (subst (IsPermutation w.fronts) parts.2 lefts.1) (Has-append_right parts.0 parts.1 at.0 at.1))),
+                at.2,
+              )
 
           found_due : found.weight ≡ due
           found_due = by (taken_due)

@@ -113,10 +113,11 @@ module _ {D : Type 0} (kind : ArcType) (g : Graph ℕ) (value : D → Cost) (due
       covers listed es f c =
           let before = w.covers listed es f c in
           let parts = parts_open (IsSpelled kind g) listed (front_at word core) (w.fronts ++ es) (front_at (word ++ tail_of first.tail) first) p.fronts before.0 before.1 p.parted in
-          let moved = turned p.fronts w.fronts es in
-          (frontier_permuted (IsSpelled kind g) listed (front_at (word ++ tail_of first.tail) first ∷ (p.fronts ++ (w.fronts ++ es))) (front_at (word ++ tail_of first.tail) first ∷ ((w.fronts ++ p.fronts) ++ es))
-              (IsPermutation-cons (front_at (word ++ tail_of first.tail) first) (p.fronts ++ (w.fronts ++ es)) ((w.fronts ++ p.fronts) ++ es) moved) parts.0,
-          λ f there. parts.1 f (Has-permutation (p.fronts ++ (w.fronts ++ es)) ((w.fronts ++ p.fronts) ++ es) f moved there))
+          let moved = turned p.fronts w.fronts es in (
+            frontier_permuted (IsSpelled kind g) listed (front_at (word ++ tail_of first.tail) first ∷ (p.fronts ++ (w.fronts ++ es))) (front_at (word ++ tail_of first.tail) first ∷ ((w.fronts ++ p.fronts) ++ es))
+                (IsPermutation-cons (front_at (word ++ tail_of first.tail) first) (p.fronts ++ (w.fronts ++ es)) ((w.fronts ++ p.fronts) ++ es) moved) parts.0,
+            λ f there. parts.1 f (Has-permutation (p.fronts ++ (w.fronts ++ es)) ((w.fronts ++ p.fronts) ++ es) f moved there),
+          )
 
       next : IsWalking words old new entry first (left ++ others) (word ++ tail_of first.tail)
       next = record {
@@ -190,7 +191,7 @@ module _ {D : Type 0} (kind : ArcType) (g : Graph ℕ) (value : D → Cost) (due
       let p = parted kind g weighted plain d far due value word (length words) (length word) (words ++ word ∷ []) now parts h refl few begins within (front_at word core) refl is_open key ready first others moved least in
       let there : Has parts first = Has-permutation parts (first ∷ others) first moved (inl refl) in
       let same : prefix_of (words ++ word ∷ []) first ≡ word ++ tail_of first.tail
-            = prefix_of_part kind g weighted plain d far due value word (length words) (length word) (words ++ word ∷ []) now parts h refl few begins within first there in
+      = prefix_of_part kind g weighted plain d far due value word (length words) (length word) (words ++ word ∷ []) now parts h refl few begins within first there in
       record {
         subset = λ open_one. let s = p.first.subset open_one in (s.0, s.1, subst (λ (x : List ℕ). IsSubset kind g x (value first.by) s.0) same s.2);
         label = λ open_one. by_part begins within open_one (h.each first there);

@@ -49,6 +49,8 @@ pub fn unique_nbest<W: SubsetWeight, L: Ledger>(
     ensures labels { IfOk result (λ strings. All (λ s. All (λ l. (1 ≤ l) × (l ≤ greatest_label)) s.word) strings) }
     ensures exact { IsSettled W.KIND (valued W.value fst.now) result }
 {
+    // What holds of the machine.
+    let _states = fst.states();
     if let Some(fault) = unfit(fst) {
         return Err(fault);
     }

@@ -42,7 +42,7 @@ returns-then-is_zero_wide-clause-search g c =
     let none = c.is_zero_wide.ensures.zero.0 c.if-is_zero_wide.true in
     nothing_listed w.KIND graph w.wide_value o.due
     (λ x v h. open_solid w.KIND graph c.machine.ensures.weighed.weighted (dist_in w.wide_value o.dist) (far w.KIND graph (dist_in w.wide_value o.dist) c.machine.ensures.known.measured.exact)
-        [] (w.wide_value c.widen-one.result) c.in-Some.subset is x v h.0 (sym c.total-total.ensures ∙ none))
+    [] (w.wide_value c.widen-one.result) c.in-Some.subset is x v h.0 (sym c.total-total.ensures ∙ none))
     c.args.subsets.now.items c.new.result.items c.new-2.result.items c.new.ensures.items c.new-2.ensures.items
 
 pub left-left-requires-clause-members : goal.left-left-requires-clause-members
@@ -74,7 +74,7 @@ returns-clause-search g c =
     subst (λ (t : Cost). IsKey (IsSpelled w.KIND graph) (record { prefix = []; closed = false; total = t; long = c.left-left.result })) (sym total)
     (subst (λ (n : ℕ). IsKey (IsSpelled w.KIND graph) (record { prefix = []; closed = false; total = best_total w.KIND d by members; long = n })) (omega arith)
     (open_key w.KIND graph c.machine.ensures.weighed.weighted d (far w.KIND graph d c.machine.ensures.known.measured.exact) [] by members is c.left-left.result solid
-        (subst (λ (t : Cost). IsShortest w.KIND graph by t members c.left-left.result) total short))) in
+    (subst (λ (t : Cost). IsShortest w.KIND graph by t members c.left-left.result) total short))) in
     let subsets : members ∷ [] ≡ c.push.new.self.items = sym (c.in_ok-push.ensures.items ∙ ap (λ (l : List (List Member)). l ++ members ∷ []) c.requires.clear) in
     let ready : entry ∷ [] ≡ c.push-2.new.self.items = sym (c.in_ok-push-2.ensures.items ∙ ap (λ (l : List (Entry g.row.W-Wide.Denot)). l ++ entry ∷ []) c.new.ensures.items) in
     subst (λ (es : List (Entry g.row.W-Wide.Denot)). IsSearch w.KIND graph w.wide_value due [] [] c.push.new.self.items c.push-2.new.self.items es) (sym c.new-2.ensures.items)

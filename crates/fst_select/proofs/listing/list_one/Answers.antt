@@ -78,6 +78,6 @@ returns-clause-search g c =
     subst (λ (ls : List WeightedWord). IsSearch w.KIND graph w.wide_value o.due ls (words_of c.push.new.self) c.walk.new.subsets.items c.put_left.new.table.ready.items c.put_left.new.table.later.items) same_listed
     (subst (λ (ws : List (List ℕ)). IsSearch w.KIND graph w.wide_value o.due (listed ++ found ∷ []) ws c.walk.new.subsets.items c.put_left.new.table.ready.items c.put_left.new.table.later.items) same_words
     (listed_on w.KIND graph w.wide_value o.due listed words c.args.subsets.now.items t.0 c.args.table.now.later.items c.args.table.now.ready.items c.args.entry t.1 t.2
-        c.walk.new.subsets.items c.walk.new.left.items c.put_left.new.table.ready.items c.put_left.new.table.later.items found c.in_ok-found.ensures.walked put
-        (subst (λ (ws : List (List ℕ)). IsHeap (entry_cmp w.wide_value ws) c.put_left.new.table.ready.items) (sym same_words) heap) later)))
+    c.walk.new.subsets.items c.walk.new.left.items c.put_left.new.table.ready.items c.put_left.new.table.later.items found c.in_ok-found.ensures.walked put
+    (subst (λ (ws : List (List ℕ)). IsHeap (entry_cmp w.wide_value ws) c.put_left.new.table.ready.items) (sym same_words) heap) later)))
     c.put_left.ensures.put c.put_left.ensures.ready c.put_left.ensures.later

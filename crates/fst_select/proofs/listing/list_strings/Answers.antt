@@ -27,7 +27,7 @@ returns-in_default-clause-first g c =
     let subsets = c.strings.subsets.items in
     let due = c.next_entry.new.outlook.due in
     let there : IsSearch w.KIND (graph_of (valued w.value c.strings.outlook.machine)) w.wide_value due listed words subsets [] []
-          = subst (λ (o : Option (Entry g.row.W-Wide.Denot)). IfNone o (IsSearch w.KIND (graph_of (valued w.value c.strings.outlook.machine)) w.wide_value due listed words subsets [] [])) c.in_default.is c.in_ok-entry.ensures.none in
+    = subst (λ (o : Option (Entry g.row.W-Wide.Denot)). IfNone o (IsSearch w.KIND (graph_of (valued w.value c.strings.outlook.machine)) w.wide_value due listed words subsets [] [])) c.in_default.is c.in_ok-entry.ensures.none in
     let here = subst (λ (z : Machine g.row.W.Denot). IsSearch w.KIND (graph_of (valued w.value z)) w.wide_value due listed words subsets [] []) (c.strings.invariant.machine ∙ c.in_ok-table.ensures.machine) there in
     all_listed w.KIND (graph_of (valued w.value c.args.outlook.now.machine)) w.wide_value due c.requires.plain listed words subsets c.args.n
     (omega (arith, c.strings.invariant.few, length-map c.strings.listed (weighted w.wide_value))) here
@@ -47,9 +47,9 @@ list_one-requires-clause-taken g c =
     let later = c.next_entry.new.table.later.items in
     let rest = c.next_entry.new.table.ready.items in
     let some = subst (λ (o : Option (Entry g.row.W-Wide.Denot)). IfSome o (λ entry. (ready : List (Entry g.row.W-Wide.Denot))
-        × IsSearch w.KIND (graph_of (valued w.value c.strings.outlook.machine)) w.wide_value due listed words subsets ready later × FirstLeaves (entry_cmp w.wide_value words) ready entry rest)) c.in-Some.is c.in_ok-entry.ensures.some in
+    × IsSearch w.KIND (graph_of (valued w.value c.strings.outlook.machine)) w.wide_value due listed words subsets ready later × FirstLeaves (entry_cmp w.wide_value words) ready entry rest)) c.in-Some.is c.in_ok-entry.ensures.some in
     subst (λ (z : Machine g.row.W.Denot). (ready : List (Entry g.row.W-Wide.Denot)) × IsSearch w.KIND (graph_of (valued w.value z)) w.wide_value due listed words subsets ready later
-        × FirstLeaves (entry_cmp w.wide_value words) ready c.in-Some.entry rest) (sym c.in_ok-entry.ensures.machine) some
+    × FirstLeaves (entry_cmp w.wide_value words) ready c.in-Some.entry rest) (sym c.in_ok-entry.ensures.machine) some
 
 pub strings-preserved : goal.strings-preserved
 strings-preserved g c =
@@ -67,7 +67,7 @@ pub returns-clause-first : goal.returns-clause-first
 returns-clause-first g c =
     let w = g.W.Weight in
     let s = subst (λ (z : Machine g.row.W.Denot). IsSearch w.KIND (graph_of (valued w.value z)) w.wide_value c.strings.outlook.due (map (weighted w.wide_value) c.strings.listed) (words_of c.strings.listed)
-        c.strings.subsets.items c.strings.table.ready.items c.strings.table.later.items) c.in_ok-table.ensures.machine c.strings.invariant.search in
+    c.strings.subsets.items c.strings.table.ready.items c.strings.table.later.items) c.in_ok-table.ensures.machine c.strings.invariant.search in
     full_listed w.KIND (graph_of (valued w.value c.args.outlook.now.machine)) w.wide_value c.strings.outlook.due c.requires.plain (map (weighted w.wide_value) c.strings.listed) (words_of c.strings.listed)
     c.strings.subsets.items c.args.n c.strings.table.ready.items c.strings.table.later.items
     (omega (arith, c.strings.invariant.few, c.strings-test.false, c.len.ensures, length-map c.strings.listed (weighted w.wide_value))) s

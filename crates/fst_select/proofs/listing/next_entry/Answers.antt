@@ -32,5 +32,5 @@ returns-clause-some g c =
     (c.in_ok-begin_class.ensures.fronts c.if-not-branch.false s.fronts (waiting_keyed w.KIND graph w.wide_value o.due next listed words subsets later ready behind s)) in
     let on = class_on w.KIND graph w.wide_value o.due next listed words subsets later ready behind s (c.in_ok-begin_class.ensures.begun c.if-not-branch.false) stands in
     subst (λ (es : List (Entry g.row.W-Wide.Denot)). IfSome c.take_ready-2.result (λ entry. (xs : List (Entry g.row.W-Wide.Denot)) × IsSearch w.KIND graph w.wide_value next listed words subsets xs es
-        × FirstLeaves (entry_cmp w.wide_value words) xs entry c.take_ready-2.new.table.ready.items)) (sym (ap (λ v. v.items) c.take_ready-2.ensures.later))
+    × FirstLeaves (entry_cmp w.wide_value words) xs entry c.take_ready-2.new.table.ready.items)) (sym (ap (λ v. v.items) c.take_ready-2.ensures.later))
     (some_taken w.KIND graph w.wide_value next listed words subsets ready behind c.take_ready-2.new.table.ready.items c.take_ready-2.result on c.take_ready-2.ensures.taken)
