@@ -1,5 +1,5 @@
 -- A listing on its way: an entry is taken, its string is listed, and what it leaves is put into the table.
-use Rattle.std.proofs.Common.{◌≡◌, ◌⊎◌, inl, inr, ℕ, ◌+◌, ◌<◌, ◌≤◌, Bool, true, false, List, [], ◌∷◌, ◌++◌, length, map, slice_get, take, refl, sym, ap, ap₂, subst, ◌∙◌, append_assoc, arith}
+use Rattle.std.proofs.Common.{◌≡◌, ◌⊎◌, inl, inr, ℕ, ◌<◌, ◌≤◌, Bool, true, false, List, [], ◌∷◌, ◌++◌, length, map, slice_get, take, refl, sym, ap, ap₂, subst, ◌∙◌, append_assoc, arith}
 use Rattle.std.proofs.Common.{Less, Equal, Greater, Ordering, Option, None, Some, Ok, Err}
 use Rattle.std.specs.Ordering.{is_gt, ordering_then}
 use Rattle.std.specs.List.{All}

@@ -1,6 +1,5 @@
-use Rattle.std.proofs.Common.{◌≡◌, ◌<◌, ℕ, false, length, sym, ap, subst, ◌∙◌, arith}
+use Rattle.std.proofs.Common.{◌≡◌, ℕ, length, sym, ap, subst, ◌∙◌, arith}
 use Rattle.std.proofs.lemmas.List.{length-append, length-map}
-use Rattle.fst_semiring.specs.Cost.{Cost}
 use Rattle.fst_machine.specs.Graph.{graph_of}
 use Rattle.fst_machine.specs.Machine.{valued}
 use Rattle.fst_nbest.specs.Ready.{dist_in}
@@ -8,7 +7,7 @@ use Rattle.fst_select.specs.Entries.{tail_of, words_of}
 use Rattle.fst_select.specs.Outlook.{IsDue}
 use Rattle.fst_select.specs.Parting.{AreParts}
 use Rattle.fst_select.proofs.StateCounts.{far}
-use Rattle.fst_select.proofs.Walks.{IsTakenApart, labels_left, labels_less, some_part, taken_apart, walk_begins, walk_ends, walk_long, walk_on}
+use Rattle.fst_select.proofs.Walks.{IsTakenApart, labels_less, some_part, taken_apart, walk_begins, walk_ends, walk_long, walk_on}
 use Rattle.fst_select.proofs.walking.walk.Goals as goal
 use Rattle.fst_select.proofs.walking.walk.Given.{Over}
 use Rattle.fst_select.proofs.walking.walk.Goals.{In_ok-put_parts, In_ok-put_label}

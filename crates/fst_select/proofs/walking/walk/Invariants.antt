@@ -2,7 +2,6 @@ use Rattle.std.proofs.Common.{◌≡◌, [], length}
 use Rattle.fst_machine.specs.Graph.{graph_of}
 use Rattle.fst_machine.specs.Machine.{valued}
 use Rattle.fst_select.specs.Entries.{words_of}
-use Rattle.fst_select.specs.Outlook.{IsDue}
 use Rattle.fst_select.proofs.Walks.{IsWalking, labels_left}
 use Rattle.fst_select.proofs.walking.walk.Given as goal
 
