@@ -83,7 +83,8 @@ module _ {V X : Type 0} (kind : ArcType) (value : X → Cost) where
   chains-length strings = length-map (map (weighted value) strings) (string_chain kind) ∙ length-map strings (weighted value)
 
   -- the chain of a string in its place, where the chains are known by another name
-  pub chain_seen : (strings : List (StringWeight V X)) (cs : List Chain) (i : ℕ) (s : StringWeight V X) → chains_of strings ≡ cs → slice_get strings i ≡ Some s → string_chain kind (weighted value s) ≡ chain_at cs i
+  pub chain_seen : (strings : List (StringWeight V X)) (cs : List Chain) (i : ℕ) (s : StringWeight V X) → chains_of strings ≡ cs → slice_get strings i ≡ Some s
+      → string_chain kind (weighted value s) ≡ chain_at cs i
   chain_seen strings cs i s is e =
       sym (get_or_from_slice_get (chains_of strings) i (string_chain kind (weighted value s)) (record { letters = []; last = infinite })
       (at_mapped (string_chain kind) (map (weighted value) strings) i (weighted value s) (at_mapped (weighted value) strings i s e)))
@@ -92,7 +93,8 @@ module _ {V X : Type 0} (kind : ArcType) (value : X → Cost) where
   pub string_low : (strings : List (StringWeight V X)) (cs : List Chain) (i : ℕ) → chains_of strings ≡ cs → i < length cs → i < length strings
   string_low strings cs i is low = let count : length (chains_of strings) ≡ length cs = ap length is in omega (arith, low, count, chains-length strings)
 
-  pub count_seen : (strings : List (StringWeight V X)) (cs : List Chain) (i : ℕ) (s : StringWeight V X) → chains_of strings ≡ cs → slice_get strings i ≡ Some s → length s.word ≡ length (chain_at cs i).letters
+  pub count_seen : (strings : List (StringWeight V X)) (cs : List Chain) (i : ℕ) (s : StringWeight V X) → chains_of strings ≡ cs → slice_get strings i ≡ Some s
+      → length s.word ≡ length (chain_at cs i).letters
   count_seen strings cs i s is e = sym (length-map s.word (label_letter kind)) ∙ ap (λ (c : Chain). length c.letters) (chain_seen strings cs i s is e)
 
   pub letter_seen : (strings : List (StringWeight V X)) (cs : List Chain) (i k l : ℕ) (s : StringWeight V X) → chains_of strings ≡ cs → slice_get strings i ≡ Some s → slice_get s.word k ≡ Some l
@@ -122,7 +124,8 @@ module _ {V X : Type 0} (kind : ArcType) (value : X → Cost) where
 
   -- ---- what the machine relates
 
-  module _ (strings : List (StringWeight V X)) (good : All (λ s. All IsLabel s.word) strings) (apart : Apart (map (λ s. s.word) strings)) (m : Machine Cost) (is : m ≡ chained (chains_of strings)) where
+  module _ (strings : List (StringWeight V X)) (good : All (λ s. All IsLabel s.word) strings) (apart : Apart (map (λ s. s.word) strings))
+      (m : Machine Cost) (is : m ≡ chained (chains_of strings)) where
     all_say : SayChains kind (chains_of strings) (graph_of m)
     all_say = let alike = ends_alike strings apart in subst (λ (n : Machine Cost). SayChains kind (chains_of strings) (graph_of n)) (sym is) (chained_say kind alike.0 (chains_of strings) alike.1)
 
@@ -133,7 +136,8 @@ module _ {V X : Type 0} (kind : ArcType) (value : X → Cost) where
     listed_from : (x y : List ℕ) (w : Cost) → Rel kind (graph_of m) x y w → (x ≡ y) × (w ≢ infinite) × Has (map (weighted value) strings) (record { word = x; weight = w })
     listed_from x y w r =
         let path = r.says.path in
-        let successful : IsSuccessful kind (graph_of m) path w = record { first = r.first; last = r.says.last; starts = r.starts; leads = r.says.leads; final = r.says.final; weight = r.says.weight } in
+        let successful : IsSuccessful kind (graph_of m) path w =
+        record { first = r.first; last = r.says.last; starts = r.starts; leads = r.says.leads; final = r.says.final; weight = r.says.weight } in
         let one = all_say.all path w successful in
         let from = map_Has (string_chain kind) (map (weighted value) strings) one.0 one.1 in
         let a = from.0 in
@@ -208,13 +212,15 @@ lesser_holds P s t one two = by (cases_lt s t)
     by (inr above) = subst P (sym (min-eq_right above)) two
 
 module _ (all rest : List WeightedWord) (a : WeightedWord) (labels : ℕ) where
-  ends_next : (least found : Option ℕ) → IsLeastBefore all (a ∷ rest) labels least → IfSome found (λ s. (s ≡ end_state labels a.word) × (InRange a.weight → ⊥)) → IfSome (lesser least found) (λ s. EndsOut 0 all s)
+  ends_next : (least found : Option ℕ) → IsLeastBefore all (a ∷ rest) labels least → IfSome found (λ s. (s ≡ end_state labels a.word) × (InRange a.weight → ⊥))
+      → IfSome (lesser least found) (λ s. EndsOut 0 all s)
   ends_next None None h some = tt
   ends_next None (Some t) h some = h.later t (inl some)
   ends_next (Some s) None h some = h.ends
   ends_next (Some s) (Some t) h some = lesser_holds (λ (n : ℕ). EndsOut 0 all n) s t h.ends (h.later t (inl some))
 
-  others_next : (least found : Option ℕ) (state : ℕ) → IfSome found (λ s. (s ≡ end_state labels a.word) × (InRange a.weight → ⊥)) → IfNone found (InRange a.weight) → AtMost least state ⊎ EndsOut labels (a ∷ rest) state
+  others_next : (least found : Option ℕ) (state : ℕ) → IfSome found (λ s. (s ≡ end_state labels a.word) × (InRange a.weight → ⊥)) → IfNone found (InRange a.weight)
+      → AtMost least state ⊎ EndsOut labels (a ∷ rest) state
       → AtMost (lesser least found) state ⊎ EndsOut (labels + length a.word) rest state
   others_next least found state some none (inl low) = inl (lesser_left least found state low)
   others_next least found state some none (inr (inr later)) = inr later
@@ -262,5 +268,6 @@ module _ {V X : Type 0} (value : X → Cost) (strings : List (StringWeight V X))
   labels_drop = ap (λ (ws : List WeightedWord). labels_listed ws) string_drop ∙ sum_by-cons (λ (a : WeightedWord). length a.word) (weighted value s) (drop (i + 1) (map (weighted value) strings))
 
 -- a string of those whose weights are in range
-pub string_fits : {V X : Type 0} (value : X → Cost) (strings : List (StringWeight V X)) (i : ℕ) (s : StringWeight V X) → slice_get strings i ≡ Some s → All Fits (map (weighted value) strings) → InRange (value s.weight)
+pub string_fits : {V X : Type 0} (value : X → Cost) (strings : List (StringWeight V X)) (i : ℕ) (s : StringWeight V X) → slice_get strings i ≡ Some s
+    → All Fits (map (weighted value) strings) → InRange (value s.weight)
 string_fits value strings i s e good = All_Has Fits (map (weighted value) strings) (weighted value s) good (Has_map (weighted value) strings s (at_Has strings i s e))

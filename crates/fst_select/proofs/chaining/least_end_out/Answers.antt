@@ -31,9 +31,11 @@ loop-i-preserved g c =
     let a = weighted value c.item-string.result.now in
     let rest = drop (c.loop-i.i + 1) strings in
     let more = labels_drop value c.args.strings.now c.loop-i.i c.item-string.result.now c.item-string.ensures in
+    let begins = string_drop value c.args.strings.now c.loop-i.i c.item-string.result.now c.item-string.ensures in
     let here : IsLeastBefore strings (a ∷ rest) c.loop-i.labels c.loop-i.least =
-    subst (λ (ws : List WeightedWord). IsLeastBefore strings ws c.loop-i.labels c.loop-i.least) (string_drop value c.args.strings.now c.loop-i.i c.item-string.result.now c.item-string.ensures) c.loop-i.invariant.least in
-    let next : IsLeastBefore strings rest (c.loop-i.labels + length a.word) (lesser c.loop-i.least c.end_out.result) = least_next strings rest a c.loop-i.labels c.loop-i.least c.end_out.result here c.end_out.ensures.out c.end_out.ensures.fits in
+    subst (λ (ws : List WeightedWord). IsLeastBefore strings ws c.loop-i.labels c.loop-i.least) begins c.loop-i.invariant.least in
+    let next : IsLeastBefore strings rest (c.loop-i.labels + length a.word) (lesser c.loop-i.least c.end_out.result) =
+    least_next strings rest a c.loop-i.labels c.loop-i.least c.end_out.result here c.end_out.ensures.out c.end_out.ensures.fits in
     record {
       counted = omega (arith, more, c.len.ensures);
       least =
@@ -45,4 +47,5 @@ pub returns : goal.returns
 returns g c =
     let strings = map (weighted g.W.Weight.wide_value) c.args.strings.now in
     let done : length strings ≤ c.loop-i.i = omega (arith, length-map c.args.strings.now (weighted g.W.Weight.wide_value)) in
-    least_ends strings c.loop-i.labels c.loop-i.least (subst (λ (ws : List WeightedWord). IsLeastBefore strings ws c.loop-i.labels c.loop-i.least) (drop_all c.loop-i.i strings done) c.loop-i.invariant.least)
+    least_ends strings c.loop-i.labels c.loop-i.least
+    (subst (λ (ws : List WeightedWord). IsLeastBefore strings ws c.loop-i.labels c.loop-i.least) (drop_all c.loop-i.i strings done) c.loop-i.invariant.least)

@@ -8,7 +8,8 @@ item-requires g c = string_low g.W.Weight.KIND g.W.Weight.wide_value c.self.insi
 
 pub returns : goal.returns
 returns g c =
-    c.in-Some.ensures.found ∙ ap (λ (d : Chain). d.last) (chain_seen g.W.Weight.KIND g.W.Weight.wide_value c.self.inside.strings.now c.args.self.now c.args.chain c.item.result.now c.self.view_is c.item.ensures)
+    c.in-Some.ensures.found
+    ∙ ap (λ (d : Chain). d.last) (chain_seen g.W.Weight.KIND g.W.Weight.wide_value c.self.inside.strings.now c.args.self.now c.args.chain c.item.result.now c.self.view_is c.item.ensures)
 
 pub unreachable-requires : goal.unreachable-requires
 unreachable-requires g c =
