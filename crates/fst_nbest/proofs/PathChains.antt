@@ -45,8 +45,7 @@ module _ (g : Graph ℕ) where
   pub path_low : (paths : List (List Step)) (cs : List Chain) (i : ℕ) → chains_of g paths ≡ cs → i < length cs → i < length paths
   path_low paths cs i is low = let count : length (chains_of g paths) ≡ length cs = ap length is in omega (arith, low, count, chains-length paths)
 
-  pub step_low : (paths : List (List Step)) (cs : List Chain) (i k : ℕ) (path : List Step) → chains_of g paths ≡ cs → slice_get paths i ≡ Some path
-      → k < length (chain_at cs i).letters → k < length path
+  pub step_low : (paths : List (List Step)) (cs : List Chain) (i k : ℕ) (path : List Step) → chains_of g paths ≡ cs → slice_get paths i ≡ Some path → k < length (chain_at cs i).letters → k < length path
   step_low paths cs i k path is e low =
       let count : length (chain_of g (written path)).letters ≡ length (chain_at cs i).letters = ap (λ (c : Chain). length c.letters) (chain_seen paths cs i path is e) in
       omega (arith, low, count, letters-count path)
@@ -76,8 +75,7 @@ module _ (g : Graph ℕ) where
   end_last p zero (t ∷ (u ∷ walk)) s e count = absurd (omega (arith, count))
   end_last p (suc i) (t ∷ walk) s e count = end_last (arc_at g t).next i walk s e (omega (arith, count))
 
-  pub last_is : (path : List Step) (i : ℕ) (s : Step) (w : Cost) → (g.start ≡ None → ⊥) → slice_get path i ≡ Some s → length path ≡ i + 1
-      → w ≡ g.final (arc_at g (s.state, s.place)).next → w ≡ (chain_of g (written path)).last
+  pub last_is : (path : List Step) (i : ℕ) (s : Step) (w : Cost) → (g.start ≡ None → ⊥) → slice_get path i ≡ Some s → length path ≡ i + 1 → w ≡ g.final (arc_at g (s.state, s.place)).next → w ≡ (chain_of g (written path)).last
   last_is path i s w starts e count is = by_start g.start refl
     where
       by_start : (o : Option ℕ) → g.start ≡ o → w ≡ (chain_of g (written path)).last

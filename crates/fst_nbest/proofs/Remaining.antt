@@ -2,7 +2,7 @@
 use Rattle.std.proofs.Common.{◌≡◌, ℕ, ◌+◌, ◌<◌, ◌≤◌, suc, List, [], ◌∷◌, ◌++◌, Some, length, map, drop, slice_get, refl, sym, ap, ap₂, ◌∙◌, append_assoc, arith}
 use Rattle.std.proofs.lemmas.Option.{get_or_from_slice_get, slice_get_within}
 use Rattle.std.proofs.lemmas.List.{map-append, drop_more, drop_all}
-use Rattle.std.proofs.lemmas.List.Sums.{sum_by-cons, sum_by-append}
+use Rattle.std.proofs.lemmas.List.Sums.{sum_by-append}
 use Rattle.fst_semiring.specs.Cost.{Cost, infinite}
 use Rattle.fst_machine.specs.Machine.{Arc, State, arc_total, valued_arc, valued_state}
 use Rattle.fst_machine.specs.Letters.{Letter, letter_of}
@@ -94,8 +94,7 @@ tail_more k n i last letters old new whole next low so_far put =
 module _ {V : Type 0} (value : V → Cost) where
   -- a state with one arc is put
   pub one_put : (old new : List (State V)) (z : V) (clear pushed arcs : List (Arc V ℕ)) (a : Arc V ℕ) (l : Letter) (k : ℕ) → value z ≡ infinite → clear ≡ []
-      → pushed ≡ clear ++ record { ilabel = a.ilabel; olabel = a.olabel; weight = a.weight; next = k } ∷ [] → arcs ≡ pushed → letter_of (valued_arc value a) ≡ l
-      → new ≡ old ++ record { final = z; arcs = arcs } ∷ []
+      → pushed ≡ clear ++ record { ilabel = a.ilabel; olabel = a.olabel; weight = a.weight; next = k } ∷ [] → arcs ≡ pushed → letter_of (valued_arc value a) ≡ l → new ≡ old ++ record { final = z; arcs = arcs } ∷ []
       → map (valued_state value) new ≡ map (valued_state value) old ++ record { final = infinite; arcs = lettered k l ∷ [] } ∷ []
   one_put old new z clear pushed arcs a l k blank none push same is put =
       let x : Arc V ℕ = record { ilabel = a.ilabel; olabel = a.olabel; weight = a.weight; next = k } in
@@ -110,25 +109,15 @@ module _ {V : Type 0} (value : V → Cost) where
       ap (map (valued_state value)) put ∙ (map-append (valued_state value) old (record { final = w; arcs = arcs } ∷ [])
       ∙ ap₂ (λ (v : Cost) (xs : List (Arc V ℕ)). map (valued_state value) old ++ record { final = v; arcs = map (valued_arc value) xs } ∷ []) is (same ∙ none))
 
-  -- it has one arc
-  pub one_room : (old new : List (State V)) (s : State Cost) → length s.arcs ≡ 1 → map (valued_state value) new ≡ map (valued_state value) old ++ s ∷ [] → arc_total new ≡ arc_total old + 1
-  one_room old new s single put =
-      let total : arc_total (map (valued_state value) new) ≡ arc_total (map (valued_state value) old ++ s ∷ []) = ap arc_total put in
-      let both = sum_by-append (λ (t : State Cost). length t.arcs) (map (valued_state value) old) (s ∷ []) in
-      let one = sum_by-cons (λ (t : State Cost). length t.arcs) s [] in
-      omega (arith, total, both, one, single, arc_total-valued value new, arc_total-valued value old)
-
   -- the states of a chain have no more arcs than it
-  pub own_room : (old new : List (State V)) (k n : ℕ) (last : Cost) (ls : List Letter) → length ls ≡ n
-      → map (valued_state value) new ≡ map (valued_state value) old ++ own_states k last ls → arc_total new ≤ arc_total old + n
+  pub own_room : (old new : List (State V)) (k n : ℕ) (last : Cost) (ls : List Letter) → length ls ≡ n → map (valued_state value) new ≡ map (valued_state value) old ++ own_states k last ls → arc_total new ≤ arc_total old + n
   own_room old new k n last ls count put =
       let total : arc_total (map (valued_state value) new) ≡ arc_total (map (valued_state value) old ++ own_states k last ls) = ap arc_total put in
       let both = sum_by-append (λ (t : State Cost). length t.arcs) (map (valued_state value) old) (own_states k last ls) in
       omega (arith, total, both, own-total k last ls, arc_total-valued value new, arc_total-valued value old, count)
 
   -- all but the last of a chain's states stand, and the last is put
-  pub tail_done : (old new : List (State V)) (k i : ℕ) (last : Cost) (ls : List Letter) (whole : List (State Cost)) → length ls ≤ i
-      → map (valued_state value) old ++ tail_states k last (drop i ls) ≡ whole
+  pub tail_done : (old new : List (State V)) (k i : ℕ) (last : Cost) (ls : List Letter) (whole : List (State Cost)) → length ls ≤ i → map (valued_state value) old ++ tail_states k last (drop i ls) ≡ whole
       → map (valued_state value) new ≡ map (valued_state value) old ++ record { final = last; arcs = [] } ∷ [] → map (valued_state value) new ≡ whole
   tail_done old new k i last ls whole done so_far put = put ∙ (ap (λ (ms : List Letter). map (valued_state value) old ++ tail_states k last ms) (sym (drop_all i ls done)) ∙ so_far)
 

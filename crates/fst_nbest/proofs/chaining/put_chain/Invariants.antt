@@ -7,8 +7,7 @@ abbrev pub invariant-loop-place : goal.invariant-loop-place
 invariant-loop-place g l =
     let c = chain_at (g.C.ChainSource.chains l.source) l.chain in
     record {
-      put : map (valued_state g.W.Weight.value) l.states ++ tail_states l.state c.last (drop l.place c.letters)
-          ≡ map (valued_state g.W.Weight.value) l.initial.states ++ own_states l.first c.last c.letters;
+      put : map (valued_state g.W.Weight.value) l.states ++ tail_states l.state c.last (drop l.place c.letters) ≡ map (valued_state g.W.Weight.value) l.initial.states ++ own_states l.first c.last c.letters;
       number : l.state + 1 ≡ l.first + l.place;
       room : arc_total l.states + 1 ≤ arc_total l.initial.states + l.place;
     }

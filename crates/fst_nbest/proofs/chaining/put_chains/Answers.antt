@@ -41,8 +41,8 @@ loop-chain-preserved g c =
     let more = count_drop cs c.loop-chain.chain low in
     let room = own_room value c.loop-chain.states c.put_chain.new.states c.loop-chain.first (length chain.letters) chain.last chain.letters refl c.in_ok-put_chain.ensures in
     record {
-      put = all_states_more cs c.loop-chain.chain low c.loop-chain.first c.letter_count.result (map (valued_state value) c.loop-chain.states)
-          (map (valued_state value) c.put_chain.new.states) _ c.letter_count.ensures c.loop-chain.invariant.put c.in_ok-put_chain.ensures;
+      put = all_states_more cs c.loop-chain.chain low c.loop-chain.first c.letter_count.result (map (valued_state value) c.loop-chain.states) (map (valued_state value) c.put_chain.new.states) _ c.letter_count.ensures
+          c.loop-chain.invariant.put c.in_ok-put_chain.ensures;
       counted = omega (arith, more, c.letter_count.ensures, c.loop-chain.invariant.counted);
       room = omega (arith, more, room, c.loop-chain.invariant.room);
     }

@@ -10,9 +10,7 @@ pub returns-then-letter_count-eq0 : goal.returns-then-letter_count-eq0
 returns-then-letter_count-eq0 g c =
     let value = g.W.Weight.value in
     let chain = chain_at (g.C.ChainSource.chains c.args.source.now) c.args.chain in
-    let own = map (valued_arc value) c.args.own.now.items in
-    let none = first_arc_none c.args.next chain.letters (sym c.letter_count.ensures ∙ c.if-letter_count-eq0.true) in
-    sym (append-nil own) ∙ ap (λ (arcs : List (Arc Cost ℕ)). own ++ arcs) (sym none)
+    sym (append-nil (map (valued_arc value) c.args.own.now.items)) ∙ ap (λ (arcs : List (Arc Cost ℕ)). map (valued_arc value) c.args.own.now.items ++ arcs) (sym (first_arc_none c.args.next chain.letters (sym c.letter_count.ensures ∙ c.if-letter_count-eq0.true)))
 
 pub returns : goal.returns
 returns g c =

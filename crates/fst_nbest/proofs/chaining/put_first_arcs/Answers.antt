@@ -24,7 +24,7 @@ loop-chain-preserved g c =
     let low : c.loop-chain.chain < length cs = omega arith in
     let more = count_drop cs c.loop-chain.chain low in
     record {
-      put = first_arcs_more cs c.loop-chain.chain low c.loop-chain.next c.letter_count.result (map (valued_arc value) c.loop-chain.own.items)
-          (map (valued_arc value) c.put_first_arc.new.own.items) _ c.letter_count.ensures c.loop-chain.invariant.put c.in_ok-put_first_arc.ensures;
+      put = first_arcs_more cs c.loop-chain.chain low c.loop-chain.next c.letter_count.result (map (valued_arc value) c.loop-chain.own.items) (map (valued_arc value) c.put_first_arc.new.own.items) _ c.letter_count.ensures
+          c.loop-chain.invariant.put c.in_ok-put_first_arc.ensures;
       counted = omega (arith, more);
     }

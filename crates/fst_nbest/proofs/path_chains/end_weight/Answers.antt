@@ -16,8 +16,7 @@ returns-then-len-gt0 g c =
     let value = g.W.Weight.value in
     let graph = graph_of (valued value c.args.fst.now) in
     last_is graph c.args.path.now (c.len-len.result - 1) c.item.result.now (value c.final_weight.result) (walk_starts graph (written c.args.path.now) c.requires) c.item.ensures (omega arith)
-    (valued_final value c.args.fst.now c.end.inside.next c.final_weight.result c.final_weight.ensures
-    ∙ ap (λ (a : Arc _ ℕ). graph.final a.next) (ap (valued_arc value) c.end.view_is ∙ c.step_arc-end.ensures.value))
+    (valued_final value c.args.fst.now c.end.inside.next c.final_weight.result c.final_weight.ensures ∙ ap (λ (a : Arc _ ℕ). graph.final a.next) (ap (valued_arc value) c.end.view_is ∙ c.step_arc-end.ensures.value))
 
 pub returns-in-Some : goal.returns-in-Some
 returns-in-Some g c =

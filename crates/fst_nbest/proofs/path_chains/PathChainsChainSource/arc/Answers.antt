@@ -12,15 +12,13 @@ item-requires g c = path_low (graph_of (valued g.W.Weight.value c.self.inside.fs
 
 pub item-requires-2 : goal.item-requires-2
 item-requires-2 g c =
-    step_low (graph_of (valued g.W.Weight.value c.self.inside.fst.now)) c.self.inside.paths.now c.args.self.now c.args.chain c.args.place c.item.result.now
-    c.self.view_is c.item.ensures c.requires.place
+    step_low (graph_of (valued g.W.Weight.value c.self.inside.fst.now)) c.self.inside.paths.now c.args.self.now c.args.chain c.args.place c.item.result.now c.self.view_is c.item.ensures c.requires.place
 
 pub step_arc-requires : goal.step_arc-requires
 step_arc-requires g c =
     let graph = graph_of (valued g.W.Weight.value c.self.inside.fst.now) in
     let paths = c.self.inside.paths.now in
-    let steps = path_there graph paths c.args.chain c.item.result.now (all_steps graph (map written paths) c.self.invariant) c.item.ensures in
-    step_there graph c.item.result.now c.args.place c.item-2.result.now steps c.item-2.ensures
+    step_there graph c.item.result.now c.args.place c.item-2.result.now (path_there graph paths c.args.chain c.item.result.now (all_steps graph (map written paths) c.self.invariant) c.item.ensures) c.item-2.ensures
 
 pub returns : goal.returns
 returns g c =
