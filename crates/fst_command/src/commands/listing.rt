@@ -149,10 +149,10 @@ fn first_strings<W: SubsetWeight, L: Ledger>(
 }
 
 /// The strings of the machine are not listed.
-fn unlistable(alloc: Global, fault: UniqueFault) -> Refusal
-    ensures { (kind : ArcType) (n : ℕ) (m : Machine Cost) → IsUnlistable kind m fault → Declines (unique_stops kind n m) result }
+fn unlistable(alloc: Global, fault: &UniqueFault) -> Refusal
+    ensures { (kind : ArcType) (n : ℕ) (m : Machine Cost) → IsUnlistable kind m fault.now → Declines (unique_stops kind n m) result }
 {
-    match fault {
+    match *fault {
         UniqueFault::NotAcceptor { state, place } => {
             unmade(alloc, Unlisted::NotAcceptor { state, place })
         }
@@ -184,7 +184,7 @@ fn strings_listed<W: SubsetWeight>(
         Blank::new(1),
     ) {
         Ok(strings) => strings,
-        Err(fault) => return Err(unlistable(alloc, fault)),
+        Err(fault) => return Err(unlistable(alloc, &fault)),
     };
     // Its memory may be used again.
     drop(machine);

@@ -14,9 +14,11 @@ returns-in-NotAcceptor c kind n m stands =
 pub returns-in-HasEpsilon : goal.returns-in-HasEpsilon
 returns-in-HasEpsilon c kind n m stands =
     let why = HasEpsilon c.in-HasEpsilon.state c.in-HasEpsilon.place in
-    declines_made (unique_stops kind n m) (unmade (listing_text why)) c.unmade-in-HasEpsilon.result (why, subst (IsUnlistable kind m) c.in-HasEpsilon.is stands, refl) (c.unmade-in-HasEpsilon.ensures (listing_text why) refl)
+    declines_made (unique_stops kind n m) (unmade (listing_text why)) c.unmade-in-HasEpsilon.result (why, subst (IsUnlistable kind m) c.in-HasEpsilon.is stands, refl)
+    (c.unmade-in-HasEpsilon.ensures (listing_text why) refl)
 
 pub returns-in-ImprovingCycle : goal.returns-in-ImprovingCycle
 returns-in-ImprovingCycle c kind n m stands =
     declines_made (unique_stops kind n m) (unmade (listing_text ImprovingCycle)) c.unmade-in-ImprovingCycle.result
-    (ImprovingCycle, (_, subst (IsUnlistable kind m) c.in-ImprovingCycle.is stands), refl) (c.unmade-in-ImprovingCycle.ensures (listing_text ImprovingCycle) refl)
+    (ImprovingCycle, (c.in-ImprovingCycle.cycle, subst (IsUnlistable kind m) c.in-ImprovingCycle.is stands), refl)
+    (c.unmade-in-ImprovingCycle.ensures (listing_text ImprovingCycle) refl)
