@@ -1,5 +1,5 @@
 -- There is one list of first strings; and their words differ, have labels of the machine and weights that are not Zero.
-use Rattle.std.proofs.Common.{◌≡◌, ◌⊎◌, inl, inr, ℕ, zero, suc, ◌≤◌, List, [], ◌∷◌, length, map, sym, refl, ap, ap₂, ◌∙◌, subst, Less, Equal, arith}
+use Rattle.std.proofs.Common.{◌≡◌, ◌⊎◌, inl, inr, ℕ, zero, suc, ◌≤◌, List, [], ◌∷◌, length, map, sym, refl, ap₂, ◌∙◌, subst, Less, Equal, arith}
 use Rattle.std.specs.List.{All}
 use Rattle.std.proofs.lemmas.Cmp.{tied_itself}
 use Rattle.std.proofs.lemmas.List.Elements.{All-cons, All-nil}
