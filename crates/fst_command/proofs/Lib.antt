@@ -4,6 +4,7 @@ mod Sizes
 mod Sorted
 mod Composed
 mod Coded
+mod Listed
 mod Printed
 mod Rules
 mod Replaced

@@ -7,7 +7,9 @@ use Rattle.fst_words.specs.Inputs.{expands_by}
 use Rattle.fst_words.specs.Plans.{is_replace}
 use Rattle.fst_words.proofs.Counts.{labels_all, rules_some}
 use Rattle.fst_command.specs.Seeing.{given_with, made_seen}
+use Rattle.fst_command.specs.Listing.{path_count}
 use Rattle.fst_command.proofs.Coded.{coded_with}
+use Rattle.fst_command.proofs.Listed.{listed_with}
 use Rattle.fst_command.proofs.Meters.{raises_nothing}
 use Rattle.fst_command.proofs.Settled.{settles_for}
 use Rattle.fst_command.proofs.commands.made.Goals as goal
@@ -76,7 +78,13 @@ pub returns-in-Shortestdistance-clause-settles : goal.returns-in-Shortestdistanc
 returns-in-Shortestdistance-clause-settles g c = settles_for c.args.plan.now verbs.Shortestdistance (given_with c.args.tables.now g.W.Weight.KIND g.W.Weight.value c.args.given) (result_map_both (made_seen g.W.Weight.KIND g.W.Weight.value) (λ e. e) c.measured.result) c.in-Shortestdistance.is c.measured.ensures
 
 pub returns-in-Shortestpath-clause-settles : goal.returns-in-Shortestpath-clause-settles
-returns-in-Shortestpath-clause-settles g c = settles_for c.args.plan.now verbs.Shortestpath (given_with c.args.tables.now g.W.Weight.KIND g.W.Weight.value c.args.given) (result_map_both (made_seen g.W.Weight.KIND g.W.Weight.value) (λ e. e) c.listed.result) c.in-Shortestpath.is c.listed.ensures
+returns-in-Shortestpath-clause-settles g c =
+    let kind = g.W.Weight.KIND in
+    let value = g.W.Weight.value in
+    let o = c.args.plan.now.options in
+    let made = result_map_both (made_seen kind value) (λ e. e) c.listed.result in
+    settles_for c.args.plan.now verbs.Shortestpath (given_with c.args.tables.now kind value c.args.given) made c.in-Shortestpath.is
+    (listed_with o.unique (path_count o) c.args.tables.now kind value c.args.given made c.listed.ensures)
 
 pub returns-in-Push-clause-settles : goal.returns-in-Push-clause-settles
 returns-in-Push-clause-settles g c = settles_for c.args.plan.now verbs.Push (given_with c.args.tables.now g.W.Weight.KIND g.W.Weight.value c.args.given) (result_map_both (made_seen g.W.Weight.KIND g.W.Weight.value) (λ e. e) c.pushed.result) c.in-Push.is c.pushed.ensures
