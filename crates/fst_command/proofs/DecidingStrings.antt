@@ -1,5 +1,5 @@
 -- `shortestpath --unique` has one outcome.
-use Rattle.std.proofs.Common.{◌≡◌, ◌↔◌, ◌<◌, ◌≤◌, ◌+◌, ◌≢◌, ℕ, List, map, refl, sym, ap, subst, ◌∙◌, arith}
+use Rattle.std.proofs.Common.{◌≡◌, ◌↔◌, ◌<◌, ◌+◌, ◌≢◌, ℕ, List, map, refl, sym, ap, subst, ◌∙◌, arith}
 use Rattle.fst_semiring.specs.declared.arc_type.ArcType.{ArcType}
 use Rattle.fst_semiring.specs.Cost.{Cost, infinite}
 use Rattle.fst_machine.specs.BreadthFirst.{Has}
