@@ -13,4 +13,4 @@ _fst_script() {
       ;;
   esac
 }
-complete -F _fst_script fst-edits fst-from-att fst-from-openfst fst-from-words fst-lookup fst-random fst-symbols fst-to-att fst-to-bytes fst-to-dot fst-to-openfst fst-to-strings
+complete -F _fst_script fst-edits fst-from-arpa fst-from-att fst-from-openfst fst-from-words fst-lookup fst-random fst-symbols fst-to-att fst-to-bytes fst-to-dot fst-to-openfst fst-to-strings

@@ -162,6 +162,17 @@ def run_on(name, words, data):
         raise Refused(line if ": " in line else f"{shown_name(name)}: {line}") from None
 
 
+def compiled(text, symbols, acceptor=False):
+    """The binary machine of a text whose labels have the names of a table; none for a text of numbers."""
+    if symbols is None:
+        return run_program(["compile", *(["--acceptor"] if acceptor else [])], text)
+    with tempfile.NamedTemporaryFile(prefix="fst-symbols-") as table:
+        table.write(symbols.text())
+        table.flush()
+        sides = ["--acceptor", f"--isymbols={table.name}"] if acceptor else [f"--isymbols={table.name}", f"--osymbols={table.name}"]
+        return run_program(["compile", *sides], text)
+
+
 def write_draft(path, data):
     """Writes a file beside the path, with the rights that the path has or would get, and gives its name."""
     mask = os.umask(0)
