@@ -28,7 +28,7 @@ OTHERS := convert disambiguate draw epsnormalize equal isomorphic map printstrin
   topsort
 SOURCES := crates.txt HANDLES $(shell find crates -name out -prune -o -type f \( -name '*.rt' -o -name '*.antt' \) -print)
 
-.PHONY: all help try example test bench install uninstall install-shim dist deb wheel always
+.PHONY: all help try example test bench docs install uninstall install-shim dist deb wheel always
 
 # What a target takes and prints is said at once.
 SAYS_all := every proof, then the program, out/fst. About three quarters of an hour from nothing on four processors, minutes after a change.
@@ -37,18 +37,19 @@ SAYS_try := compiles a first machine with the program as it stands, unproved. On
 SAYS_example := number words to digits and back. A second, once there is a program; prints a line for each.
 SAYS_test := the gate: every proof, every edit that the prover must refuse, every test, then the checks. One to two hours from nothing on four processors, minutes after a change; prints a line for each, and "N passed, M failed".
 SAYS_bench := each command beside OpenFst's tool of that name. About a quarter of an hour; prints tables of seconds and MiB, and of keys that a stranger chose.
+SAYS_docs := docs/PROMISES.md and the table of docs/MAP.md, from the sources. A second; prints which of the two it wrote anew.
 SAYS_install := the program, its scripts, manual pages and completions to $(DESTDIR)$(PREFIX). A second; prints nothing.
 SAYS_uninstall := takes away what make install put to $(DESTDIR)$(PREFIX). A second; prints nothing.
 SAYS_install-shim := OpenFst's names to $(DESTDIR)$(SHIM), each of them the command of fst. A second; prints nothing.
 SAYS_dist := what make install installs, in one archive, with a program that needs no library, SHA256SUMS and a list of what is inside. Seconds; prints their names.
 SAYS_deb := a Debian package of it. Seconds; prints its name.
 SAYS_wheel := the Python module with the program inside, for pip. Seconds; prints its name.
-TARGETS := all help try example test bench install uninstall install-shim dist deb wheel
+TARGETS := all help try example test bench docs install uninstall install-shim dist deb wheel
 GOALS := $(or $(MAKECMDGOALS),all)
 ifeq ($(MAKELEVEL),0)
   $(foreach goal,$(GOALS),$(if $(filter-out all help,$(goal)),$(if $(SAYS_$(goal)),$(info make $(goal): $(SAYS_$(goal))))))
 endif
-ifneq ($(filter-out help install-shim uninstall,$(GOALS)),)
+ifneq ($(filter-out docs help install-shim uninstall,$(GOALS)),)
   ifneq ($(FST),out/fst)
     $(if $(wildcard $(FST)),,$(error FST=$(FST): there is no such program))
   else ifeq ($(wildcard $(FST)),)
@@ -86,6 +87,10 @@ test:
 # Side by side with OpenFst's tools in one run (Debian's package libfst-tools); bench/README.md says more.
 bench: $(FST)
 	python3 bench/side_by_side.py --fst $(FST)
+
+# The pages that are made from the sources, which .ci/checks/promises compares with them.
+docs:
+	@python3 .ci/promises.py
 
 install: $(FST)
 	@install -d $(DESTDIR)$(PREFIX)/bin $(LIBRARY)/jazvurd $(SHARE)/man/man1 $(DOC)/docs $(DOC)/bench $(BASH_COMPLETION) $(ZSH_COMPLETION) $(FISH_COMPLETION)
@@ -141,7 +146,7 @@ always:
 dist: out/packed/fst
 	@rm -rf out/dist && mkdir -p out/dist
 	@umask 022 && $(MAKE) -s install FST=out/packed/fst DESTDIR=$(CURDIR)/out/dist PREFIX=/$(ARCHIVE)
-	@kit=$$(sed -n 's/.*`\(rattle-kit[^`]*\)`.*/\1/p' README.md) && \
+	@kit=$$(grep -o 'rattle-kit-[^`]*' README.md | head -1) && \
 	  python3 packaging/sbom.py out/dist/$(ARCHIVE) $(VERSION) $(SOURCE_DATE_EPOCH) "$$kit" > out/$(ARCHIVE).spdx.json
 	@tar -C out/dist --sort=name --format=ustar --mtime=@$(SOURCE_DATE_EPOCH) --mode=go-w --owner=0 --group=0 --numeric-owner -cf - $(ARCHIVE) | gzip -9n > out/$(ARCHIVE).tar.gz
 	@rm -rf out/dist

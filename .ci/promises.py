@@ -1,0 +1,304 @@
+#!/usr/bin/env python3
+"""Makes docs/PROMISES.md, and the table of crates in docs/MAP.md, from crates.txt and the sources.
+
+Without a word it writes both (`make docs`). With --check it changes nothing, and ends with 1 where a page is not what it
+would write.
+"""
+import pathlib
+import re
+import sys
+
+ROOT = pathlib.Path(__file__).resolve().parents[1]
+HEAD = """# Promises
+
+`make docs` makes this page from the sources, and `.ci/checks/promises` fails where the two differ.
+
+Each public call whose contract has a name, a refusal or a wrong body stands here, crate by crate in the order of
+`crates.txt`. Its text is the first sentence of its `///`, and what that says of refusals. In brackets are the names of the
+clauses that it ensures. After ✗ stand the wrong bodies of `must-fail/` that the prover refuses by that clause. The contract
+itself is at `fn NAME` in the crate's `src`, and cites definitions of `specs/` alone.
+
+[HEADLINE.md](HEADLINE.md) has what `run`, the top call, promises. [DEFINITIONS.md](DEFINITIONS.md) and
+[CONSTRUCTIONS.md](CONSTRUCTIONS.md) say what the words mean, and [CONCURRENCY.md](CONCURRENCY.md) speaks of threads.
+"""
+# The table of docs/MAP.md stands between these lines.
+BEGIN, END = "<!-- The table of crates: make docs makes it. -->", "<!-- The end of the table. -->"
+# The paragraph of a crate's //! that says why it has no wrong bodies.
+MECHANISM = "No wrong body is tried in this crate"
+# What says when a call refuses; and what it leaves then.
+REFUSAL = re.compile(r"\b(exactly|only) (where|past|at)\b|\bin this order\b")
+LEFT = re.compile(REFUSAL.pattern + r"|\b(is|are) as (it was|before|they were)\b|\bas it was\b")
+
+
+class Item:
+    """A function, type or trait of a source file: its doc comment, and the clauses of its contract."""
+
+    def __init__(self, kind, name, owner, inside, doc):
+        self.kind, self.name, self.owner, self.inside, self.doc = kind, name, owner, inside, " ".join(" ".join(doc).split())
+        # The names of the clauses that it ensures, all of their text, and whether its body is empty.
+        self.labels, self.clauses, self.empty = [], "", False
+
+    def called(self):
+        return f"{self.owner}::{self.name}" if self.owner else self.name
+
+
+def layers():
+    """Returns the layers of crates.txt: a title, and its crates, each with the names of those that it stands on."""
+    found, title = [], []
+    for line in (ROOT / "crates.txt").read_text(encoding="utf-8").split("\n"):
+        if line.startswith("#"):
+            title.append(line[1:].strip())
+            continue
+        if line and title:
+            found.append((" ".join(title).partition(":")[0].rstrip("."), []))
+        title = []
+        if line:
+            crate, _, below = line.partition(":")
+            found[-1][1].append((crate, below.split()))
+    return found
+
+
+def sentences(text):
+    """Returns the sentences of a text, without sources in parentheses."""
+    parts = re.split(r"(?<=[.?!])\s+(?=[A-Z`(])", text)
+    return [re.sub(r"^\([^()]*\) ", "", part) for part in parts if not re.fullmatch(r"\([^()]*\)", part)] or [""]
+
+
+def head_of(crate):
+    """Returns the paragraphs of a crate's //!."""
+    for name in ("lib.rt", "main.rt"):
+        file = ROOT / "crates" / crate / "src" / name
+        if file.exists():
+            lines = [line[3:].strip() for line in file.read_text(encoding="utf-8").split("\n") if line.startswith("//!")]
+            return [" ".join(part.split()) for part in "\n".join(lines).split("\n\n")]
+    return [""]
+
+
+def owner_of(line):
+    """Returns of the first line of an impl block the type, and whether it is of a trait."""
+    text, depth = line[4:].strip(), 0
+    for place, letter in enumerate(text):
+        depth += (letter == "<") - (letter == ">" and text[place - 1] != "-")
+        if not depth:
+            text = text[place + 1 :].strip() if text.startswith("<") else text
+            break
+    of, is_trait, to = text.partition(" for ")
+    match = re.match(r"[&' \w:]*?(\w+)(?=[<\s{]|$)", to if is_trait else of)
+    return match and match[1], bool(is_trait)
+
+
+def read_contract(lines, place, indent, item):
+    """Reads the clauses of the function that begins at a line, and passes its body; returns the place after it."""
+    first = place
+    while True:
+        text = lines[place].strip()
+        place += 1
+        item.labels += re.findall(r"\bensures (?:(\w+) )?\{", text)
+        item.clauses += text + "\n" if "ensures" in text else ""
+        if text.endswith(("{}", ";")):
+            item.empty = text.endswith("{}")
+            return place
+        if text == "{" or (text.endswith("{") and not re.match(r"(ensures|requires)\b", text) and (place > first + 1 or "->" in text or ")" in text)):
+            break
+    while lines[place] != indent + "}":
+        place += 1
+    return place + 1
+
+
+def items_of(file):
+    """Returns the public items of a source file."""
+    lines, found, owner, inside, doc, place = file.read_text(encoding="utf-8").split("\n"), [], None, None, [], 0
+    while place < len(lines):
+        line = lines[place]
+        place += 1
+        text = line.strip()
+        if text.startswith("///"):
+            doc.append(text[3:].strip())
+            continue
+        if text.startswith("#["):
+            continue
+        if line.startswith("impl"):
+            owner, of_trait = owner_of(line)
+            inside = "impl of a trait" if of_trait else "impl"
+        elif line.startswith("}"):
+            owner = inside = None
+        match = re.match(r"( *)(pub(?:\(\w+\))? )?(?:const |unsafe )*(fn|struct|enum|trait) (\w+)", line)
+        if match and (not match[1] or (inside and len(match[1]) == 4)):
+            indent, public, kind, name = match.groups()
+            item = Item(kind, name, indent and owner or None, indent and inside or None, doc)
+            if kind == "trait":
+                owner, inside = name, "trait"
+            if kind == "fn":
+                place = read_contract(lines, place - 1, indent, item)
+            if public == "pub " or item.inside == "trait":
+                found.append(item)
+        if text:
+            doc = []
+    return found
+
+
+def public_of(crate):
+    """Returns the calls with a contract that a crate offers, in the order of its files, and its types by name."""
+    folder = ROOT / "crates" / crate / "src"
+    calls, types, exported = [], {}, {}
+    if not (folder / "lib.rt").exists():
+        return calls, types
+    text = (folder / "lib.rt").read_text(encoding="utf-8")
+    modules = re.findall(r"(?m)^pub mod (\w+);", text)
+    for module, names in re.findall(r"(?m)^pub use (\w+)(?:::\w+)*::(\{[^}]*\}|\w+);", text):
+        exported.update(dict.fromkeys(re.findall(r"\w+", names), module))
+    for file in sorted(folder.rglob("*.rt")):
+        parts = file.relative_to(folder).with_suffix("").parts
+        for item in items_of(file):
+            top = item.owner or item.name
+            if item.kind != "fn":
+                types.setdefault(item.name, item)
+            elif item.labels and item.inside != "impl of a trait" and (parts[0] in modules or (top in exported if item.owner else exported.get(top) in parts)):
+                item.file = file
+                calls.append(item)
+    return calls, types
+
+
+def edits_of(crate, calls):
+    """Returns the wrong bodies of a crate, by the call and the name of the clause that refuse them.
+
+    A clause that no call of that name has is one of the same call in an implementation, or one without a name.
+    """
+    found, rest = {}, []
+    for edit in sorted((ROOT / "crates" / crate / "must-fail").glob("*.edit")):
+        turns = re.search(r"(?m)^turns: (\w+), (.*)$", edit.read_text(encoding="utf-8"))
+        if not turns:
+            continue
+        alike = [it for it in calls if it.name == turns[1]]
+        exact = [it for it in alike if turns[2] in it.labels]
+        body = edit.stem.replace("_", " ")
+        for it in exact or alike:
+            found.setdefault((it.called(), turns[2] if exact else ""), []).append(body)
+        if not alike:
+            rest.append(f"✗ {body} (`{turns[1]}`)")
+    return found, rest
+
+
+def text_of(item):
+    """Returns what a call's doc comment says of its result and of its refusals."""
+    first, *others = sentences(item.doc)
+    said = [first]
+    for sentence in others:
+        parts = sentence.split("; ")
+        kept = [part for part in parts if LEFT.search(part)]
+        if kept and kept[0] == parts[0]:
+            said.append("; ".join(kept).rstrip(".") + ".")
+    return " ".join(said)
+
+
+def clauses_of(item, edits):
+    """Returns the names of a call's clauses, each with the wrong bodies that it refuses."""
+    cells, labels = [], list(dict.fromkeys(item.labels))
+    for label in labels + [""] * ("" not in labels):
+        wrong = [f"✗ {body}" for body in edits.get((item.called(), label), [])]
+        cells += [" ".join([label, *wrong]).strip()] if label or wrong else []
+    return f" [{', '.join(cells)}]" if cells else ""
+
+
+def named(calls):
+    """Returns a list of calls by name, those of a type together."""
+    names = {}
+    for it in calls:
+        names.setdefault(it.owner, []).append(it.name)
+    return ", ".join(
+        "`" + "`, `".join(of) + "`" if not owner else f"`{owner}::{of[0]}`" if len(of) == 1 else f"`{owner}::{{{', '.join(of)}}}`"
+        for owner, of in names.items()
+    )
+
+
+def rows_of(crate):
+    """Returns the lines of a crate."""
+    calls, types = public_of(crate)
+    edits, rest = edits_of(crate, calls)
+    rows, named_only, others = [], [], 0
+    for item in calls:
+        wrong = any((item.called(), label) in edits for label in [*item.labels, ""])
+        like = re.search(r"\bas `(\w+)` (?:makes|gives|has) (?:it|them)\b", sentences(item.doc)[0])
+        same = next((row for row in rows if row["of"].labels == item.labels and (row["text"] == text_of(item) or like and row["of"].name == like[1])), None)
+        if same and (not wrong or same["text"] == text_of(item)):
+            same["calls"].append(item)
+        elif wrong or item.empty or REFUSAL.search(text_of(item)) or len(set(item.labels) - {""}) > (2 if item.inside == "impl" else 0):
+            rows.append({"calls": [item], "text": text_of(item), "clauses": clauses_of(item, edits), "of": item})
+        elif any(item.labels):
+            named_only.append(item)
+        else:
+            others += 1
+    lines = [f"- {named(row['calls'])}: {row['text']}{row['clauses']}" for row in rows]
+    lines += ["- In functions behind these: " + ", ".join(rest)] if rest else []
+    also = [named(named_only)] * bool(named_only) + [f"{others} more, each in one clause without a name"] * bool(others)
+    lines += [f"- Also {'; '.join(also)}."] if also else []
+    return lines
+
+
+def promises():
+    """Returns the page of promises."""
+    parts = [HEAD]
+    for title, crates in layers():
+        parts.append(f"## {title}\n")
+        for crate, _ in crates:
+            calls, _ = public_of(crate)
+            if not calls:
+                continue
+            head = head_of(crate)
+            parts.append(f"### {crate}\n\n{sentences(head[0])[0]}\n")
+            mechanism = next((it for it in head if it.startswith(MECHANISM)), None)
+            if mechanism:
+                parts[-1] = parts[-1][:-1] + " " + " ".join(sentences(mechanism)[1:]) + "\n"
+            else:
+                parts.append("\n".join(rows_of(crate)) + "\n")
+    return "\n".join(parts)
+
+
+def cited_by(crate):
+    """Returns the modules of a crate's specs that the clauses of its public calls cite, in reading order."""
+    cited = set()
+    for item in public_of(crate)[0]:
+        words = set(re.findall(r"\w+", item.clauses))
+        for module, names in re.findall(rf"(?m)^ *ghost use Rattle\.{crate}\.specs\.(\w+)\.\{{([^}}]*)\}};", item.file.read_text(encoding="utf-8")):
+            if words & set(re.findall(r"\w+", names)):
+                cited.add(module)
+    index = ROOT / "crates" / crate / "specs" / "Lib.antt"
+    order = re.findall(r"(?m)^pub mod (\w+)", index.read_text(encoding="utf-8")) if index.exists() else []
+    return [module for module in order if module in cited]
+
+
+def table():
+    """Returns the table of crates."""
+    below = {crate: names for _, crates in layers() for crate, names in crates}
+
+    def reached(crate):
+        return {it for name in below.get(crate, []) for it in {name} | reached(name)}
+
+    lines = ["| Crate | What it is | Stands on | Its contracts cite, of `specs/` |", "|---|---|---|---|"]
+    for title, crates in layers():
+        lines.append(f"| **{title}** | | | |")
+        for crate, names in crates:
+            least = [it for it in names if not any(it in reached(other) for other in names)]
+            lines.append(f"| `{crate}` | {sentences(head_of(crate)[0])[0]} | {', '.join(least)} | {', '.join(cited_by(crate))} |")
+    return "\n".join(lines)
+
+
+def main():
+    page, wanted = ROOT / "docs" / "MAP.md", promises()
+    text = page.read_text(encoding="utf-8")
+    begin, end = text.find(BEGIN), text.find(END)
+    if not 0 <= begin < end:
+        sys.exit("docs/MAP.md lacks the lines between which its table stands")
+    pages = {ROOT / "docs" / "PROMISES.md": wanted, page: f"{text[:begin]}{BEGIN}\n\n{table()}\n\n{text[end:]}"}
+    stale = [it for it, made in pages.items() if not it.exists() or it.read_text(encoding="utf-8") != made]
+    if sys.argv[1:] == ["--check"]:
+        for it in stale:
+            print(f"docs/{it.name} is not what the sources say: make docs writes it anew")
+        sys.exit(bool(stale))
+    for it in stale:
+        it.write_text(pages[it], encoding="utf-8")
+        print(f"docs/{it.name}")
+
+
+if __name__ == "__main__":
+    main()
