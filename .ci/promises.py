@@ -13,10 +13,10 @@ HEAD = """# Promises
 
 `make docs` makes this page from the sources, and `.ci/checks/promises` fails where the two differ.
 
-Each public call whose contract has a name, a refusal or a wrong body stands here, crate by crate in the order of
-`crates.txt`. Its text is the first sentence of its `///`, and what that says of refusals. In brackets are the names of the
-clauses that it ensures. After ✗ stand the wrong bodies of `must-fail/` that the prover refuses by that clause. The contract
-itself is at `fn NAME` in the crate's `src`, and cites definitions of `specs/` alone.
+Each public call whose contract has a name, a refusal or a wrong body is here, crate by crate in the order of
+`crates.txt`. Its text is the first sentence of its `///`, and what that says of paths, weights and refusals. In brackets are
+the names of the clauses that it ensures; after ✗ come the wrong bodies of `must-fail/` that the prover refuses by that clause.
+The contract itself is at `fn NAME` in the crate's `src`, and cites definitions of `specs/` alone.
 
 [HEADLINE.md](HEADLINE.md) has what `run`, the top call, promises. [DEFINITIONS.md](DEFINITIONS.md) and
 [CONSTRUCTIONS.md](CONSTRUCTIONS.md) say what the words mean, and [CONCURRENCY.md](CONCURRENCY.md) speaks of threads.
@@ -28,6 +28,9 @@ MECHANISM = "No wrong body is tried in this crate"
 # What says when a call refuses; and what it leaves then.
 REFUSAL = re.compile(r"\b(exactly|only) (where|past|at)\b|\bin this order\b")
 LEFT = re.compile(REFUSAL.pattern + r"|\b(is|are) as (it was|before|they were)\b|\bas it was\b")
+
+# What says which paths and weights the result has.
+MEANING = re.compile(r"\bone[ -]to[ -]one\b|\brelates?\b|\bsuccessful path|\bsame weight\b")
 
 
 class Item:
@@ -180,10 +183,13 @@ def edits_of(crate, calls):
 
 
 def text_of(item):
-    """Returns what a call's doc comment says of its result and of its refusals."""
+    """Returns what a call's doc comment says of its result, its meaning and its refusals."""
     first, *others = sentences(item.doc)
     said = [first]
     for sentence in others:
+        if MEANING.search(sentence) and not REFUSAL.search(sentence):
+            said.append(sentence)
+            continue
         parts = sentence.split("; ")
         kept = [part for part in parts if LEFT.search(part)]
         if kept and kept[0] == parts[0]:
