@@ -140,6 +140,13 @@ def items_of(file):
     return found
 
 
+def program():
+    """Returns the code of the crates of the layer of the program."""
+    crates = [crate for title, of in layers() if title.startswith("The program") for crate, _ in of]
+    files = [file for crate in crates for file in sorted((ROOT / "crates" / crate / "src").rglob("*.rt"))]
+    return "\n".join(re.sub(r"(?m)^ *(//|ghost use).*$", "", file.read_text(encoding="utf-8")) for file in files)
+
+
 def public_of(crate):
     """Returns the calls with a contract that a crate offers, in the order of its files, and its types by name."""
     folder = ROOT / "crates" / crate / "src"
@@ -183,17 +190,20 @@ def edits_of(crate, calls):
 
 
 def text_of(item):
-    """Returns what a call's doc comment says of its result, its meaning and its refusals."""
+    """Returns what a call's doc comment says of its result, its meaning and its refusals, of which several are named alone."""
     first, *others = sentences(item.doc)
+    refusals = [it for it in others if REFUSAL.search(it)]
+    causes = [it for it in re.findall(r"`([A-Z]\w+)`", " ".join(refusals)) if it not in ("Err", "Memory", "None", "Ok")]
+    is_order = any("in this order" in it or "lse `" in it for it in refusals)
     said = [first]
     for sentence in others:
-        if MEANING.search(sentence) and not REFUSAL.search(sentence):
-            said.append(sentence)
-            continue
         parts = sentence.split("; ")
-        kept = [part for part in parts if LEFT.search(part)]
-        if kept and kept[0] == parts[0]:
-            said.append("; ".join(kept).rstrip(".") + ".")
+        if MEANING.search(sentence) and sentence not in refusals:
+            said.append(sentence)
+        elif LEFT.search(parts[0]) and not (is_order and sentence in refusals):
+            said.append("; ".join(part for part in parts if LEFT.search(part)).rstrip(".") + ".")
+    if is_order:
+        said.append("Refused exactly for `" + "`, `".join(dict.fromkeys(causes)) + "`, in this order.")
     return " ".join(said)
 
 
@@ -217,18 +227,19 @@ def named(calls):
     )
 
 
-def rows_of(crate):
-    """Returns the lines of a crate."""
+def rows_of(crate, code):
+    """Returns the lines of a crate; code is that of the program, whose calls have lines of their own."""
     calls, types = public_of(crate)
     edits, rest = edits_of(crate, calls)
     rows, named_only, others = [], [], 0
     for item in calls:
         wrong = any((item.called(), label) in edits for label in [*item.labels, ""])
+        used = re.search(rf"(\.|\b{item.owner}(::<.*>)?::){item.name}\b" if item.owner else rf"\b{item.name}\b", code)
         like = re.search(r"\bas `(\w+)` (?:makes|gives|has) (?:it|them)\b", sentences(item.doc)[0])
         same = next((row for row in rows if row["of"].labels == item.labels and (row["text"] == text_of(item) or like and row["of"].name == like[1])), None)
         if same and (not wrong or same["text"] == text_of(item)):
             same["calls"].append(item)
-        elif wrong or item.empty or REFUSAL.search(text_of(item)) or len(set(item.labels) - {""}) > (2 if item.inside == "impl" else 0):
+        elif wrong or item.empty or used and (any(item.labels) if item.inside != "impl" else len(set(item.labels) - {""}) > 2 or REFUSAL.search(text_of(item))):
             rows.append({"calls": [item], "text": text_of(item), "clauses": clauses_of(item, edits), "of": item})
         elif any(item.labels):
             named_only.append(item)
@@ -236,14 +247,14 @@ def rows_of(crate):
             others += 1
     lines = [f"- {named(row['calls'])}: {row['text']}{row['clauses']}" for row in rows]
     lines += ["- In functions behind these: " + ", ".join(rest)] if rest else []
-    also = [named(named_only)] * bool(named_only) + [f"{others} more, each in one clause without a name"] * bool(others)
+    also = [named(named_only)] * bool(named_only) + [f"{others} of one clause without a name"] * bool(others)
     lines += [f"- Also {'; '.join(also)}."] if also else []
     return lines
 
 
 def promises():
     """Returns the page of promises."""
-    parts = [HEAD]
+    parts, code = [HEAD], program()
     for title, crates in layers():
         parts.append(f"## {title}\n")
         for crate, _ in crates:
@@ -256,7 +267,7 @@ def promises():
             if mechanism:
                 parts[-1] = parts[-1][:-1] + " " + " ".join(sentences(mechanism)[1:]) + "\n"
             else:
-                parts.append("\n".join(rows_of(crate)) + "\n")
+                parts.append("\n".join(rows_of(crate, code)) + "\n")
     return "\n".join(parts)
 
 
