@@ -1,8 +1,8 @@
 #!/usr/bin/env python3
 """Makes docs/PROMISES.md, and the table of crates in docs/MAP.md, from crates.txt and the sources.
 
-Without a word it writes both (`make docs`). With --check it changes nothing, and ends with 1 where a page is not what it
-would write.
+In the other pages it corrects the crate of a file that has moved to another crate. Without a word it writes what has
+changed (`make docs`); with --check it writes nothing, and ends with 1 where something has.
 """
 import pathlib
 import re
@@ -11,17 +11,21 @@ import sys
 ROOT = pathlib.Path(__file__).resolve().parents[1]
 HEAD = """# Promises
 
-`make docs` makes this page from the sources, and `.ci/checks/promises` fails where the two differ.
+`make docs` makes this page from the sources, and `.ci/checks/promises` fails where the two differ. Crates are in the order of
+`crates.txt`.
 
-Each public call whose contract has a name, a refusal or a wrong body is here, crate by crate in the order of
-`crates.txt`. Its text is the first sentence of its `///`, and what that says of paths, weights and refusals. In brackets are
-the names of the clauses that it ensures; after ✗ come the wrong bodies of `must-fail/` that the prover refuses by that clause.
-The contract itself is at `fn NAME` in the crate's `src`, and cites definitions of `specs/` alone.
+A public call has a line where a wrong body guards it, where it is a law, or where the program calls it and it is no
+mere getter. The text is the first sentence of the `///`, and what that says of paths, weights and refusals. In
+brackets are the names of the clauses that the call ensures; after ✗ come the wrong bodies of `must-fail/` that the prover
+refuses by that clause. The contract itself is at `fn NAME` in the crate's `src`, and cites definitions of `specs/` alone.
 
 [HEADLINE.md](HEADLINE.md) has what `run`, the top call, promises. [DEFINITIONS.md](DEFINITIONS.md) and
-[CONSTRUCTIONS.md](CONSTRUCTIONS.md) say what the words mean, and [CONCURRENCY.md](CONCURRENCY.md) speaks of threads.
+[CONSTRUCTIONS.md](CONSTRUCTIONS.md) say what the words mean, [FORMATS.md](FORMATS.md) what each refusal means, and
+[CONCURRENCY.md](CONCURRENCY.md) speaks of threads. Crates of mechanism have no lines: their `//!` name the proofs above that
+need them.
 """
-# The table of docs/MAP.md stands between these lines.
+# The table of docs/MAP.md is between these lines, and shows so many modules of specs at most.
+MOST_CITED = 4
 BEGIN, END = "<!-- The table of crates: make docs makes it. -->", "<!-- The end of the table. -->"
 # The paragraph of a crate's //! that says why it has no wrong bodies.
 MECHANISM = "No wrong body is tried in this crate"
@@ -141,10 +145,10 @@ def items_of(file):
 
 
 def program():
-    """Returns the code of the crates of the layer of the program."""
+    """Returns the crates of the layer of the program, and their code."""
     crates = [crate for title, of in layers() if title.startswith("The program") for crate, _ in of]
     files = [file for crate in crates for file in sorted((ROOT / "crates" / crate / "src").rglob("*.rt"))]
-    return "\n".join(re.sub(r"(?m)^ *(//|ghost use).*$", "", file.read_text(encoding="utf-8")) for file in files)
+    return crates, "\n".join(re.sub(r"(?m)^ *(//|ghost use).*$", "", file.read_text(encoding="utf-8")) for file in files)
 
 
 def public_of(crate):
@@ -228,10 +232,10 @@ def named(calls):
 
 
 def rows_of(crate, code):
-    """Returns the lines of a crate; code is that of the program, whose calls have lines of their own."""
+    """Returns the lines of a crate; code is that of the program: what it calls has a line."""
     calls, types = public_of(crate)
     edits, rest = edits_of(crate, calls)
-    rows, named_only, others = [], [], 0
+    rows = []
     for item in calls:
         wrong = any((item.called(), label) in edits for label in [*item.labels, ""])
         used = re.search(rf"(\.|\b{item.owner}(::<.*>)?::){item.name}\b" if item.owner else rf"\b{item.name}\b", code)
@@ -239,22 +243,16 @@ def rows_of(crate, code):
         same = next((row for row in rows if row["of"].labels == item.labels and (row["text"] == text_of(item) or like and row["of"].name == like[1])), None)
         if same and (not wrong or same["text"] == text_of(item)):
             same["calls"].append(item)
-        elif wrong or item.empty or used and (any(item.labels) if item.inside != "impl" else len(set(item.labels) - {""}) > 2 or REFUSAL.search(text_of(item))):
+        elif wrong or item.empty or used and (REFUSAL.search(text_of(item)) or len(set(item.labels) - {""}) > (2 if item.inside == "impl" else 0)):
             rows.append({"calls": [item], "text": text_of(item), "clauses": clauses_of(item, edits), "of": item})
-        elif any(item.labels):
-            named_only.append(item)
-        else:
-            others += 1
     lines = [f"- {named(row['calls'])}: {row['text']}{row['clauses']}" for row in rows]
     lines += ["- In functions behind these: " + ", ".join(rest)] if rest else []
-    also = [named(named_only)] * bool(named_only) + [f"{others} of one clause without a name"] * bool(others)
-    lines += [f"- Also {'; '.join(also)}."] if also else []
     return lines
 
 
 def promises():
     """Returns the page of promises."""
-    parts, code = [HEAD], program()
+    parts, (top, code) = [HEAD], program()
     for title, crates in layers():
         parts.append(f"## {title}\n")
         for crate, _ in crates:
@@ -263,11 +261,8 @@ def promises():
                 continue
             head = head_of(crate)
             parts.append(f"### {crate}\n\n{sentences(head[0])[0]}\n")
-            mechanism = next((it for it in head if it.startswith(MECHANISM)), None)
-            if mechanism:
-                parts[-1] = parts[-1][:-1] + " " + " ".join(sentences(mechanism)[1:]) + "\n"
-            else:
-                parts.append("\n".join(rows_of(crate, code)) + "\n")
+            lines = [] if any(it.startswith(MECHANISM) for it in head) else rows_of(crate, "" if crate in top else code)
+            parts += ["\n".join(lines) + "\n"] if lines else []
     return "\n".join(parts)
 
 
@@ -291,13 +286,25 @@ def table():
     def reached(crate):
         return {it for name in below.get(crate, []) for it in {name} | reached(name)}
 
-    lines = ["| Crate | What it is | Stands on | Its contracts cite, of `specs/` |", "|---|---|---|---|"]
+    lines = ["| Crate | What it is | Uses | Its contracts cite, of `specs/` |", "|---|---|---|---|"]
     for title, crates in layers():
         lines.append(f"| **{title}** | | | |")
         for crate, names in crates:
+            cited = cited_by(crate)
             least = [it for it in names if not any(it in reached(other) for other in names)]
-            lines.append(f"| `{crate}` | {sentences(head_of(crate)[0])[0]} | {', '.join(least)} | {', '.join(cited_by(crate))} |")
+            lines.append(f"| `{crate}` | {sentences(head_of(crate)[0])[0]} | {', '.join(least)} | {', '.join(cited[:MOST_CITED])}{', ..' * (len(cited) > MOST_CITED)} |")
     return "\n".join(lines)
+
+
+def placed(text):
+    """Returns the text of a page with the crates of the files that it names, where a file has moved to another crate."""
+
+    def place(match):
+        crate, rest = match[1], match[2]
+        found = list(ROOT.glob(f"crates/*/{rest}"))
+        return f"{found[0].parts[len(ROOT.parts) + 1]}/{rest}" if not (ROOT / "crates" / crate / rest).exists() and len(found) == 1 else match[0]
+
+    return re.sub(r"\b(fst\w*)/((?:specs|src)/[\w/]+\.(?:antt|rt))", place, text)
 
 
 def main():
@@ -306,15 +313,17 @@ def main():
     begin, end = text.find(BEGIN), text.find(END)
     if not 0 <= begin < end:
         sys.exit("docs/MAP.md lacks the lines between which its table stands")
-    pages = {ROOT / "docs" / "PROMISES.md": wanted, page: f"{text[:begin]}{BEGIN}\n\n{table()}\n\n{text[end:]}"}
-    stale = [it for it, made in pages.items() if not it.exists() or it.read_text(encoding="utf-8") != made]
+    pages = {it: placed(it.read_text(encoding="utf-8")) for it in [ROOT / "README.md", ROOT / "CONTRIBUTING.md", *(ROOT / "docs").glob("*.md")]}
+    pages[page] = placed(f"{text[:begin]}{BEGIN}\n\n{table()}\n\n{text[end:]}")
+    pages[ROOT / "docs" / "PROMISES.md"] = wanted
+    stale = [it for it, made in sorted(pages.items()) if not it.exists() or it.read_text(encoding="utf-8") != made]
     if sys.argv[1:] == ["--check"]:
         for it in stale:
-            print(f"docs/{it.name} is not what the sources say: make docs writes it anew")
+            print(f"{it.relative_to(ROOT)} is not what the sources say: make docs writes it anew")
         sys.exit(bool(stale))
     for it in stale:
         it.write_text(pages[it], encoding="utf-8")
-        print(f"docs/{it.name}")
+        print(it.relative_to(ROOT))
 
 
 if __name__ == "__main__":
