@@ -14,18 +14,19 @@ HEAD = """# Promises
 `make docs` makes this page from the sources, and `.ci/checks/promises` fails where the two differ. Crates are in the order of
 `crates.txt`.
 
-A public call has a line where a wrong body guards it, where it is a law, or where the program calls it and it is no
-mere getter. The text is the first sentence of the `///`, and what that says of paths, weights and refusals. In
-brackets are the names of the clauses that the call ensures; after ✗ come the wrong bodies of `must-fail/` that the prover
-refuses by that clause. The contract itself is at `fn NAME` in the crate's `src`, and cites definitions of `specs/` alone.
+A public call has a line where a wrong body guards it, where it is a law, or where the program calls it and it is no mere
+getter. The text is the first sentence of the `///`, and what that says of paths, weights and refusals. In brackets are the
+names of the clauses that the call ensures, and after "asks" those of its conditions. After ✗ come the wrong bodies of
+`must-fail/` that the prover refuses by a clause. The contract itself is at `fn NAME` in the crate's `src`, and cites
+definitions of `specs/` alone.
 
 [HEADLINE.md](HEADLINE.md) has what `run`, the top call, promises. [DEFINITIONS.md](DEFINITIONS.md) and
 [CONSTRUCTIONS.md](CONSTRUCTIONS.md) say what the words mean, [FORMATS.md](FORMATS.md) what each refusal means, and
-[CONCURRENCY.md](CONCURRENCY.md) speaks of threads. Crates of mechanism have no lines: their `//!` name the proofs above that
-need them.
+[CONCURRENCY.md](CONCURRENCY.md) speaks of threads. Crates of mechanism are left out: their `//!` name the proofs above that
+need them. [MAP.md](MAP.md) has all crates.
 """
 # The table of docs/MAP.md is between these lines, and shows so many modules of specs at most.
-MOST_CITED = 4
+MOST_CITED = 3
 BEGIN, END = "<!-- The table of crates: make docs makes it. -->", "<!-- The end of the table. -->"
 # The paragraph of a crate's //! that says why it has no wrong bodies.
 MECHANISM = "No wrong body is tried in this crate"
@@ -42,8 +43,8 @@ class Item:
 
     def __init__(self, kind, name, owner, inside, doc):
         self.kind, self.name, self.owner, self.inside, self.doc = kind, name, owner, inside, " ".join(" ".join(doc).split())
-        # The names of the clauses that it ensures, all of their text, and whether its body is empty.
-        self.labels, self.clauses, self.empty = [], "", False
+        # The names of the clauses that it ensures and requires, the text of the former, and whether its body is empty.
+        self.labels, self.asked, self.clauses, self.empty = [], [], "", False
 
     def called(self):
         return f"{self.owner}::{self.name}" if self.owner else self.name
@@ -101,6 +102,7 @@ def read_contract(lines, place, indent, item):
         text = lines[place].strip()
         place += 1
         item.labels += re.findall(r"\bensures (?:(\w+) )?\{", text)
+        item.asked += re.findall(r"\brequires (\w+) \{", text)
         item.clauses += text + "\n" if "ensures" in text else ""
         if text.endswith(("{}", ";")):
             item.empty = text.endswith("{}")
@@ -217,7 +219,8 @@ def clauses_of(item, edits):
     for label in labels + [""] * ("" not in labels):
         wrong = [f"✗ {body}" for body in edits.get((item.called(), label), [])]
         cells += [" ".join([label, *wrong]).strip()] if label or wrong else []
-    return f" [{', '.join(cells)}]" if cells else ""
+    asked = [f"asks {', '.join(dict.fromkeys(item.asked))}"] if item.asked else []
+    return f" [{'; '.join(filter(None, [', '.join(cells), *asked]))}]" if cells or asked else ""
 
 
 def named(calls):
@@ -241,9 +244,11 @@ def rows_of(crate, code):
         used = re.search(rf"(\.|\b{item.owner}(::<.*>)?::){item.name}\b" if item.owner else rf"\b{item.name}\b", code)
         like = re.search(r"\bas `(\w+)` (?:makes|gives|has) (?:it|them)\b", sentences(item.doc)[0])
         same = next((row for row in rows if row["of"].labels == item.labels and (row["text"] == text_of(item) or like and row["of"].name == like[1])), None)
+        if not same and rows and rows[-1]["of"].labels == item.labels and item.doc.startswith("The same"):
+            same = rows[-1]
         if same and (not wrong or same["text"] == text_of(item)):
             same["calls"].append(item)
-        elif wrong or item.empty or used and (REFUSAL.search(text_of(item)) or len(set(item.labels) - {""}) > (2 if item.inside == "impl" else 0)):
+        elif wrong or item.empty or used and (REFUSAL.search(text_of(item).replace("`None` exactly", "")) or len(set(item.labels) - {""}) > (2 if item.inside == "impl" else 0)):
             rows.append({"calls": [item], "text": text_of(item), "clauses": clauses_of(item, edits), "of": item})
     lines = [f"- {named(row['calls'])}: {row['text']}{row['clauses']}" for row in rows]
     lines += ["- In functions behind these: " + ", ".join(rest)] if rest else []
@@ -254,15 +259,13 @@ def promises():
     """Returns the page of promises."""
     parts, (top, code) = [HEAD], program()
     for title, crates in layers():
-        parts.append(f"## {title}\n")
+        sections = []
         for crate, _ in crates:
-            calls, _ = public_of(crate)
-            if not calls:
-                continue
             head = head_of(crate)
-            parts.append(f"### {crate}\n\n{sentences(head[0])[0]}\n")
             lines = [] if any(it.startswith(MECHANISM) for it in head) else rows_of(crate, "" if crate in top else code)
-            parts += ["\n".join(lines) + "\n"] if lines else []
+            if lines:
+                sections += [f"### {crate}\n\n{sentences(head[0])[0]}\n", "\n".join(lines) + "\n"]
+        parts += [f"## {title}\n", *sections] if sections else []
     return "\n".join(parts)
 
 
