@@ -25,33 +25,31 @@ definitions of `specs/` alone.
 [CONCURRENCY.md](CONCURRENCY.md) speaks of threads. Crates of mechanism are left out: their `//!` name the proofs above that
 need them. [MAP.md](MAP.md) has all crates.
 """
-# The table of docs/MAP.md is between these lines, and shows so many modules of specs at most.
-MOST_CITED = 3
+# The table of docs/MAP.md is between these lines.
 BEGIN, END = "<!-- The table of crates: make docs makes it. -->", "<!-- The end of the table. -->"
 # The paragraph of a crate's //! that says why it has no wrong bodies.
 MECHANISM = "No wrong body is tried in this crate"
 # What says when a call refuses; and what it leaves then.
 REFUSAL = re.compile(r"\b(exactly|only) (where|past|at)\b|\bin this order\b")
 LEFT = re.compile(REFUSAL.pattern + r"|\b(is|are) as (it was|before|they were)\b|\bas it was\b")
-
 # What says which paths and weights the result has.
 MEANING = re.compile(r"\bone[ -]to[ -]one\b|\brelates?\b|\bsuccessful path|\bsame weight\b")
 
 
 class Item:
-    """A function, type or trait of a source file: its doc comment, and the clauses of its contract."""
+    """A function, type or trait of a source file: its doc comment, and the names of the clauses of its contract."""
 
     def __init__(self, kind, name, owner, inside, doc):
         self.kind, self.name, self.owner, self.inside, self.doc = kind, name, owner, inside, " ".join(" ".join(doc).split())
-        # The names of the clauses that it ensures and requires, the text of the former, and whether its body is empty.
-        self.labels, self.asked, self.clauses, self.empty = [], [], "", False
+        # The names of the clauses that it ensures, and of those that it requires; and whether its body is empty.
+        self.labels, self.asked, self.empty = [], [], False
 
     def called(self):
         return f"{self.owner}::{self.name}" if self.owner else self.name
 
 
 def layers():
-    """Returns the layers of crates.txt: a title, and its crates, each with the names of those that it stands on."""
+    """Returns the layers of crates.txt: a title, and its crates, each with the names of those that it uses."""
     found, title = [], []
     for line in (ROOT / "crates.txt").read_text(encoding="utf-8").split("\n"):
         if line.startswith("#"):
@@ -103,7 +101,6 @@ def read_contract(lines, place, indent, item):
         place += 1
         item.labels += re.findall(r"\bensures (?:(\w+) )?\{", text)
         item.asked += re.findall(r"\brequires (\w+) \{", text)
-        item.clauses += text + "\n" if "ensures" in text else ""
         if text.endswith(("{}", ";")):
             item.empty = text.endswith("{}")
             return place
@@ -154,11 +151,11 @@ def program():
 
 
 def public_of(crate):
-    """Returns the calls with a contract that a crate offers, in the order of its files, and its types by name."""
+    """Returns the calls with a contract that a crate offers, in the order of its files."""
     folder = ROOT / "crates" / crate / "src"
-    calls, types, exported = [], {}, {}
+    calls, exported = [], {}
     if not (folder / "lib.rt").exists():
-        return calls, types
+        return calls
     text = (folder / "lib.rt").read_text(encoding="utf-8")
     modules = re.findall(r"(?m)^pub mod (\w+);", text)
     for module, names in re.findall(r"(?m)^pub use (\w+)(?:::\w+)*::(\{[^}]*\}|\w+);", text):
@@ -167,12 +164,10 @@ def public_of(crate):
         parts = file.relative_to(folder).with_suffix("").parts
         for item in items_of(file):
             top = item.owner or item.name
-            if item.kind != "fn":
-                types.setdefault(item.name, item)
-            elif item.labels and item.inside != "impl of a trait" and (parts[0] in modules or (top in exported if item.owner else exported.get(top) in parts)):
-                item.file = file
+            is_out = parts[0] in modules or (top in exported if item.owner else exported.get(top) in parts)
+            if item.kind == "fn" and item.labels and item.inside != "impl of a trait" and is_out:
                 calls.append(item)
-    return calls, types
+    return calls
 
 
 def edits_of(crate, calls):
@@ -234,9 +229,15 @@ def named(calls):
     )
 
 
+def is_getter(item):
+    """Returns whether a call refuses nothing and has few named clauses: none, or of a type's own two at most."""
+    few = 2 if item.inside == "impl" else 0
+    return not REFUSAL.search(text_of(item).replace("`None` exactly", "")) and len(set(item.labels) - {""}) <= few
+
+
 def rows_of(crate, code):
     """Returns the lines of a crate; code is that of the program: what it calls has a line."""
-    calls, types = public_of(crate)
+    calls = public_of(crate)
     edits, rest = edits_of(crate, calls)
     rows = []
     for item in calls:
@@ -248,7 +249,7 @@ def rows_of(crate, code):
             same = rows[-1]
         if same and (not wrong or same["text"] == text_of(item)):
             same["calls"].append(item)
-        elif wrong or item.empty or used and (REFUSAL.search(text_of(item).replace("`None` exactly", "")) or len(set(item.labels) - {""}) > (2 if item.inside == "impl" else 0)):
+        elif wrong or item.empty or used and not is_getter(item):
             rows.append({"calls": [item], "text": text_of(item), "clauses": clauses_of(item, edits), "of": item})
     lines = [f"- {named(row['calls'])}: {row['text']}{row['clauses']}" for row in rows]
     lines += ["- In functions behind these: " + ", ".join(rest)] if rest else []
@@ -269,19 +270,6 @@ def promises():
     return "\n".join(parts)
 
 
-def cited_by(crate):
-    """Returns the modules of a crate's specs that the clauses of its public calls cite, in reading order."""
-    cited = set()
-    for item in public_of(crate)[0]:
-        words = set(re.findall(r"\w+", item.clauses))
-        for module, names in re.findall(rf"(?m)^ *ghost use Rattle\.{crate}\.specs\.(\w+)\.\{{([^}}]*)\}};", item.file.read_text(encoding="utf-8")):
-            if words & set(re.findall(r"\w+", names)):
-                cited.add(module)
-    index = ROOT / "crates" / crate / "specs" / "Lib.antt"
-    order = re.findall(r"(?m)^pub mod (\w+)", index.read_text(encoding="utf-8")) if index.exists() else []
-    return [module for module in order if module in cited]
-
-
 def table():
     """Returns the table of crates."""
     below = {crate: names for _, crates in layers() for crate, names in crates}
@@ -289,13 +277,12 @@ def table():
     def reached(crate):
         return {it for name in below.get(crate, []) for it in {name} | reached(name)}
 
-    lines = ["| Crate | What it is | Uses | Its contracts cite, of `specs/` |", "|---|---|---|---|"]
+    lines = ["| Crate | What it is | Uses |", "|---|---|---|"]
     for title, crates in layers():
-        lines.append(f"| **{title}** | | | |")
+        lines.append(f"| **{title}** | | |")
         for crate, names in crates:
-            cited = cited_by(crate)
             least = [it for it in names if not any(it in reached(other) for other in names)]
-            lines.append(f"| `{crate}` | {sentences(head_of(crate)[0])[0]} | {', '.join(least)} | {', '.join(cited[:MOST_CITED])}{', ..' * (len(cited) > MOST_CITED)} |")
+            lines.append(f"| `{crate}` | {sentences(head_of(crate)[0])[0]} | {', '.join(least)} |")
     return "\n".join(lines)
 
 
