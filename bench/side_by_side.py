@@ -6,7 +6,7 @@
 
 The runs of the two programs alternate, so that a slow minute of the machine falls on both. For each run the processor time (user
 and system) and the peak resident size are taken; the tables show medians. The parts are forms, operations, algebra, cliffs,
-improving, crafted and batch; without --only all are shown. --table shows the first three in one table with a line for each
+improving, crafted, batch and cascades; without --only all are shown. --table shows the first three in one table with a line for each
 command, --growth their instructions, which no load changes, --floors what a program in C takes for the same bytes. With --large the
 machine of the cliffs is added that takes gigabytes.
 
@@ -25,6 +25,7 @@ from statistics import mean, median
 
 import tables
 from batch import LINES, batch
+from cascades import cascades
 from cliffs import CLIFFS, LARGE
 from crafted import KEYS, crafted
 from floors import floors
@@ -42,7 +43,7 @@ BOUND_SIZE = 1_000_000
 GROWTH = 20
 # Bounds of what stands by itself: megabytes a second, milliseconds, and times as long.
 MEGABYTES, CALL, SHUFFLED = 300, 5, 1.5
-PARTS = ["forms", "operations", "algebra", "cliffs", "improving", "crafted", "batch"]
+PARTS = ["forms", "operations", "algebra", "cliffs", "improving", "crafted", "batch", "cascades"]
 
 
 def compare(rows, inputs, rounds, tell):
@@ -211,6 +212,9 @@ def measure(words, scratch):
         print()
     if words.only in (None, "batch"):
         over = batch(words.fst, words.rounds, scratch, words.lines) or over
+        print()
+    if words.only in (None, "cascades"):
+        over = cascades(words.fst, words.rounds, scratch) or over
     return over
 
 
