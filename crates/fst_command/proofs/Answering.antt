@@ -6,14 +6,14 @@ use Rattle.fst_desk.specs.Seen.{Files, Seen, raised}
 use Rattle.fst_desk.specs.Desk.{content_of}
 use Rattle.fst_words.specs.declared.plan.Plan.{Plan}
 use Rattle.fst_words.specs.Inputs.{Input, plan_inputs}
-use Rattle.fst_command.specs.declared.refusal.Refusal.{Refusal}
-use Rattle.fst_command.specs.Causes.{Fault, faulty, no_memory, refused, too_long, unread}
-use Rattle.fst_command.specs.Given.{Held, given_by, nothing, put, read_limit}
+use Rattle.fst_verbs.specs.declared.refusal.Refusal.{Refusal}
+use Rattle.fst_verbs.specs.Causes.{Fault, faulty, no_memory, refused, too_long, unread}
+use Rattle.fst_verbs.specs.Given.{Held, given_by, nothing, put, read_limit}
 use Rattle.fst_command.specs.Outcome.{Agrees, Calls, IsCause, OnlyFetches, TakesMore, raised_by}
-use Rattle.fst_command.specs.Told.{Fails, IsMemory, Tells}
+use Rattle.fst_verbs.specs.Told.{Fails, IsMemory, Tells}
 use Rattle.fst_command.specs.Steps.{Decides, IsFault, NotRead, Progress, Reads, ReadsTooLong, StepAnswer, Works}
 use Rattle.fst_command.proofs.InTurn.{Agrees-append, contents_of, given_all, given_apart, given_cause, given_fault, given_long, given_more}
-use Rattle.fst_command.proofs.Refusing.{memory_tells}
+use Rattle.fst_verbs.proofs.Refusing.{memory_tells}
 
 -- one input more is one call more
 raised_by-more : {A : Type 0} (xs : List A) (x : A) (n : ℕ) → raised_by (length (xs ++ x ∷ [])) n ≡ raised (raised_by (length xs) n)

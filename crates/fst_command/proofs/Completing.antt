@@ -4,8 +4,8 @@ use Rattle.std.proofs.lemmas.List.{length-append}
 use Rattle.fst_desk.specs.Seen.{Files, Seen}
 use Rattle.fst_words.specs.declared.plan.Plan.{Plan}
 use Rattle.fst_words.specs.Inputs.{Input, plan_inputs}
-use Rattle.fst_command.specs.Causes.{Cause, Answer, done, usage, refused, no_memory, unread, unwritten, status_of}
-use Rattle.fst_command.specs.Meaning.{Made, ending_of}
+use Rattle.fst_verbs.specs.Causes.{Cause, Answer, done, usage, refused, no_memory, unread, unwritten, status_of}
+use Rattle.fst_verbs.specs.Meaning.{Made, ending_of}
 use Rattle.fst_command.specs.Outcome.{Agrees, Answers, Completes, IsCause, Makes, Refuses, Runs}
 
 -- told contents are one list

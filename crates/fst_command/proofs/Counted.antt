@@ -18,8 +18,8 @@ use Rattle.fst_words.specs.declared.plan.Plan.{Plan}
 use Rattle.fst_words.specs.Inputs.{Input, any_codex, count_machines, has_codex, is_codex, is_machine, machine_count, plan_inputs}
 use Rattle.fst_words.specs.PlanLaws.{IsWhole}
 use Rattle.fst_words.proofs.Counts.{codex_there, machines_all}
-use Rattle.fst_command.specs.Causes.{Cause, Fault, faulty, kinds_differ, too_long}
-use Rattle.fst_command.specs.Given.{Given, Held, arc_type_of, choices_by, codex_at, codex_in, given_at, given_by, machine_in, nothing, pairs_in, put, read_limit, table_in, telling, text_in}
+use Rattle.fst_verbs.specs.Causes.{Cause, Fault, faulty, kinds_differ, too_long}
+use Rattle.fst_verbs.specs.Given.{Given, Held, arc_type_of, choices_by, codex_at, codex_in, given_at, given_by, machine_in, nothing, pairs_in, put, read_limit, table_in, telling, text_in}
 use Rattle.fst_command.specs.Outcome.{Agrees}
 
 -- what a step after another gives

@@ -3,17 +3,17 @@ use Rattle.std.proofs.Common.{◌≡◌, ℕ, List, Ok, Err, refl, ap, ◌∙◌
 use Rattle.fst_fields.specs.Reading.{◌>>=◌}
 use Rattle.fst_semiring.specs.declared.arc_type.ArcType.{ArcType}
 use Rattle.fst_words.specs.declared.plan.Plan.{Plan}
-use Rattle.fst_command.specs.Commands.{meaning_for}
+use Rattle.fst_verbs.specs.Commands.{meaning_for}
 use Rattle.fst_semiring.specs.Cost.{Cost}
 use Rattle.fst_machine.specs.Machine.{Machine}
 use Rattle.fst_any.specs.Taken.{machines_as}
-use Rattle.fst_command.specs.Causes.{kinds_differ}
-use Rattle.fst_command.specs.Given.{Given, Held, codex_at, given_at, kind_of, telling}
-use Rattle.fst_command.specs.Meaning.{Declines, Made, Product, Settles, bytes_of, ending_of}
-use Rattle.fst_command.specs.Tabling.{tables_for}
+use Rattle.fst_verbs.specs.Causes.{kinds_differ}
+use Rattle.fst_verbs.specs.Given.{Given, Held, codex_at, given_at, kind_of, telling}
+use Rattle.fst_verbs.specs.Meaning.{Declines, Made, Product, Settles, bytes_of, ending_of}
+use Rattle.fst_verbs.specs.Tabling.{tables_for}
 use Rattle.fst_command.specs.Steps.{Decides, IsWorked}
-use Rattle.fst_command.specs.Told.{Fails}
-use Rattle.fst_command.specs.declared.refusal.Refusal.{Refusal}
+use Rattle.fst_verbs.specs.Told.{Fails}
+use Rattle.fst_verbs.specs.declared.refusal.Refusal.{Refusal}
 
 -- what was read is not all of one arc type: a machine has another, or a codex
 pub machines_apart : (kind : ArcType) (held : Held) (refusal : Refusal) → Fails refusal (telling (kinds_differ kind) (machines_as kind held.machines)) → Fails refusal (given_at kind held)

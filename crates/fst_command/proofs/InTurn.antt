@@ -7,8 +7,8 @@ use Rattle.fst_fields.specs.Reading.{◌>>=◌}
 use Rattle.fst_words.specs.declared.options.Options.{Options}
 use Rattle.fst_words.specs.declared.plan.Plan.{Plan}
 use Rattle.fst_words.specs.Inputs.{Input, plan_inputs}
-use Rattle.fst_command.specs.Causes.{Cause, Fault, faulty, too_long}
-use Rattle.fst_command.specs.Given.{Given, Held, given_at, given_by, given_of, kind_of, nothing, put, read_limit, telling}
+use Rattle.fst_verbs.specs.Causes.{Cause, Fault, faulty, too_long}
+use Rattle.fst_verbs.specs.Given.{Given, Held, given_at, given_by, given_of, kind_of, nothing, put, read_limit, telling}
 use Rattle.fst_command.specs.Outcome.{Agrees}
 
 pub Agrees-append : (told : Option Files) (front after : List Input) (cs ds : List (List ℕ)) → Agrees told front cs → Agrees told after ds → Agrees told (front ++ after) (cs ++ ds)

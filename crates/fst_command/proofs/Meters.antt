@@ -4,21 +4,17 @@ use Rattle.fst_desk.specs.Seen.{Files, Seen}
 use Rattle.fst_semiring.specs.declared.arc_type.ArcType.{ArcType}
 use Rattle.fst_words.specs.declared.plan.Plan.{Plan}
 use Rattle.fst_words.specs.Inputs.{expands, plan_inputs}
-use Rattle.fst_command.specs.Causes.{Answer, done, no_memory, refused, unread, unwritten, usage}
-use Rattle.fst_command.specs.Commands.{meaning_for}
-use Rattle.fst_command.specs.Given.{Given, Held, given_at, kind_of}
-use Rattle.fst_command.specs.Meaning.{Made, Product, Settles, bytes_of, ending_of}
-use Rattle.fst_command.specs.Metering.{Metered, Raises}
+use Rattle.fst_verbs.specs.Causes.{Answer, done, no_memory, refused, unread, unwritten, usage}
+use Rattle.fst_verbs.specs.Commands.{meaning_for}
+use Rattle.fst_verbs.specs.Given.{Given, Held, given_at, kind_of}
+use Rattle.fst_verbs.specs.Meaning.{Made, Product, Settles, bytes_of, ending_of}
+use Rattle.fst_verbs.specs.Metering.{Metered, Raises}
 use Rattle.fst_command.specs.Outcome.{MetersBy, MetersPlan}
-use Rattle.fst_command.specs.Tabling.{tables_for}
+use Rattle.fst_verbs.specs.Tabling.{tables_for}
 use Rattle.fst_command.specs.Steps.{MetersEnd, MetersWords, MetersWorkBy, Progress}
-use Rattle.fst_command.specs.Told.{Tells, told_status}
-use Rattle.fst_command.specs.declared.refusal.Refusal.{Refusal}
+use Rattle.fst_verbs.specs.Told.{Tells, told_status}
+use Rattle.fst_verbs.specs.declared.refusal.Refusal.{Refusal}
 use Rattle.fst_command.proofs.Writing.{makes-ready}
-
--- a command that does not expand
-pub raises_nothing : (plan : Plan) (before : Metered) (result : Result Made Refusal) → expands plan ≡ false → Raises (expands plan) before before result
-raises_nothing plan before result none = subst (λ (b : Bool). Raises b before before result) (sym none) refl
 
 -- what is made raised it, and so did the work
 pub work_raised : (b : Bool) (plan : Plan) (held : Held) (kind : ArcType) (given : Given) (made : Made) (product : Product) (before after : Metered)

@@ -4,15 +4,16 @@ use Rattle.fst_desk.specs.Seen.{Files}
 use Rattle.fst_words.specs.declared.plan.Plan.{Plan}
 use Rattle.fst_words.specs.Inputs.{Input, plan_inputs}
 use Rattle.fst_words.specs.Plans.{outputs_of, rule_labels}
-use Rattle.fst_command.specs.Causes.{Cause, Fault, faulty}
-use Rattle.fst_command.specs.Commands.{meaning_for}
-use Rattle.fst_command.specs.Given.{Given, given_of}
-use Rattle.fst_command.specs.Meaning.{Made, bytes_of, ending_of}
-use Rattle.fst_command.specs.Tabling.{tables_for}
-use Rattle.fst_command.specs.OneOutcome.{EndsWith, HasOneOutcome, One, OneOutcome}
+use Rattle.fst_verbs.specs.Causes.{Cause, Fault, faulty}
+use Rattle.fst_verbs.specs.Commands.{meaning_for}
+use Rattle.fst_verbs.specs.Given.{Given, given_of}
+use Rattle.fst_verbs.specs.Meaning.{Made, bytes_of, ending_of}
+use Rattle.fst_verbs.specs.Tabling.{tables_for}
+use Rattle.fst_verbs.specs.OneMeaning.{HasOneOutcome, One}
+use Rattle.fst_command.specs.OneOutcome.{EndsWith, OneOutcome}
 use Rattle.fst_command.specs.Outcome.{Agrees, AreNamed, IsCause, Makes, Output, Prescribes, Refuses}
-use Rattle.fst_command.proofs.Deciding.{one_error, one_value}
-use Rattle.fst_command.proofs.Lawful.{one_meaning}
+use Rattle.fst_verbs.proofs.Deciding.{one_error, one_value}
+use Rattle.fst_verbs.proofs.Lawful.{one_meaning}
 
 one_reading : (files : Files) (inputs : List Input) → One (Agrees (Some files) inputs)
 one_reading files [] [] [] one two = refl

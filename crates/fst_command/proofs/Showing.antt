@@ -5,11 +5,11 @@ use Rattle.fst_desk.specs.Seen.{Filed, Showing, Seen}
 use Rattle.fst_desk.specs.Desk.{ToldAppends, ShowAnswer, DeskShows}
 use Rattle.fst_desk.specs.declared.edge.StoreFault.{StoreFault}
 use Rattle.fst_desk.specs.declared.edge.StoreFault.TheVariants as storing
-use Rattle.fst_command.specs.declared.refusal.Refusal.{Refusal}
-use Rattle.fst_command.specs.Causes.{Answer, line_of, status_of}
+use Rattle.fst_verbs.specs.declared.refusal.Refusal.{Refusal}
+use Rattle.fst_verbs.specs.Causes.{Answer, line_of, status_of}
 use Rattle.fst_words.specs.Plans.{plan_of}
 use Rattle.fst_command.specs.Outcome.{Answers, ShowsFront, ShowsLine, Runs}
-use Rattle.fst_command.specs.Told.{told_line, told_status}
+use Rattle.fst_verbs.specs.Told.{told_line, told_status}
 use Rattle.fst_command.specs.Steps.{Works}
 
 -- nothing is the front of any line

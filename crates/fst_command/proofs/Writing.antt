@@ -5,10 +5,10 @@ use Rattle.fst_desk.specs.Desk.{ToldHolds}
 use Rattle.fst_words.specs.declared.plan.Plan.{Plan}
 use Rattle.fst_words.specs.Inputs.{plan_inputs}
 use Rattle.fst_words.specs.Plans.{outputs_of}
-use Rattle.fst_command.specs.declared.refusal.Refusal.{Refusal}
-use Rattle.fst_command.specs.Causes.{done, no_memory, unwritten}
-use Rattle.fst_command.specs.Given.{Held}
-use Rattle.fst_command.specs.Meaning.{Product, ending_of}
+use Rattle.fst_verbs.specs.declared.refusal.Refusal.{Refusal}
+use Rattle.fst_verbs.specs.Causes.{done, no_memory, unwritten}
+use Rattle.fst_verbs.specs.Given.{Held}
+use Rattle.fst_verbs.specs.Meaning.{Product, ending_of}
 use Rattle.fst_command.specs.Outcome.{AreNamed, Calls, Leaves, Makes, OnlyFetches, Output, Prescribes}
 use Rattle.fst_command.specs.Steps.{BothAnswer, IsReady, IsWorked, NoRoom, NotWritten, Progress, Starves, StopsAfter, StoresOnce, Works, WriteAnswer, WritesBoth, WritesOutput, WrittenWhole, ended}
 use Rattle.fst_command.proofs.InTurn.{given_all}

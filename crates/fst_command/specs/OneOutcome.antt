@@ -3,19 +3,10 @@
 use Rattle.std.specs.Prelude.{◌≡◌, ℕ, List, Option, Some}
 use Rattle.fst_desk.specs.Seen.{Files}
 use Rattle.fst_words.specs.declared.plan.Plan.{Plan}
-use Rattle.fst_command.specs.Causes.{Cause}
-use Rattle.fst_command.specs.Given.{Given}
-use Rattle.fst_command.specs.Meaning.{Made, Meaning, ending_of}
+use Rattle.fst_verbs.specs.Causes.{Cause}
+use Rattle.fst_verbs.specs.Meaning.{Made, ending_of}
+use Rattle.fst_verbs.specs.OneMeaning.{One}
 use Rattle.fst_command.specs.Outcome.{Makes, Output, Prescribes, Refuses}
-
--- no two have the property
-abbrev pub One : {X : Type 0} → (X → Type 0) → Type 0
-One {X} P = (x y : X) → P x → P y → x ≡ y
-
--- of what a command is given, one fault stops it, and one thing is made
-pub record HasOneOutcome (m : Meaning) (given : Given) : Type 0 where
-  pub stopped : One (m.stops given)
-  pub made : One (m.makes given)
 
 -- the status is that of what the plan makes
 abbrev pub EndsWith : Plan → Option Files → ℕ → Type 0

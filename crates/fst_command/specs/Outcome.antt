@@ -5,12 +5,12 @@ use Rattle.fst_desk.specs.Desk.{content_of, ToldHolds, ToldAppends}
 use Rattle.fst_words.specs.declared.plan.Plan.{Plan}
 use Rattle.fst_words.specs.Inputs.{Input, expands, plan_inputs}
 use Rattle.fst_words.specs.Plans.{outputs_of, plan_of}
-use Rattle.fst_command.specs.Causes.{Cause, too_long, faulty, Fault, Answer, done, usage, refused, no_memory, unread, unwritten, status_of, line_of}
-use Rattle.fst_command.specs.Commands.{meaning_for}
-use Rattle.fst_command.specs.Given.{Given, Held, given_by, given_of, nothing, read_limit}
-use Rattle.fst_command.specs.Meaning.{Made, Passes, bytes_of, ending_of, expansions_of}
-use Rattle.fst_command.specs.Tabling.{tables_for}
-use Rattle.fst_command.specs.Metering.{Metered, risen_by}
+use Rattle.fst_verbs.specs.Causes.{Cause, too_long, faulty, Fault, Answer, done, usage, refused, no_memory, unread, unwritten, status_of, line_of}
+use Rattle.fst_verbs.specs.Commands.{meaning_for}
+use Rattle.fst_verbs.specs.Given.{Given, Held, given_by, given_of, nothing, read_limit}
+use Rattle.fst_verbs.specs.Meaning.{Made, Passes, bytes_of, ending_of, expansions_of}
+use Rattle.fst_verbs.specs.Tabling.{tables_for}
+use Rattle.fst_verbs.specs.Metering.{Metered, risen_by}
 
 -- the contents are those that are told under the names of the inputs
 abbrev pub Agrees : Option Files → List Input → List (List ℕ) → Type 0

@@ -5,15 +5,15 @@ use Rattle.fst_desk.specs.Desk.{content_of, ToldHolds}
 use Rattle.fst_words.specs.declared.options.Options.{Options}
 use Rattle.fst_words.specs.declared.plan.Plan.{Plan}
 use Rattle.fst_words.specs.Inputs.{Input, expands, plan_inputs}
-use Rattle.fst_command.specs.Causes.{Answer, Fault, done, faulty, no_memory, refused, too_long, unread, unwritten}
-use Rattle.fst_command.specs.Commands.{meaning_for}
-use Rattle.fst_command.specs.Given.{Given, Held, given_at, given_by, kind_of, nothing, put, read_limit}
-use Rattle.fst_command.specs.Meaning.{Made, Passes, Product, bytes_of, ending_of, expansions_of}
-use Rattle.fst_command.specs.Tabling.{tables_for}
-use Rattle.fst_command.specs.Metering.{Metered, risen_by}
+use Rattle.fst_verbs.specs.Causes.{Answer, Fault, done, faulty, no_memory, refused, too_long, unread, unwritten}
+use Rattle.fst_verbs.specs.Commands.{meaning_for}
+use Rattle.fst_verbs.specs.Given.{Given, Held, given_at, given_by, kind_of, nothing, put, read_limit}
+use Rattle.fst_verbs.specs.Meaning.{Made, Passes, Product, bytes_of, ending_of, expansions_of}
+use Rattle.fst_verbs.specs.Tabling.{tables_for}
+use Rattle.fst_verbs.specs.Metering.{Metered, risen_by}
 use Rattle.fst_command.specs.Outcome.{Agrees, Answers, Calls, Makes}
-use Rattle.fst_command.specs.declared.refusal.Refusal.{Refusal}
-use Rattle.fst_command.specs.Told.{Fails, IsMemory, Tells}
+use Rattle.fst_verbs.specs.declared.refusal.Refusal.{Refusal}
+use Rattle.fst_verbs.specs.Told.{Fails, IsMemory, Tells}
 
 -- an input that could not be read
 pub record NotRead (name : List ℕ) (old new : Filed) (refusal : Refusal) : Type 0 where

@@ -2,11 +2,11 @@
 
 ghost use Rattle.std.specs.Result.{result_map_both};
 ghost use Rattle.fst_command.specs.Steps.{Reads, StoresOutput, WritesBoth, WritesOutput};
-ghost use Rattle.fst_command.specs.Causes.{unwritten};
-ghost use Rattle.fst_command.specs.Told.{Tells};
+ghost use Rattle.fst_verbs.specs.Causes.{unwritten};
+ghost use Rattle.fst_verbs.specs.Told.{Tells};
 
-use crate::refusal::{Refusal, longer, not_read, not_written};
 use fst_desk::{Desk, FetchFault, StoreFault};
+use fst_verbs::{Refusal, longer, not_read, not_written};
 use std::alloc::Global;
 
 /// The most bytes that are read of an input. The largest machine of every arc type fits.

@@ -2,9 +2,10 @@
 
 ghost use Rattle.fst_desk.specs.Seen.{Files};
 ghost use Rattle.fst_words.specs.declared.plan.Plan.{Plan};
-ghost use Rattle.fst_command.specs.Commands.{meaning_for};
-ghost use Rattle.fst_command.specs.Given.{Given};
-ghost use Rattle.fst_command.specs.OneOutcome.{HasOneOutcome, OneOutcome};
+ghost use Rattle.fst_verbs.specs.Commands.{meaning_for};
+ghost use Rattle.fst_verbs.specs.Given.{Given};
+ghost use Rattle.fst_verbs.specs.OneMeaning.{HasOneOutcome};
+ghost use Rattle.fst_command.specs.OneOutcome.{OneOutcome};
 
 /// Of what a command is given, one fault stops it and one thing is made; so the same words and the same contents of
 /// files prescribe one list of outputs and one status, or one cause, and never both.

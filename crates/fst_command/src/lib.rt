@@ -1,25 +1,21 @@
-//! The commands: what the words ask for, what each command reads, makes and writes, and the one line of a refusal.
+//! The road of all commands: from the words and the contents of files to the bytes of the outputs, or to one line.
 //!
 //! [`run`] is the top call: it does all that the program does. Its clause, `Runs` of `specs/Outcome.antt`, names no
-//! command: what a command means is a page of `specs/` and a line in the table of `specs/Commands.antt`.
+//! command: what a command means is a page of `fst_verbs` and a line in the table there.
 //!
-//! There is one road for all commands: [`reading`] reads and judges each input, [`working`] chooses the type of weights,
-//! a module of [`commands`] does the command's own work on what it is given, and [`carrying`] stores what was made.
+//! [`reading`] reads and judges each input, [`working`] chooses the type of weights and hands what was read to `fst_verbs`,
+//! and [`carrying`] stores what was made.
 #![tactic(auto)]
 
 mod carrying;
-mod commands;
 mod files;
-mod given;
+mod held;
 mod laws;
-mod made;
-mod queues;
+mod product;
 mod reading;
-mod refusal;
-mod tables;
 mod top;
 mod working;
 
+pub use fst_verbs::Queues;
 pub use laws::one_outcome;
-pub use queues::Queues;
 pub use top::run;

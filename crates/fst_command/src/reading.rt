@@ -9,17 +9,15 @@ ghost use Rattle.fst_rational.specs.Faults as pairs;
 ghost use Rattle.fst_symbols.specs.Faults as symbols;
 ghost use Rattle.fst_text.specs.Faults as texts;
 ghost use Rattle.fst_words.specs.Inputs.{input_seen};
-ghost use Rattle.fst_command.specs.Causes.{faulty, misread, refused};
-ghost use Rattle.fst_command.specs.Given.{arc_type_of, choices_by, codex_in, machine_in, pairs_in, put, table_in, text_in};
-ghost use Rattle.fst_command.specs.Seeing.{held_seen, input_names, output_names, tables_seen};
+ghost use Rattle.fst_verbs.specs.Causes.{faulty, misread, refused};
+ghost use Rattle.fst_verbs.specs.Given.{arc_type_of, choices_by, codex_in, machine_in, pairs_in, put, table_in, text_in};
+ghost use Rattle.fst_verbs.specs.Seeing.{input_names, output_names, tables_seen};
+ghost use Rattle.fst_command.specs.Views.{held_seen};
 ghost use Rattle.fst_command.specs.Steps.{ReadsAll, StepAnswer};
-ghost use Rattle.fst_command.specs.Texts.{print_choices};
-ghost use Rattle.fst_command.specs.Told.{IsMade, Judges};
+ghost use Rattle.fst_verbs.specs.Told.{IsMade, Judges};
 
 use crate::files::read_input;
-use crate::given::{Held, arc_type_of};
-use crate::refusal::{Refusal, misread};
-use crate::tables::{Carried, Tables};
+use crate::held::Held;
 use fst_any::{AnyCodex, AnyFst, AnyTabled, compile_any, decode_any, read_any_codex};
 use fst_binary::{BinaryFault, BinaryKind};
 use fst_codex::{CodexFault, CodexKind};
@@ -27,6 +25,7 @@ use fst_desk::Desk;
 use fst_rational::{Pairs, PairsFault};
 use fst_symbols::{SymbolTable, SymbolsFault};
 use fst_text::{TextFault, TextOptions};
+use fst_verbs::{Carried, Refusal, Tables, arc_type_of, misread};
 use fst_words::{Input, Options, Plan, Role, Room};
 use std::alloc::Global;
 
@@ -49,7 +48,7 @@ fn not_symbols(alloc: Global, name: &str, fault: SymbolsFault) -> Refusal
 }
 
 /// The symbol table of a content.
-#[tactic(auto, unfolding(crate::specs::Given::table_in))]
+#[tactic(auto, unfolding(fst_verbs::specs::Given::table_in))]
 fn read_table(alloc: Global, name: &str, content: &[u8]) -> Result<SymbolTable, Refusal>
     ensures { Judges (λ table. table) result (table_in name.now content.now) }
 {
@@ -71,7 +70,7 @@ fn not_pairs(alloc: Global, name: &str, fault: PairsFault) -> Refusal
 }
 
 /// The pairs of labels of a content.
-#[tactic(auto, unfolding(crate::specs::Given::pairs_in))]
+#[tactic(auto, unfolding(fst_verbs::specs::Given::pairs_in))]
 fn read_pairs(alloc: Global, name: &str, content: &[u8]) -> Result<Pairs, Refusal>
     ensures { Judges (λ pairs. pairs) result (pairs_in name.now content.now) }
 {
@@ -94,19 +93,6 @@ fn choices<'t>(options: &Options, tables: &'t Tables) -> TextOptions<'t>
     }
 }
 
-/// How texts are printed: a side by the names of its option, or else by those that the machine carries.
-pub(crate) fn print_choices<'t>(options: &Options, tables: &'t Tables) -> TextOptions<'t>
-    ensures { result ≡ print_choices options.now (tables_seen tables.entry.now) }
-{
-    TextOptions {
-        acceptor: options.acceptor,
-        keep_state_numbering: options.keep_state_numbering,
-        show_weight_one: options.show_weight_one,
-        isymbols: tables.shown_input(options.numeric),
-        osymbols: tables.shown_output(options.numeric),
-    }
-}
-
 /// A content is no text of a machine.
 fn not_text(alloc: Global, name: &str, fault: TextFault) -> Refusal
     ensures made { IsMade (refused (faulty (misread name.now (codes "line") (texts.line_of fault) (texts.reason_of fault)))) result }
@@ -119,7 +105,7 @@ fn not_text(alloc: Global, name: &str, fault: TextFault) -> Refusal
 }
 
 /// The machine of a text, read by the tables that stand there.
-#[tactic(auto, unfolding(crate::specs::Given::text_in))]
+#[tactic(auto, unfolding(fst_verbs::specs::Given::text_in))]
 fn read_text(
     alloc: Global,
     options: &Options,
@@ -149,7 +135,7 @@ fn not_binary(alloc: Global, name: &str, fault: BinaryFault) -> Refusal
 }
 
 /// The machine of a content in the binary form, and the symbol tables that it carries.
-#[tactic(auto, unfolding(crate::specs::Given::machine_in))]
+#[tactic(auto, unfolding(fst_verbs::specs::Given::machine_in))]
 fn read_machine(alloc: Global, name: &str, content: &[u8]) -> Result<AnyTabled, Refusal>
     ensures { Judges (λ t. typed_tabled t) result (machine_in name.now content.now) }
 {
@@ -171,7 +157,7 @@ fn not_codex(alloc: Global, name: &str, fault: CodexFault) -> Refusal
 }
 
 /// The codex of a content.
-#[tactic(auto, unfolding(crate::specs::Given::codex_in))]
+#[tactic(auto, unfolding(fst_verbs::specs::Given::codex_in))]
 fn read_codex(alloc: Global, name: &str, content: &[u8]) -> Result<AnyCodex, Refusal>
     ensures { Judges (λ c. typed_codex c) result (codex_in name.now content.now) }
 {
@@ -182,7 +168,7 @@ fn read_codex(alloc: Global, name: &str, content: &[u8]) -> Result<AnyCodex, Ref
 }
 
 /// Puts what a content stands for beside what stands there, by what the input is for.
-#[tactic(auto, unfolding(crate::specs::Given::put))]
+#[tactic(auto, unfolding(fst_verbs::specs::Given::put))]
 fn put(
     alloc: Global,
     options: &Options,

@@ -2,15 +2,14 @@
 
 ghost use Rattle.std.specs.Prelude.{◌≡◌, map, string_bytes};
 ghost use Rattle.fst_words.specs.Plans.{plan_of};
-ghost use Rattle.fst_command.specs.Metering.{IsFree, meter_seen};
+ghost use Rattle.fst_verbs.specs.Metering.{IsFree, meter_seen};
 ghost use Rattle.fst_command.specs.Outcome.{Completes, Meters, Runs};
 ghost use Rattle.fst_command.specs.Steps.{MetersWords, Works};
 
 use crate::carrying::carry_out;
-use crate::queues::Queues;
-use crate::refusal::Refusal;
 use fst_delayed::Meter;
 use fst_desk::Desk;
+use fst_verbs::{Queues, Refusal};
 use fst_words::{WordsFault, read_words};
 use std::alloc::Global;
 use std::thread::Threads;

@@ -1,10 +1,10 @@
 use Rattle.std.proofs.Common.{sym, ◌∙◌}
 use Rattle.std.proofs.lemmas.List.{length-map}
 use Rattle.fst_any.specs.Typed.{typed, typed_codex}
-use Rattle.fst_command.specs.Seeing.{held_seen, product_seen}
+use Rattle.fst_command.specs.Views.{held_seen, product_seen}
 use Rattle.fst_command.proofs.Answering.{works_refused}
 use Rattle.fst_command.proofs.Counted.{read_codex, read_lines, read_machines, some_seen}
-use Rattle.fst_command.proofs.Lawful.{stored_fits}
+use Rattle.fst_command.proofs.Fitting.{stored_fits}
 use Rattle.fst_command.proofs.Meters.{end_refused, end_stored, end_untouched}
 use Rattle.fst_command.proofs.carrying.carry_out.Goals as goal
 

@@ -1,8 +1,8 @@
 use Rattle.std.proofs.Common.{◌≡◌, ℕ, List, length, ap, ◌∙◌, subst}
 use Rattle.fst_words.specs.Plans.{outputs_of}
-use Rattle.fst_command.specs.Seeing.{bytes_seen}
+use Rattle.fst_command.specs.Views.{bytes_seen}
 use Rattle.fst_command.specs.Steps.{IsReady, WritesBoth, WritesOutput}
-use Rattle.fst_command.specs.declared.made.Bytes.{Bytes}
+use Rattle.fst_command.specs.declared.product.Bytes.{Bytes}
 use Rattle.fst_command.proofs.Stored.{only_one, only_two}
 use Rattle.fst_command.proofs.Writing.{Works-both, Works-written}
 use Rattle.fst_command.proofs.carrying.store.Goals as goal

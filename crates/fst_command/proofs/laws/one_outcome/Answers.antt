@@ -1,5 +1,5 @@
 use Rattle.fst_words.specs.Plans.{rule_labels}
-use Rattle.fst_command.proofs.Lawful.{one_meaning}
+use Rattle.fst_verbs.proofs.Lawful.{one_meaning}
 use Rattle.fst_command.proofs.OneOutcome.{one_outcome}
 use Rattle.fst_command.proofs.laws.one_outcome.Goals as goal
 

@@ -1,9 +1,9 @@
 use Rattle.std.proofs.Common.{◌≡◌, ◌<◌, ◌≤◌, [], List, drop, length, map, refl, rules, suc, sym, ◌∙◌, subst, take, vec_len, arith}
 use Rattle.fst_words.specs.Inputs.{Input, input_seen}
-use Rattle.fst_command.specs.Given.{Held}
-use Rattle.fst_command.specs.Seeing.{held_seen}
+use Rattle.fst_verbs.specs.Given.{Held}
+use Rattle.fst_command.specs.Views.{held_seen}
 use Rattle.fst_command.specs.Steps.{Progress}
-use Rattle.fst_command.specs.declared.refusal.Refusal.TheVariants as refusals
+use Rattle.fst_verbs.specs.declared.refusal.Refusal.TheVariants as refusals
 use Rattle.fst_command.proofs.Answering.{none_read, one_read, starved_first, works_stopped}
 use Rattle.fst_command.proofs.Places.{parted, taken_next, taken_past}
 use Rattle.fst_command.proofs.reading.read_all.Goals as goal

@@ -1,6 +1,6 @@
 use Rattle.std.proofs.Common.{map, take}
 use Rattle.fst_words.specs.Inputs.{input_seen}
-use Rattle.fst_command.specs.Seeing.{held_seen}
+use Rattle.fst_command.specs.Views.{held_seen}
 use Rattle.fst_command.specs.Steps.{Progress}
 use Rattle.fst_command.proofs.reading.read_all.Given as goal
 

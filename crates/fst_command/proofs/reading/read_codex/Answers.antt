@@ -1,7 +1,7 @@
 use Rattle.std.proofs.Common.{codes}
-use Rattle.fst_command.specs.Causes.{misread}
-use Rattle.fst_command.specs.Given.{codex_in}
-use Rattle.fst_command.proofs.Refusing.{fails_read}
+use Rattle.fst_verbs.specs.Causes.{misread}
+use Rattle.fst_verbs.specs.Given.{codex_in}
+use Rattle.fst_verbs.proofs.Refusing.{fails_read}
 use Rattle.std.proofs.Common.{ap}
 use Rattle.fst_codex.specs.Faults.{reason_of}
 use Rattle.fst_codex.specs.Reading.{CodexFault, no_memory}

@@ -1,7 +1,7 @@
 use Rattle.std.proofs.Common.{codes}
-use Rattle.fst_command.specs.Causes.{misread}
-use Rattle.fst_command.specs.Given.{machine_in}
-use Rattle.fst_command.proofs.Refusing.{fails_read}
+use Rattle.fst_verbs.specs.Causes.{misread}
+use Rattle.fst_verbs.specs.Given.{machine_in}
+use Rattle.fst_verbs.proofs.Refusing.{fails_read}
 use Rattle.std.proofs.Common.{ap}
 use Rattle.fst_binary.specs.Faults.{reason_of}
 use Rattle.fst_binary.specs.Reading.{BinaryFault, no_memory}

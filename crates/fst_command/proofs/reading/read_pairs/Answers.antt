@@ -1,7 +1,7 @@
 use Rattle.std.proofs.Common.{codes}
-use Rattle.fst_command.specs.Causes.{misread}
-use Rattle.fst_command.specs.Given.{pairs_in}
-use Rattle.fst_command.proofs.Refusing.{fails_read}
+use Rattle.fst_verbs.specs.Causes.{misread}
+use Rattle.fst_verbs.specs.Given.{pairs_in}
+use Rattle.fst_verbs.proofs.Refusing.{fails_read}
 use Rattle.fst_rational.specs.Faults.{line_of, reason_of}
 use Rattle.fst_rational.specs.Pairs.{pairs_of_text}
 use Rattle.fst_rational.specs.declared.pairs.PairsFault.TheVariants.{Memory}

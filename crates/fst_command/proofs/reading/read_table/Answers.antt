@@ -1,7 +1,7 @@
 use Rattle.std.proofs.Common.{codes}
-use Rattle.fst_command.specs.Causes.{misread}
-use Rattle.fst_command.specs.Given.{table_in}
-use Rattle.fst_command.proofs.Refusing.{fails_read}
+use Rattle.fst_verbs.specs.Causes.{misread}
+use Rattle.fst_verbs.specs.Given.{table_in}
+use Rattle.fst_verbs.proofs.Refusing.{fails_read}
 use Rattle.fst_symbols.specs.Faults.{line_of, reason_of}
 use Rattle.fst_symbols.specs.Reading.{table_of_text}
 use Rattle.fst_symbols.specs.declared.fault.SymbolsFault.TheVariants.{Memory}

@@ -5,10 +5,10 @@ use Rattle.fst_text.specs.Faults.{line_of, reason_of}
 use Rattle.fst_text.specs.Options.{Options}
 use Rattle.fst_text.specs.declared.fault.TextFault.TheVariants.{Memory}
 use Rattle.fst_any.specs.Typed.{typed_machine_of_text}
-use Rattle.fst_command.specs.Causes.{misread}
-use Rattle.fst_command.specs.Given.{arc_type_of, choices_by, telling, text_in}
-use Rattle.fst_command.specs.Seeing.{input_names, output_names}
-use Rattle.fst_command.proofs.Refusing.{fails_read}
+use Rattle.fst_verbs.specs.Causes.{misread}
+use Rattle.fst_verbs.specs.Given.{arc_type_of, choices_by, telling, text_in}
+use Rattle.fst_verbs.specs.Seeing.{input_names, output_names}
+use Rattle.fst_verbs.proofs.Refusing.{fails_read}
 use Rattle.fst_command.proofs.reading.read_text.Goals as goal
 
 pub returns-in-Ok : goal.returns-in-Ok

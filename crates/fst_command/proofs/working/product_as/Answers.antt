@@ -1,9 +1,10 @@
 use Rattle.std.proofs.Common.{ap, inl, refl, ◌∙◌}
 use Rattle.fst_binary.specs.Sides.{Sides}
-use Rattle.fst_command.specs.Meaning.{bytes_of}
+use Rattle.fst_verbs.specs.Meaning.{bytes_of}
 use Rattle.fst_words.specs.Inputs.{expands}
-use Rattle.fst_command.specs.Seeing.{given_with, made_seen, product_seen}
-use Rattle.fst_command.specs.declared.refusal.Refusal.TheVariants.{Memory}
+use Rattle.fst_verbs.specs.Seeing.{given_with, made_seen}
+use Rattle.fst_command.specs.Views.{product_seen}
+use Rattle.fst_verbs.specs.declared.refusal.Refusal.TheVariants.{Memory}
 use Rattle.fst_command.proofs.Decided.{decides_made, decides_stopped}
 use Rattle.fst_command.proofs.Meters.{work_raised, work_refused, work_unspelled}
 use Rattle.fst_command.proofs.working.product_as.Goals as goal

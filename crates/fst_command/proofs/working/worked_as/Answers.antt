@@ -3,8 +3,9 @@ use Rattle.std.proofs.lemmas.List.{length-map}
 use Rattle.fst_machine.specs.Machine.{valued}
 use Rattle.fst_codex.specs.Table.{valued_table}
 use Rattle.fst_any.specs.Typed.{typed, typed_codex}
-use Rattle.fst_command.specs.Given.{read_limit}
-use Rattle.fst_command.specs.Seeing.{given_with, held_seen}
+use Rattle.fst_verbs.specs.Given.{read_limit}
+use Rattle.fst_verbs.specs.Seeing.{given_with}
+use Rattle.fst_command.specs.Views.{held_seen}
 use Rattle.fst_command.proofs.Counted.{given_codex, given_lines, given_machines, some_seen}
 use Rattle.fst_command.proofs.working.worked_as.Goals as goal
 

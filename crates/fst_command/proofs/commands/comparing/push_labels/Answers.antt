@@ -1,6 +1,0 @@
-use Rattle.fst_batch.proofs.LeftTexts.{texts_more}
-use Rattle.fst_command.specs.Comparing.{next_label_text}
-use Rattle.fst_command.proofs.commands.comparing.push_labels.Goals as goal
-
-pub loop-place-preserved : goal.loop-place-preserved
-loop-place-preserved c = texts_more next_label_text c.args.labels.now c.loop-place.place c.item-in-loop-place.result.now c.loop-place.out.items c.push_next_label.new.out.items _ c.item-in-loop-place.ensures c.loop-place.invariant c.in_ok-push_next_label.ensures

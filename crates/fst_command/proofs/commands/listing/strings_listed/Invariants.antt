@@ -1,4 +1,0 @@
-use Rattle.fst_command.proofs.commands.listing.strings_listed.Given as goal
-
-abbrev pub ghosts-first_strings : goal.ghosts-first_strings
-ghosts-first_strings g a = record { name = a.blank.name; parts = a.blank.parts }

@@ -1,0 +1,32 @@
+-- In reading order: why a command is refused, what it is given, what a command means, a page for each family of
+-- commands, the table of their meanings, and that each means one thing. After these comes what the code holds.
+pub mod Causes
+pub mod Given
+pub mod Tabling
+pub mod Meaning
+pub mod Metering
+pub mod Rational
+pub mod Trimming
+pub mod Descriptions
+pub mod Describing
+pub mod Texts
+pub mod Replacing
+pub mod Composing
+pub mod Intersecting
+pub mod Subtracting
+pub mod Comparing
+pub mod Determinizing
+pub mod Minimizing
+pub mod Measuring
+pub mod Listing
+pub mod Batching
+pub mod Making
+pub mod Removing
+pub mod Pruning
+pub mod Pushing
+pub mod Coding
+pub mod Commands
+pub mod OneMeaning
+pub mod Told
+pub mod Seeing
+pub mod KeyText
