@@ -1,4 +1,4 @@
--- What a desk in memory that never fails keeps, and what each call makes of that.
+-- What a desk in memory keeps whose calls fail for lack of memory alone, and what each call makes of that.
 use Rattle.std.specs.Prelude.{◌≡◌, ℕ, ◌<◌, ◌≤◌, List, [], ◌∷◌, ◌++◌, length, None, Some, unwrap_or, Result, Ok, Err}
 use Rattle.std.specs.Str.{bytes_eq}
 use Rattle.fst_desk.specs.Seen.{Files, Seen, raised}
@@ -32,7 +32,7 @@ unused = record { writes = []; fetches = 0; stores = 0; shows = 0; starved = 0; 
 abbrev pub put_sure : List ℕ → List ℕ → Sure → Sure
 put_sure name content sure = record sure { writes = sure.writes ++ (name, content) ∷ [] }
 
--- what callers see of it: it tells all, no name is missed, no store and no show fails
+-- what callers see of it: it tells all, no name is ever missed, and no store and no show fails
 abbrev pub sure_seen : Sure → Seen
 sure_seen sure = record {
   filed = record {
@@ -55,7 +55,7 @@ fetched_sure taken sure = record sure { fetches = raised sure.fetches; taken = t
 abbrev pub read_sure : Sure → List ℕ → List ℕ
 read_sure sure name = unwrap_or (sure_files sure name) []
 
--- each answer of its fetch: the whole content, TooLong exactly where it is longer, no fault of reading
+-- each answer of its fetch: the whole content, or TooLong where that is longer, or no memory; none of reading
 abbrev pub SureFetches : List ℕ → ℕ → Sure → Sure → Result (List ℕ) FetchFault → Type 0
 SureFetches name limit old new (Ok content) =
     (content ≡ read_sure old name) × (length content ≤ limit) × (new ≡ fetched_sure (length content) old)
@@ -64,7 +64,7 @@ SureFetches name limit old new (Err fetching.TooLong) =
     (limit < length (read_sure old name)) × (new ≡ fetched_sure (length (read_sure old name)) old)
 SureFetches name limit old new (Err fetching.Memory) = new ≡ fetched_sure 0 old
 
--- each answer of its store: all bytes, or no memory, which is counted
+-- each answer of its store: all bytes, or no memory, which is counted; none of writing
 abbrev pub SureStores : List ℕ → List ℕ → Sure → Sure → Result Unit StoreFault → Type 0
 SureStores name bytes old new (Ok _) = new ≡ put_sure name bytes (record old { stores = raised old.stores })
 SureStores name bytes old new (Err storing.Failed) = ⊥

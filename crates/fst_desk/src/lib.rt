@@ -6,7 +6,7 @@
 //! read, and counts of the calls and of those that failed.
 //!
 //! - [`MemoryDesk`] holds its files in memory and tells all. It fails where it was asked to.
-//! - [`SureDesk`] holds its files in memory and tells all too. None of its calls fails but for want of memory.
+//! - [`SureDesk`] holds its files in memory and tells all too. Its calls fail for lack of memory alone.
 //! - [`RealDesk`] is the operating system: files, the three standard streams. It tells no content.
 //!
 //! The name `-` is standard input to a fetch and standard output to a store.

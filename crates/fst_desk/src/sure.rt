@@ -1,4 +1,4 @@
-// A desk in memory that tells all and never fails.
+// A desk in memory, which tells all and fails for lack of memory alone.
 ghost use Rattle.std.specs.Prelude.{◌≡◌, OnOk, OnErr};
 ghost use Rattle.std.specs.Option.{option_copied};
 ghost use Rattle.std.specs.Result.{result_map_both};
@@ -12,8 +12,10 @@ use crate::writes::{Write, last_written};
 use std::alloc::{AllocError, Global};
 use std::marker::Model;
 
-/// A desk in memory, for tests, of which no call fails but for want of memory: it tells all, and a name that
-/// is not held reads as empty.
+/// A desk in memory, for tests, whose calls fail for lack of memory alone: it tells all, and a name that is
+/// not held is fetched as an empty content.
+///
+/// The writes are kept as a log, so space grows with each store, also of the same name.
 #[derive(Drop)]
 pub struct SureDesk {
     writes: Vec<Write>,
@@ -72,14 +74,16 @@ impl SureDesk {
         Ok(())
     }
 
-    /// The content under the name, None exactly where the name is not held. It takes no memory.
+    /// The content under the name, None exactly where the name is not held. It counts as no fetch, and
+    /// takes no memory.
     pub fn held(&self, name: &str) -> Option<&[u8]>
         ensures { option_copied result ≡ sure_files self.now name.now }
     {
         last_written(self.writes.as_slice(), name)
     }
 
-    /// The diagnostic bytes, in the order in which they were shown. It takes no memory.
+    /// The diagnostic bytes, in the order in which they were shown. It changes no count, and takes no
+    /// memory.
     pub fn shown_bytes(&self) -> &[u8]
         ensures { result.now ≡ self.now.shown }
     {

@@ -1,4 +1,4 @@
-//! The desk in memory, and that of the operating system.
+//! The two desks in memory, and that of the operating system.
 //!
 //! What is asked of a desk stands in functions that answer with a truth value, since the proof of a test costs by the ways
 //! through it.
@@ -160,7 +160,7 @@ fn is_sure(desk: &mut SureDesk, alloc: Global, name: &str, want: &[u8], line: &[
 }
 
 #[test]
-fn fails_for_want_of_memory_alone(rt: HostRuntime) -> Result<(), Fail> {
+fn fails_for_lack_of_memory_alone(rt: HostRuntime) -> Result<(), Fail> {
     let alloc = rt.alloc();
     let mut desk = SureDesk::new(alloc);
     desk.put("a", b"one")?;
