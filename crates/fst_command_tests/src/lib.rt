@@ -22,6 +22,8 @@ mod distances;
 #[cfg(test)]
 mod epsilon_arcs;
 #[cfg(test)]
+mod failing_calls;
+#[cfg(test)]
 mod faults;
 #[cfg(test)]
 mod forms;

@@ -50,7 +50,7 @@ pub(crate) fn split(alloc: Global, line: &str) -> Result<Vec<String>, AllocError
 }
 
 /// The queues of the program.
-fn queues(alloc: Global) -> Result<Queues, AllocError> {
+pub(crate) fn queues(alloc: Global) -> Result<Queues, AllocError> {
     Ok(Queues {
         fifo: Box::new(alloc, Fifo::new(alloc))?,
         lifo: Box::new(alloc, Lifo::new(alloc))?,
@@ -76,6 +76,14 @@ pub(crate) fn ends<R: Threads + Sync + Abort>(
     let found = desk.shown_bytes().get(before..).unwrap_or(&[]);
     assert_eq!(rt; found, shown, "{line}");
     Ok(())
+}
+
+/// Whether the file holds these bytes.
+pub(crate) fn is_held(desk: &MemoryDesk, name: &str, bytes: &[u8]) -> bool {
+    match desk.held(name) {
+        Some(content) => content == bytes,
+        None => false,
+    }
 }
 
 /// Asks that the file holds these bytes.
@@ -130,7 +138,7 @@ fn put_with(
 }
 
 /// Does what a row says.
-fn play_row<R: Threads + Sync + Abort>(
+pub(crate) fn play_row<R: Threads + Sync + Abort>(
     rt: &R,
     alloc: Global,
     desk: &mut MemoryDesk,

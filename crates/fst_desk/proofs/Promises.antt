@@ -1,12 +1,14 @@
 -- What a memory desk does keeps what the trait promises.
-use Rattle.std.proofs.Common.{◌≡◌, ℕ, ◌≤◌, Bool, List, [], ◌∷◌, ◌++◌, take, drop, Option, Result, Ok, Err, refl, sym, arith}
+use Rattle.std.proofs.Common.{◌≡◌, ℕ, ◌≤◌, Bool, List, [], ◌∷◌, ◌++◌, take, drop, Option, None, Result, Ok, Err, refl, sym, arith}
+use Rattle.std.specs.Str.{bytes_eq}
 use Rattle.std.proofs.lemmas.Slice.Eq.{bytes_eq-Decides}
 use Rattle.std.proofs.lemmas.List.{take-append-drop}
 use Rattle.std.proofs.lemmas.Grind.{common_steps}
 use Rattle.std.proofs.lemmas.Bool.Decides.{nat_tests}
 use Rattle.fst_desk.specs.Seen.{Rises, raised}
 use Rattle.fst_desk.specs.Desk.{Holds, Stores, DeskShows}
-use Rattle.fst_desk.specs.Kept.{Kept, last_of, files_of, storing_once, written, seen_of, KeptStores, KeptShows}
+use Rattle.fst_desk.specs.Kept.{Kept, last_of, seen_of, KeptStores, KeptShows}
+use Rattle.fst_desk.specs.Sure.{Sure, sure_seen, SureStores}
 use Rattle.fst_desk.specs.declared.edge.StoreFault.{StoreFault}
 use Rattle.fst_desk.specs.declared.edge.StoreFault.TheVariants as storing
 
@@ -24,9 +26,10 @@ pub last_of-append : {K V : Type 0} (same : K → K → Bool) (found : Option V)
 last_of-append same found [] back key = refl
 last_of-append same found (pair ∷ front) back key = last_of-append same _ front back key
 
--- a write puts its content under its name alone
-pub Holds-written : (name content : List ℕ) (kept : Kept) → Holds name content (files_of kept) (files_of (written name content kept))
-Holds-written name content kept = record {
+-- a write behind others puts its content under its name alone
+pub Holds-written : (name content : List ℕ) (writes : List (List ℕ × List ℕ)) →
+    Holds name content (last_of bytes_eq None writes) (last_of bytes_eq None (writes ++ (name, content) ∷ []))
+Holds-written name content writes = record {
   here = grind (arith, common_steps, last_of-append, bytes_eq-Decides);
   elsewhere = λ other apart. grind (arith, common_steps, last_of-append, bytes_eq-Decides);
 }
@@ -42,7 +45,7 @@ Stores-kept name bytes old new (Ok done) s = rw s.after record {
   fetches = refl;
   stores = refl;
   showing = refl;
-  answer = record { told = Holds-written name bytes (storing_once old); write_faults = refl; starved = refl };
+  answer = record { told = Holds-written name bytes old.writes; write_faults = refl; starved = refl };
 }
 Stores-kept name bytes old new (Err storing.Failed) s = rw s.after record {
   missed = refl;
@@ -56,7 +59,7 @@ Stores-kept name bytes old new (Err storing.Failed) s = rw s.after record {
     front = take s.most bytes;
     rest = drop s.most bytes;
     splits = sym (take-append-drop s.most bytes);
-    told = Holds-written name (take s.most bytes) (storing_once old);
+    told = Holds-written name (take s.most bytes) old.writes;
     write_faults = Rises-raised old.write_faults;
     starved = refl;
   };
@@ -102,4 +105,29 @@ DeskShows-kept line old new (Err storing.Memory) s = rw s record {
   show_starved = raised-le old.show_starved;
   shows = refl;
   answer = record { shown = refl; show_faults = refl; show_starved = Rises-raised old.show_starved };
+}
+
+-- the same of a desk of which no call fails: its exact behaviour keeps the promise of a store
+pub Stores-sure : (name bytes : List ℕ) (old new : Sure) (result : Result Unit StoreFault) →
+    SureStores name bytes old new result → Stores name bytes (sure_seen old) (sure_seen new) result
+Stores-sure name bytes old new (Ok done) s = rw s record {
+  missed = refl;
+  taken = refl;
+  write_faults = omega arith;
+  starved = omega arith;
+  fetches = refl;
+  stores = refl;
+  showing = refl;
+  answer = record { told = Holds-written name bytes old.writes; write_faults = refl; starved = refl };
+}
+Stores-sure name bytes old new (Err storing.Failed) s = absurd s
+Stores-sure name bytes old new (Err storing.Memory) s = rw s record {
+  missed = refl;
+  taken = refl;
+  write_faults = omega arith;
+  starved = raised-le old.starved;
+  fetches = refl;
+  stores = refl;
+  showing = refl;
+  answer = record { told = refl; write_faults = refl; starved = Rises-raised old.starved };
 }

@@ -3,4 +3,5 @@
 pub mod Seen
 pub mod Desk
 pub mod Kept
+pub mod Sure
 pub mod Noted

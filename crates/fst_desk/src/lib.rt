@@ -6,6 +6,7 @@
 //! read, and counts of the calls and of those that failed.
 //!
 //! - [`MemoryDesk`] holds its files in memory and tells all. It fails where it was asked to.
+//! - [`SureDesk`] holds its files in memory and tells all too. Its calls fail for lack of memory alone.
 //! - [`RealDesk`] is the operating system: files, the three standard streams. It tells no content.
 //!
 //! The name `-` is standard input to a fetch and standard output to a store.
@@ -16,8 +17,11 @@ mod edge;
 mod memory;
 mod real;
 mod streams;
+mod sure;
 mod text;
+mod writes;
 
 pub use edge::{Desk, FetchFault, StoreFault};
 pub use memory::MemoryDesk;
 pub use real::RealDesk;
+pub use sure::SureDesk;

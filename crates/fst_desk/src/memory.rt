@@ -2,30 +2,15 @@
 ghost use Rattle.std.specs.Prelude.{◌≡◌, [], ◌∷◌, ◌++◌, take, None, OnOk, OnErr, nat_eq};
 ghost use Rattle.std.specs.Option.{option_copied};
 ghost use Rattle.std.specs.Result.{result_map_both};
-ghost use Rattle.std.specs.Str.{bytes_eq};
 ghost use Rattle.fst_desk.specs.Desk.{Fetches, Stores, DeskShows};
 ghost use Rattle.fst_desk.specs.Kept.{last_of, files_of, fresh, planned_for, counted, fetching_once, storing_once, showing_once, written, seen_of, part_of, Misses, KeptFetches, KeptStores, KeptShows};
 
 use crate::count::raise;
 use crate::edge::{Desk, FetchFault, StoreFault};
 use crate::text::Text;
+use crate::writes::{Write, last_written};
 use std::alloc::{AllocError, Global};
 use std::marker::Model;
-
-// A content that was written under a name.
-#[derive(Drop)]
-struct Write {
-    name: Text,
-    content: Text,
-}
-
-impl Model for Write {
-    ghost use Rattle.std.specs.Prelude.{List, ℕ};
-
-    ghost Value = { List ℕ × List ℕ };
-
-    ghost view = { λ w. (w.name, w.content) };
-}
 
 // The number of a call that is to fail, and how many bytes it takes first.
 #[derive(Drop)]
@@ -286,19 +271,6 @@ impl Desk for MemoryDesk {
         }
         Ok(())
     }
-}
-
-// The content of the last write of the name.
-fn last_written<'w>(writes: &'w [Write], name: &str) -> Option<&'w [u8]>
-    ensures { option_copied result ≡ last_of bytes_eq None writes.now name.now }
-{
-    let mut found = None;
-    for write in writes {
-        if write.name.as_bytes() == name.as_bytes() {
-            found = Some(write.content.as_bytes());
-        }
-    }
-    found
 }
 
 // How many bytes the call of that number takes before it fails, where it is to fail.

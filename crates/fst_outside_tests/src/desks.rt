@@ -1,9 +1,9 @@
-//! The desk in memory, and that of the operating system.
+//! The two desks in memory, and that of the operating system.
 //!
 //! What is asked of a desk stands in functions that answer with a truth value, since the proof of a test costs by the ways
 //! through it.
 
-use fst_desk::{Desk, FetchFault, MemoryDesk, RealDesk, StoreFault};
+use fst_desk::{Desk, FetchFault, MemoryDesk, RealDesk, StoreFault, SureDesk};
 use std::alloc::{AllocError, Global};
 use std::fs;
 use std::test::Fail;
@@ -148,6 +148,28 @@ fn stores_and_fetches_files(rt: HostRuntime) -> Result<(), Fail> {
         );
     }
     fs::remove_file(&rt, "stored_by_a_test")?;
+    Ok(())
+}
+
+/// Whether a desk holds this file and has shown this text, and a name that is not held reads as empty.
+fn is_sure(desk: &mut SureDesk, alloc: Global, name: &str, want: &[u8], line: &[u8]) -> bool {
+    desk.held(name) == Some(want)
+        && desk.shown_bytes() == line
+        && desk.held("missing").is_none()
+        && fetches(desk, alloc, "missing", 0, b"")
+}
+
+#[test]
+fn fails_for_lack_of_memory_alone(rt: HostRuntime) -> Result<(), Fail> {
+    let alloc = rt.alloc();
+    let mut desk = SureDesk::new(alloc);
+    desk.put("a", b"one")?;
+    assert!(rt; fetches(&mut desk, alloc, "a", 3, b"one"));
+    for bytes in [b"three".as_slice(), b"four", b""] {
+        assert!(rt; stands(&mut desk, alloc, "a", bytes), "{bytes:?}");
+    }
+    let shows = desk.show(b"x\n") == Ok(()) && desk.show(b"y\n") == Ok(());
+    assert!(rt; shows && is_sure(&mut desk, alloc, "a", b"", b"x\ny\n"));
     Ok(())
 }
 

@@ -2,7 +2,7 @@ use Rattle.std.proofs.Common.{◌≡◌, None, drop}
 use Rattle.std.specs.Option.{option_copied}
 use Rattle.std.specs.Str.{bytes_eq}
 use Rattle.fst_desk.specs.Kept.{last_of}
-use Rattle.fst_desk.proofs.memory.last_written.Given as goal
+use Rattle.fst_desk.proofs.writes.last_written.Given as goal
 
 -- what is found so far and the rest of the writes give what all writes give
 abbrev pub invariant-loop-write : goal.invariant-loop-write
