@@ -9,3 +9,4 @@ pub mod Fair
 pub mod Finished
 pub mod OneAnswer
 pub mod Whole
+pub mod Connecting

@@ -1,7 +1,6 @@
 -- A machine has one machine without epsilon arcs, and one thing stands against it.
 use Rattle.std.proofs.Common.{◌≡◌, ◌⊎◌, inl, inr, ℕ, ◌+◌, ◌<◌, ◌≤◌, suc, List, [], ◌∷◌, ◌++◌, Some, Result, Err, Ordering, Less, Equal, length, map, get_or, slice_get, refl, sym, ap, ap₂, ◌∙◌, subst, arith}
 use Rattle.std.proofs.lemmas.Option.{slice_get-get_or}
-use Rattle.std.proofs.lemmas.List.Sums.{sum_by-append}
 use Rattle.fst_semiring.specs.Cost.{Cost}
 use Rattle.fst_semiring.specs.declared.arc_type.ArcType.{ArcType}
 use Rattle.fst_semiring.specs.Semiring.{one_of}
@@ -129,15 +128,12 @@ module _ (kind : ArcType) (m : Machine Cost) where
       by (inl at) = closure_fair kind (graph_of m) p at.1.closure at.1.closes (t ∷ cycle) class improves
       by (inr far) = far.0 near
 
-  -- with not too many arcs no first states have too many
+  -- a result with few arcs is not one with many
   not_many : (h : Machine Cost) → IsRemovedMachine kind m h → arc_total h.states ≤ most_arcs → HasManyArcs kind m → ⊥
   not_many h r few too =
-      let size = r.size in
-      let less = too.few in
-      let f = front kind (graph_of m) too.states h.states too.removed r.states (omega (arith, size, less)) in
-      let total : arc_total h.states ≡ arc_total too.states + arc_total f.0 = ap arc_total f.1 ∙ sum_by-append (λ (s : State Cost). length s.arcs) too.states f.0 in
-      let many = too.many in
-      omega (arith, few, total, many)
+      let same : too.result ≡ h = one_removed too.result h too.removed r in
+      let many : most_arcs < arc_total h.states = subst (λ (k : Machine Cost). most_arcs < arc_total k.states) same too.many in
+      omega (arith, few, many)
 
   one_out : (i j : ℕ) → IsOut kind m i → IsOut kind m j → i ≡ j
   one_out i j one two = by ((cause_exact one.result {X = ℕ} (narrow.Overflow i) one.past j).1 (subst (λ (h : Machine Cost). IsFirstPast h j) (one_removed two.result one.result two.removed one.removed) two.past))

@@ -118,7 +118,7 @@ module _ (kind : ArcType) (m : Machine Cost) (good : IsMachine (λ (v : Cost). v
   pub removed_many : (overflow : Option ℕ) → IsRemoving kind (graph_of m) n kept total overflow → most_arcs < total → Stops kind m TooManyArcs
   removed_many overflow r high = (
     removed_fair m good kind (result r.all) (whole overflow r),
-    record { states = r.all; few = (let one = r.size in omega (arith, one, size)); removed = r.removed; many = r.made.many high },
+    record { result = result r.all; removed = whole overflow r; many = r.made.many high },
   )
 
   pub removed_out : (state : ℕ) → IsRemoving kind (graph_of m) n kept total (Some state) → total ≤ most_arcs → Stops kind m (Overflow state)

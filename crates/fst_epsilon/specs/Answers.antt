@@ -53,12 +53,11 @@ pub record IsImprovingSilently (kind : ArcType) (g : Graph ℕ) (steps : List St
   pub improves : IsImprovingCycle g kind state cycle
   pub same : written steps ≡ places cycle
 
--- The first states of the result have too many arcs.
+-- The machine without epsilon arcs has more arcs than the limit.
 pub record HasManyArcs (kind : ArcType) (m : Machine Cost) : Type 0 where
-  pub states : List (State Cost)
-  pub few : length states ≤ length m.states
-  pub removed : AreRemoved kind (graph_of m) states
-  pub many : most_arcs < arc_total states
+  pub result : Machine Cost
+  pub removed : IsRemovedMachine kind m result
+  pub many : most_arcs < arc_total result.states
 
 -- The result has not too many arcs, and this is its first state with a weight that is out of range.
 pub record IsOut (kind : ArcType) (m : Machine Cost) (state : ℕ) : Type 0 where

@@ -4,11 +4,12 @@
 ghost use Rattle.std.specs.Prelude.{◌≡◌, ◌↔◌, ℕ, List, Some, slice_get};
 ghost use Rattle.fst_semiring.specs.Cost.{Cost, infinite};
 ghost use Rattle.fst_semiring.specs.declared.arc_type.ArcType.{ArcType};
+ghost use Rattle.fst_machine.specs.Connected.{IsConnected};
 ghost use Rattle.fst_machine.specs.Cycles.{IsAccessible};
 ghost use Rattle.fst_machine.specs.Graph.{Graph};
 ghost use Rattle.fst_machine.specs.Machine.{Arc, Machine};
 ghost use Rattle.fst_machine.specs.Relation.{IsWeight};
-ghost use Rattle.fst_epsilon.specs.Answers.{IsFine, IsRemovedMachine, Stops};
+ghost use Rattle.fst_epsilon.specs.Answers.{HasNoEpsilons, IsFine, IsRemovedMachine, Stops};
 ghost use Rattle.fst_epsilon.specs.Construction.{IsRemoved};
 ghost use Rattle.fst_epsilon.specs.Faults.{epsilon_text};
 ghost use Rattle.fst_epsilon.specs.Removal.{Removes};
@@ -37,4 +38,9 @@ pub fn one_answer()
     ensures removed { (kind : ArcType) (m h k : Machine Cost) → IsRemovedMachine kind m h → IsRemovedMachine kind m k → h ≡ k }
     ensures told { (kind : ArcType) (m : Machine Cost) (f h : EpsilonFault) → Stops kind m f → Stops kind m h → epsilon_text f ≡ epsilon_text h }
     ensures apart { (kind : ArcType) (m h : Machine Cost) (f : EpsilonFault) → IsFine kind m h → Stops kind m f → ⊥ }
+{}
+
+/// The connected machine of one without epsilon arcs has none either.
+pub fn connecting_laws()
+    ensures { (m c : Machine Cost) → IsConnected m c → HasNoEpsilons m.states → HasNoEpsilons c.states }
 {}

@@ -143,7 +143,7 @@ pub fn nbest<W: Weight, L: Ledger>(
     ensures none { OnOk result (NoneImproves W.KIND (graph_of (valued W.value fst.now)) (IsUseful (graph_of (valued W.value fst.now)))) }
     ensures cycle { IfErr result (λ f. IfImproving f (IsListed W.KIND (graph_of (valued W.value fst.now)) (IsUseful (graph_of (valued W.value fst.now))))) }
     ensures steps { IfOk result (λ paths. steps.new ≤ steps.old + (arcs_written paths + length paths + 1)) }
-    ensures few_steps { IfOk result (λ paths. steps.new ≤ steps.old + length paths) }
+    ensures each_step { IfOk result (λ paths. steps.new ≡ steps.old + length paths) }
 {
     best_paths::<W, W, Fst<W>, L>(alloc, fst, n, steps)
 }
@@ -163,7 +163,7 @@ pub fn nbest_wide<W: Weight, L: Ledger>(
     ensures none { OnOk result (NoneImproves W.KIND (graph_of (valued W.wide_value fst.now)) (IsUseful (graph_of (valued W.wide_value fst.now)))) }
     ensures cycle { IfErr result (λ f. IfImproving f (IsListed W.KIND (graph_of (valued W.wide_value fst.now)) (IsUseful (graph_of (valued W.wide_value fst.now))))) }
     ensures steps { IfOk result (λ paths. steps.new ≤ steps.old + (arcs_written paths + length paths + 1)) }
-    ensures few_steps { IfOk result (λ paths. steps.new ≤ steps.old + length paths) }
+    ensures each_step { IfOk result (λ paths. steps.new ≡ steps.old + length paths) }
 {
     best_paths::<W, W::Wide, WideFst<W>, L>(alloc, fst, n, steps)
 }
