@@ -9,4 +9,5 @@ mod Decided
 mod Places
 mod Fitting
 mod OneOutcome
+mod OneResult
 mod Meters
