@@ -10,4 +10,5 @@ mod Places
 mod Fitting
 mod OneOutcome
 mod OneResult
+mod ReadAgain
 mod Meters

@@ -17,5 +17,5 @@ mod top;
 mod working;
 
 pub use fst_verbs::Queues;
-pub use laws::{one_outcome, one_result};
+pub use laws::{one_outcome, one_result, printed_compiles_again, written_reads_again};
 pub use top::run;
