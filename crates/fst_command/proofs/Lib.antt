@@ -11,4 +11,5 @@ mod Fitting
 mod OneOutcome
 mod OneResult
 mod ReadAgain
+mod LineMatches
 mod Meters

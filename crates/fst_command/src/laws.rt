@@ -1,10 +1,16 @@
 //! Laws of runs. Each stands on the contract of a function with nothing to do, so that it is proved.
 
-ghost use Rattle.std.specs.Prelude.{◌≡◌, ◌≤◌, ◌∷◌, [], ℕ, List, Ok, Option, Some, length};
+ghost use Rattle.std.specs.Prelude.{◌≡◌, ◌≤◌, ◌∷◌, [], ℕ, List, Ok, Option, Some, length, map};
 ghost use Rattle.fst_semiring.specs.declared.arc_type.ArcType.{ArcType};
 ghost use Rattle.fst_semiring.specs.Cost.{Cost};
+ghost use Rattle.fst_machine.specs.Graph.{Graph};
 ghost use Rattle.fst_machine.specs.Machine.{Machine};
 ghost use Rattle.fst_binary.specs.Sides.{Sides};
+ghost use Rattle.fst_compose.specs.Composition.{composed};
+ghost use Rattle.fst_lattice.specs.Lattice.{HasNoZero};
+ghost use Rattle.fst_batch.specs.Answers.{IsAnswer};
+ghost use Rattle.fst_batch.specs.BestPaths.{Told, valued_told};
+ghost use Rattle.fst_batch.specs.declared.answer.LineAnswer.TheVariants.{Listed};
 ghost use Rattle.fst_desk.specs.Seen.{Files, Seen};
 ghost use Rattle.fst_words.specs.declared.plan.Plan.{Plan};
 ghost use Rattle.fst_verbs.specs.Commands.{meaning_for};
@@ -14,6 +20,7 @@ ghost use Rattle.fst_verbs.specs.Tabling.{tables_for};
 ghost use Rattle.fst_command.specs.Outcome.{Output, Prescribes, Runs};
 ghost use Rattle.fst_command.specs.OneOutcome.{OneOutcome};
 ghost use Rattle.fst_command.specs.OneResult.{EndAlike, IsDecided};
+ghost use Rattle.fst_command.specs.LineMatches.{AreBestMatches, IsMatched};
 ghost use Rattle.fst_command.specs.ReadAgain.{AreReadAgain, IsCompiledAgain, IsReadAs, ReadsOneMachine, given_one};
 
 /// Of what a command is given, one fault stops it and one thing is made; so the same words and the same contents of
@@ -42,4 +49,12 @@ pub fn written_reads_again()
 /// same machine.
 pub fn printed_compiles_again()
     ensures { (plan : Plan) (told : Option Files) (outputs : List Output) (p : Prescribes plan told outputs) → IsCompiledAgain plan told outputs p }
+{}
+
+/// The successful paths of the lattice of a line, of which a batch lists the best, are the matching pairs of paths of its two
+/// machines that read the line, one to one. What is answered of a line, where it has no fault, is the best of these pairs: what
+/// each writes, and the product of its weights.
+pub fn batch_lines_match<N, M, V>()
+    ensures matched { (kind : ArcType) (a : Graph N) (b : Graph M) (line : List ℕ) → HasNoZero line → IsMatched kind a b line }
+    ensures listed { (kind : ArcType) (a : Graph N) (b : Graph M) (line : List ℕ) (n limit : ℕ) (value : V → Cost) (listed : List (Told V)) → IsAnswer kind (composed kind a b) n limit line value (Listed listed) → AreBestMatches kind a b line n (map (valued_told value) listed) }
 {}
