@@ -9,4 +9,7 @@ mod Decided
 mod Places
 mod Fitting
 mod OneOutcome
+mod OneResult
+mod ReadAgain
+mod LineMatches
 mod Meters

@@ -1,0 +1,139 @@
+-- What one command writes the next one reads.
+use Rattle.std.proofs.Common.{◌≡◌, ◌≤◌, ℕ, Bool, true, false, List, [], ◌∷◌, length, Option, Result, Ok, refl, ap, ◌∙◌, subst, codes, arith, ltb}
+use Rattle.std.proofs.lemmas.Bool.{le-ltb}
+use Rattle.std.specs.List.{Contains}
+use Rattle.fst_semiring.specs.declared.arc_type.ArcType.{ArcType}
+use Rattle.fst_semiring.specs.declared.arc_type.ArcType.TheVariants.{Boolean, Tropical, MinMax, Lexicographic}
+use Rattle.fst_semiring.specs.Cost.{Cost}
+use Rattle.fst_semiring.specs.Names.{known}
+use Rattle.fst_machine.specs.Machine.{Machine}
+use Rattle.fst_fields.specs.Reading.{◌>>=◌}
+use Rattle.fst_text.specs.Faults as texts
+use Rattle.fst_text.specs.declared.fault.TextFault.{TextFault}
+use Rattle.fst_text.specs.Grammar.{machine_of_text}
+use Rattle.fst_text.specs.Options as text
+use Rattle.fst_text.specs.Printed.{text_of_machine}
+use Rattle.fst_text.proofs.Describing.{compiles-back}
+use Rattle.fst_binary.specs.Sides.{HasSides, Sides}
+use Rattle.fst_binary.specs.Spelling.{HasSpelling, tabled_spelling}
+use Rattle.fst_binary.proofs.Encoded.{is_again_tabled, type_of_spelling}
+use Rattle.fst_codex.specs.Spelling.{HasCodexSpelling, codex_spelling}
+use Rattle.fst_codex.specs.Table.{Table}
+use Rattle.fst_codex.proofs.Again.{codex_again, type_again}
+use Rattle.fst_any.specs.Taken.{same_kind}
+use Rattle.fst_any.specs.Typed.{Typed, codex_of_file, machine_of_file, typed_machine_of_text}
+use Rattle.fst_desk.specs.Seen.{Files}
+use Rattle.fst_words.specs.declared.options.Options.{Options}
+use Rattle.fst_words.specs.declared.plan.Plan.{Plan}
+use Rattle.fst_words.specs.declared.verb.Verb.{Verb}
+use Rattle.fst_words.specs.declared.verb.Verb.TheVariants as verbs
+use Rattle.fst_words.specs.declared.form.Role.TheVariants as roles
+use Rattle.fst_words.specs.Inputs.{Input}
+use Rattle.fst_words.specs.Plans.{outputs_of, rule_labels}
+use Rattle.fst_verbs.specs.Commands.{meaning_by, meaning_for}
+use Rattle.fst_verbs.specs.Causes.{faulty, misread}
+use Rattle.fst_verbs.specs.Given.{Given, arc_type_of, choices_by, codex_in, given_at, given_by, given_of, kind_of, machine_in, nothing, put, read_limit, telling, text_in}
+use Rattle.fst_verbs.specs.Meaning as meanings
+use Rattle.fst_verbs.specs.Meaning.{Made, answered, bytes_of, coded, for_one, machine, separation}
+use Rattle.fst_verbs.specs.Tabling.{tables_for}
+use Rattle.fst_verbs.specs.Texts.{print_choices, print_meaning}
+use Rattle.fst_command.specs.Outcome.{AreNamed, Output, Prescribes}
+use Rattle.fst_command.specs.ReadAgain.{AreReadAgain, IsCodexAs, IsCompiledAgain, IsCompiledAs, IsReadAs, IsTold, ReadsOneMachine, given_one}
+
+-- ---- the binary form
+
+all_known : (kind : ArcType) → Contains known kind
+all_known Boolean = (0, omega arith, refl)
+all_known Tropical = (1, omega arith, refl)
+all_known MinMax = (2, omega arith, refl)
+all_known Lexicographic = (3, omega arith, refl)
+
+reads_machine : (kind : ArcType) (m : Machine Cost) (s : Sides) → HasSides s → HasSpelling kind m → IsReadAs kind m s (tabled_spelling kind m s)
+unfolding machine_in machine_of_file
+reads_machine kind m s sided has name =
+    let type = type_of_spelling kind m s (all_known kind) in
+    let tabled = is_again_tabled {X = ℕ} {E = ℕ} kind m s (λ n. tabled_spelling kind m s) (Ok 0) has sided refl in
+    rw (type, tabled) refl
+
+reads_codex : (kind : ArcType) (t : Table Cost) → HasCodexSpelling kind t → IsCodexAs kind t (codex_spelling kind t)
+unfolding codex_in codex_of_file
+reads_codex kind t has name = rw (type_again kind t, codex_again kind t has) refl
+
+-- the outputs of one content, and of two
+one_named : (names : List (List ℕ)) (bytes : List ℕ) (outputs : List Output) → AreNamed names (bytes ∷ []) outputs → (output : Output) × (outputs ≡ output ∷ []) × (bytes ≡ output.1)
+one_named [] bytes outputs h = absurd h
+one_named (n ∷ []) bytes outputs h = ((n, bytes), h.1 ∙ ap (λ (rest : List Output). (n, bytes) ∷ rest) h.2, refl)
+one_named (n ∷ k ∷ names) bytes outputs h = absurd h.2
+
+two_named : (names : List (List ℕ)) (bytes more : List ℕ) (outputs : List Output) → AreNamed names (bytes ∷ more ∷ []) outputs
+    → (first : Output) × (second : Output) × (outputs ≡ first ∷ second ∷ []) × (bytes ≡ first.1) × (more ≡ second.1)
+two_named [] bytes more outputs h = absurd h
+two_named (n ∷ names) bytes more outputs h =
+    let behind = one_named names more h.0 h.2 in
+    ((n, bytes), behind.0, h.1 ∙ ap (λ (rest : List Output). (n, bytes) ∷ rest) behind.1, refl, behind.2)
+
+again : (names : List (List ℕ)) (s : Sides) (made : Made) (outputs : List Output) → AreNamed names (bytes_of s made) outputs → AreReadAgain s made outputs
+again names s (machine kind m) outputs named = λ sided has.
+    let one = one_named names (tabled_spelling kind m s) outputs named in
+    (one.0, one.1, subst (IsReadAs kind m s) one.2 (reads_machine kind m s sided has))
+again names s (meanings.text bytes) outputs named = tt
+again names s (coded kind table m) outputs named = λ sided can has.
+    let two = two_named names (codex_spelling kind table) (tabled_spelling kind m s) outputs named in
+    (two.0, two.1, two.2, subst (IsCodexAs kind table) two.3 (reads_codex kind table can), subst (IsReadAs kind m s) two.4 (reads_machine kind m s sided has))
+again names s (answered bytes expansions) outputs named = tt
+again names s (separation bytes) outputs named = tt
+
+pub written_reads_again : (plan : Plan) (told : Option Files) (outputs : List Output) (p : Prescribes plan told outputs) → AreReadAgain (tables_for plan p.makes.given.tables) p.made outputs
+written_reads_again plan told outputs p = again (outputs_of plan) (tables_for plan p.makes.given.tables) p.made outputs p.named
+
+-- a command that reads one machine is given what was written
+
+same_alike : (kind : ArcType) → same_kind kind kind ≡ true
+same_alike Boolean = refl
+same_alike Tropical = refl
+same_alike MinMax = refl
+same_alike Lexicographic = refl
+
+one_given : (o : Options) (name content : List ℕ) (kind : ArcType) (m : Machine Cost) (s : Sides) → IsReadAs kind m s content → length content ≤ read_limit
+    → (given_by o (record { name = name; role = roles.Machine } ∷ []) (content ∷ []) nothing >>= λ held. telling faulty (given_at (kind_of o held.machines) held)) ≡ Ok (given_one kind m s)
+unfolding put given_at
+one_given o name content kind m s reads short =
+    let fits : ltb read_limit (length content) ≡ false = le-ltb read_limit (length content) short in
+    rw (fits, reads name, same_alike kind) refl
+
+pub given_again : (plan : Plan) (kind : ArcType) (m : Machine Cost) (s : Sides) (content : List ℕ) → IsReadAs kind m s content → length content ≤ read_limit → ReadsOneMachine plan → given_of plan (content ∷ []) ≡ Ok (given_one kind m s)
+given_again plan kind m s content reads short one =
+    ap (λ (inputs : List Input). given_by plan.options inputs (content ∷ []) nothing >>= λ held. telling faulty (given_at (kind_of plan.options held.machines) held)) one.1
+    ∙ one_given plan.options one.0 content kind m s reads short
+
+-- ---- the text form
+
+abbrev read_as : ArcType → Machine Cost → Result Typed TextFault
+read_as kind m = Ok (record { kind = kind; machine = m })
+
+reads_text : (kind : ArcType) (choices : text.Options) (m : Machine Cost) (name bytes : List ℕ) → machine_of_text kind choices bytes ≡ Ok m → text_in kind choices name bytes ≡ Ok (record { kind = kind; machine = m })
+unfolding text_in typed_machine_of_text
+reads_text kind choices m name bytes back =
+    ap (λ (read : Result (Machine Cost) TextFault). telling (λ fault. misread name (codes "line") (texts.line_of fault) (texts.reason_of fault)) (read >>= read_as kind)) back
+
+compiles : (kind : ArcType) (choices : text.Options) (m : Machine Cost) (bytes : List ℕ) → IsTold kind choices m → text_of_machine kind choices m ≡ Ok bytes → IsCompiledAs kind choices m bytes
+compiles kind choices m bytes tells is o isymbols osymbols reads name =
+    let back : machine_of_text kind choices bytes ≡ Ok m = compiles-back kind choices m bytes tells.tables tells.machine tells.weights tells.start tells.kept is in
+    ap (λ (k : ArcType). text_in k (choices_by o isymbols osymbols) name bytes) reads.kind
+    ∙ (ap (λ (c : text.Options). text_in kind c name bytes) reads.choices ∙ reads_text kind choices m name bytes back)
+
+printed : (o : Options) (given : Given) (made : Made) (m : Machine Cost) (ms : List (Machine Cost)) → ms ≡ m ∷ []
+    → for_one ms (λ n. (bytes : List ℕ) × (text_of_machine given.kind (print_choices o given.tables) n ≡ Ok bytes) × (made ≡ meanings.text bytes))
+    → (bytes : List ℕ) × (text_of_machine given.kind (print_choices o given.tables) m ≡ Ok bytes) × (made ≡ meanings.text bytes)
+printed o given made m ms e h =
+    subst (λ (ns : List (Machine Cost)). for_one ns (λ n. (bytes : List ℕ) × (text_of_machine given.kind (print_choices o given.tables) n ≡ Ok bytes) × (made ≡ meanings.text bytes))) e h
+
+pub printed_compiles_again : (plan : Plan) (told : Option Files) (outputs : List Output) (p : Prescribes plan told outputs) → IsCompiledAgain plan told outputs p
+printed_compiles_again plan told outputs p m command machines tells =
+    let given : Given = p.makes.given in
+    let choices : text.Options = print_choices plan.options given.tables in
+    let makes : (print_meaning plan.options).makes given p.made = subst (λ (v : Verb). (meaning_by v (rule_labels plan) plan.options).makes given p.made) command p.makes.is in
+    let said = printed plan.options given p.made m given.machines machines makes in
+    let s : Sides = tables_for plan given.tables in
+    let one = one_named (outputs_of plan) said.0 outputs (subst (λ (x : Made). AreNamed (outputs_of plan) (bytes_of s x) outputs) said.2 p.named) in
+    (one.0, one.1, subst (IsCompiledAs given.kind choices m) one.2 (compiles given.kind choices m said.0 tells said.1))
