@@ -43,17 +43,17 @@ class Program:
         """Where a file is."""
         return os.path.join(self.folder, name)
 
-    def run(self, line):
+    def run(self, line, seconds=SECONDS):
         """The status, what is shown, and the peak in MiB."""
         with open(self.path("shown"), "wb") as shown:
-            child = subprocess.Popen(["timeout", str(SECONDS), self.fst, *line.split()], cwd=self.folder, stdout=subprocess.DEVNULL, stderr=shown)
+            child = subprocess.Popen(["timeout", str(seconds), self.fst, *line.split()], cwd=self.folder, stdout=subprocess.DEVNULL, stderr=shown)
             _, status, usage = os.wait4(child.pid, 0)
         child.returncode = os.waitstatus_to_exitcode(status)
         return child.returncode, self.read("shown").decode(errors="replace"), usage.ru_maxrss / 1024
 
     def made(self, line, name):
         """The bytes of a file that a line makes."""
-        status, shown, _ = self.run(line)
+        status, shown, _ = self.run(line, 10 * SECONDS)
         if status:
             sys.exit(f"{line}: status {status}: {shown}")
         return self.read(name)
