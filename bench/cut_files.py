@@ -5,8 +5,8 @@
 
 Of each arc type there are a text, its machine, and two codices, with weights and without. A machine or codex that is cut has to be
 refused as too short at its end, and leave no output. A text that is cut may be read or refused. A machine in which one byte is
-another has to be read or refused, within 20 seconds and 60 MiB, whatever count the byte belongs to. The status is 1 where an answer
-is another.
+another has to be read or refused, within 20 seconds and 60 MiB, whatever count the byte belongs to. The greatest number of a state
+is read. The status is 1 where an answer is another.
 """
 import argparse
 import os
@@ -43,17 +43,17 @@ class Program:
         """Where a file is."""
         return os.path.join(self.folder, name)
 
-    def run(self, line):
+    def run(self, line, seconds=SECONDS):
         """The status, what is shown, and the peak in MiB."""
         with open(self.path("shown"), "wb") as shown:
-            child = subprocess.Popen(["timeout", str(SECONDS), self.fst, *line.split()], cwd=self.folder, stdout=subprocess.DEVNULL, stderr=shown)
+            child = subprocess.Popen(["timeout", str(seconds), self.fst, *line.split()], cwd=self.folder, stdout=subprocess.DEVNULL, stderr=shown)
             _, status, usage = os.wait4(child.pid, 0)
         child.returncode = os.waitstatus_to_exitcode(status)
         return child.returncode, self.read("shown").decode(errors="replace"), usage.ru_maxrss / 1024
 
     def made(self, line, name):
         """The bytes of a file that a line makes."""
-        status, shown, _ = self.run(line)
+        status, shown, _ = self.run(line, 10 * SECONDS)
         if status:
             sys.exit(f"{line}: status {status}: {shown}")
         return self.read(name)
@@ -110,12 +110,12 @@ def cut_and_changed(program, kind, text):
 
 
 def lying(program):
-    """Counts that the bytes behind them cannot hold, and the most states."""
+    """Counts that the bytes behind them cannot hold, and a number of a state that is too great."""
     arc = struct.pack("<iiBqi", 1, 2, 1, 5, 0)
     for states, tail in (MOST_STATES, bytes(60)), (1, b"\0" + struct.pack("<q", MOST_ARCS) + arc * 2 + arc[:-1]):
         content = MAGIC + VECTOR + TROPICAL + struct.pack(NUMBERS, 2, 0, 3, 0, states, MOST_ARCS) + tail
         program.give("headers that lie", content, "info given out", [1], too_short(len(content)))
-    program.give("headers that lie", MAGIC + b"\xff\xff\xff\xffvector", "info given out", [1], "fst: given: byte 4: unknown fst type\n")
+    program.give("headers that lie", MAGIC + b"\xff\xff\xff\xffvector", "info given out", [1], "fst: given: byte 4: unknown machine type\n")
     program.write("text", b"0 1 1 2 5\n1 3\n")
     program.made("compile text machine", "machine")
     codex = program.made("encode --encode_labels machine codex encoded", "codex")
@@ -123,6 +123,17 @@ def lying(program):
     program.give("headers that lie", lies, "encode --decode encoded given out", [1], too_short(len(lies)))
     many = "fst: given: line 1: too many states\n"
     program.give("headers that lie", b"%d\n" % MOST_STATES, "compile --keep_state_numbering given out", [1], many)
+
+
+def greatest(program):
+    """The greatest number of a state, which is also the start."""
+    program.write("text", b"%d\n" % (MOST_STATES - 1))
+    program.made("compile --keep_state_numbering text machine", "machine")
+    told = program.made("info machine told", "told").decode().split("\n")
+    program.given["machines with the most states"] += 1
+    if told[1:4] != [f"states\t{MOST_STATES}", "arcs\t0", f"start\t{MOST_STATES - 1}"]:
+        program.wrong += 1
+        print(f"the most states: {told}")
 
 
 def main():
@@ -135,6 +146,7 @@ def main():
         for kind, text in TEXTS.items():
             cut_and_changed(program, kind, text)
         lying(program)
+        greatest(program)
     told = ", ".join(f"{what}: {number}" for what, number in program.given.items())
     print(f"{told}; {sum(program.given.values())} runs, wrong: {program.wrong}")
     return 1 if program.wrong else 0

@@ -255,19 +255,6 @@ fn first_other<R: Threads + Sync>(
     Ok(0)
 }
 
-/// Whether the words end well after so many calls, where the one behind these would fail.
-fn ends_well<R: Threads + Sync>(
-    rt: &R,
-    alloc: Global,
-    desk: &mut MemoryDesk,
-    words: &str,
-    calls: usize,
-) -> Result<bool, AllocError> {
-    let calls = calls as u64;
-    let (status, shown, found) = ended(rt, alloc, desk, words, calls.saturating_add(1))?;
-    Ok(status == 0 && shown.is_empty() && found == calls && !is_held(desk, "r", BEFORE))
-}
-
 #[test]
 fn tells_each_call_that_fails(rt: HostRuntime) -> Result<(), Fail> {
     let alloc = rt.alloc();
@@ -275,17 +262,6 @@ fn tells_each_call_that_fails(rt: HostRuntime) -> Result<(), Fail> {
     for (words, calls) in &CALLS {
         let other = first_other(&rt, alloc, &mut desk, words, calls)?;
         assert_eq!(rt; other, 0, "{words}");
-    }
-    Ok(())
-}
-
-#[test]
-fn makes_no_other_call(rt: HostRuntime) -> Result<(), Fail> {
-    let alloc = rt.alloc();
-    let mut desk = stocked(&rt, alloc)?;
-    for (words, calls) in &CALLS {
-        let well = ends_well(&rt, alloc, &mut desk, words, calls.len())?;
-        assert!(rt; well, "{words}");
     }
     Ok(())
 }

@@ -157,12 +157,3 @@ fn minmax_files(rt: HostRuntime) -> Result<(), Fail> {
 fn lexicographic_files(rt: HostRuntime) -> Result<(), Fail> {
     are_read_whole_or_refused::<Lexicographic>(&rt, rt.alloc(), b"0 1 1 2 5,6\n1 3,-4\n")
 }
-
-/// The most states that there may be.
-#[test]
-fn greatest_state(rt: HostRuntime) -> Result<(), Fail> {
-    let fst = compile::<Tropical>(rt.alloc(), b"4194303\n", &kept_options())?;
-    assert_eq!(rt; fst.states(), 4_194_304);
-    assert!(rt; fst.start() == Some(4_194_303) && fst.arc_count() == 0);
-    Ok(())
-}
