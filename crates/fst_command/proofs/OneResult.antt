@@ -3,14 +3,13 @@ use Rattle.std.proofs.Common.{◌≡◌, ◌≢◌, ◌⊎◌, inl, inr, ℕ, Bo
 use Rattle.std.specs.Str.{bytes_eq}
 use Rattle.std.proofs.lemmas.Slice.Eq.{bytes_eq-Decides}
 use mathlib.Core.Path.{fun_ext}
-use Rattle.fst_desk.specs.Seen.{Files, Filed, Seen, Showing}
+use Rattle.fst_desk.specs.Seen.{Files, Filed, Seen}
 use Rattle.fst_desk.specs.Desk.{Holds, ToldHolds}
 use Rattle.fst_words.specs.declared.plan.Plan.{Plan}
 use Rattle.fst_words.specs.Plans.{plan_of}
 use Rattle.fst_verbs.specs.Causes.{Answer, Cause, done, line_of, no_memory, refused, status_of, unread, unwritten, usage}
-use Rattle.fst_verbs.specs.Meaning.{Made}
 use Rattle.fst_command.specs.Outcome.{Answers, Leaves, Makes, Output, Prescribes, Refuses, Runs, ShowsLine}
-use Rattle.fst_command.specs.OneOutcome.{EndsWith, OneOutcome}
+use Rattle.fst_command.specs.OneOutcome.{EndsWith}
 use Rattle.fst_command.specs.OneResult.{EndAlike, IsDecided}
 use Rattle.fst_command.proofs.OneOutcome.{one_outcome}
 

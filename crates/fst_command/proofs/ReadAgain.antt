@@ -1,5 +1,5 @@
 -- What one command writes the next one reads.
-use Rattle.std.proofs.Common.{◌≡◌, ◌≤◌, ℕ, Bool, true, false, List, [], ◌∷◌, length, Option, Result, Ok, refl, ap, ◌∙◌, subst, codes, arith, ltb}
+use Rattle.std.proofs.Common.{◌≡◌, ◌≤◌, ℕ, true, false, List, [], ◌∷◌, length, Option, Result, Ok, refl, ap, ◌∙◌, subst, codes, arith, ltb}
 use Rattle.std.proofs.lemmas.Bool.{le-ltb}
 use Rattle.std.specs.List.{Contains}
 use Rattle.fst_semiring.specs.declared.arc_type.ArcType.{ArcType}
@@ -26,13 +26,12 @@ use Rattle.fst_desk.specs.Seen.{Files}
 use Rattle.fst_words.specs.declared.options.Options.{Options}
 use Rattle.fst_words.specs.declared.plan.Plan.{Plan}
 use Rattle.fst_words.specs.declared.verb.Verb.{Verb}
-use Rattle.fst_words.specs.declared.verb.Verb.TheVariants as verbs
 use Rattle.fst_words.specs.declared.form.Role.TheVariants as roles
 use Rattle.fst_words.specs.Inputs.{Input}
 use Rattle.fst_words.specs.Plans.{outputs_of, rule_labels}
-use Rattle.fst_verbs.specs.Commands.{meaning_by, meaning_for}
+use Rattle.fst_verbs.specs.Commands.{meaning_by}
 use Rattle.fst_verbs.specs.Causes.{Cause, Fault, faulty, misread}
-use Rattle.fst_verbs.specs.Given.{Given, Held, arc_type_of, choices_by, codex_in, given_at, given_by, given_of, kind_of}
+use Rattle.fst_verbs.specs.Given.{Given, Held, choices_by, codex_in, given_at, given_by, given_of, kind_of}
 use Rattle.fst_verbs.specs.Given.{machine_in, nothing, put, read_limit, telling, text_in}
 use Rattle.fst_verbs.specs.Meaning as meanings
 use Rattle.fst_verbs.specs.Meaning.{Made, answered, bytes_of, coded, for_one, machine, separation}
