@@ -64,16 +64,18 @@ module _ {N M : Type 0} (kind : ArcType) (a : Graph N) (b : Graph M) (line : Lis
       let pair = pairs.pairs.reads off.0 w off.2 in
       let matches : IsMatchingPair kind a b pair.0 pair.1 line (output (letters path)) w =
       subst (λ (x : List ℕ). IsMatchingPair kind a b pair.0 pair.1 x (output (letters path)) w) off.3
-          (subst (λ (said : List Letter). IsMatchingPair kind a b pair.0 pair.1 (input (letters off.0)) (output said) w) off.4 pair.3) in
+      (subst (λ (said : List Letter). IsMatchingPair kind a b pair.0 pair.1 (input (letters off.0)) (output said) w) off.4 pair.3) in
       (pair.0, pair.1, record { between = off.0; weight = w; succeeds = off.2; tied = off.1; reads = pair.2 }, matches)
 
-  clear : (path : Path (Point (Name N M))) (one other : Path N) (two another : Path M) → IsReadAsPair kind a b line path one two → IsReadAsPair kind a b line path other another → (one ≡ other) × (two ≡ another)
+  clear : (path : Path (Point (Name N M))) (one other : Path N) (two another : Path M) → IsReadAsPair kind a b line path one two
+      → IsReadAsPair kind a b line path other another → (one ≡ other) × (two ≡ another)
   clear path one other two another r q =
       let same : r.between ≡ q.between = lines.clear path r.between q.between r.tied q.tied in
       pairs.pairs.clear q.between one other two another (subst (λ (m : Path (Name N M)). IsReadOff a b m one two) same r.reads) q.reads
 
   has : (one : Path N) (two : Path M) (z : List ℕ) (w : Cost) → IsMatchingPair kind a b one two line z w
-      → (path : Path (Point (Name N M))) × IsSuccessful kind (lattice line whole) path w × IsReadAsPair kind a b line path one two × (z ≡ output (letters path))
+      → (path : Path (Point (Name N M))) × IsSuccessful kind (lattice line whole) path w × IsReadAsPair kind a b line path one two
+      × (z ≡ output (letters path))
   has one two z w pair =
       let off = pairs.pairs.has one two line z w pair in
       let path = lines.has no_zero off.0 w off.1 (sym off.3) in
@@ -90,6 +92,10 @@ module _ {N M : Type 0} (kind : ArcType) (a : Graph N) (b : Graph M) (line : Lis
 
   -- ---- what is listed
 
+  -- it is listed, or n others are, none of a worse weight
+  abbrev IsPlaced : ℕ → List (Told Cost) → Told Cost → Type 0
+  IsPlaced n listed said = Has listed said ⊎ ((length listed ≡ n) × ((t : Told Cost) → Has listed t → cost_cmp t.weight said.weight ≢ Greater))
+
   best_matches : (n : ℕ) (listed : List (Told Cost)) → IsListed kind (lattice line whole) n listed → AreBestMatches kind a b line n listed
   best_matches n listed h = subst (AreBestMatches kind a b line n) (sym h.told) (record { matches = matches; others = others }) where
     matches : (t : Told Cost) → Has (map told_of h.paths) t → (one : Path N) × (two : Path M) × IsMatchingPair kind a b one two line t.text t.weight
@@ -99,7 +105,7 @@ module _ {N M : Type 0} (kind : ArcType) (a : Graph N) (b : Graph M) (line : Lis
         (pair.0, pair.1, subst (λ (u : Told Cost). IsMatchingPair kind a b pair.0 pair.1 line u.text u.weight) from.2 pair.3)
 
     others : (one : Path N) (two : Path M) (z : List ℕ) (w : Cost) → IsMatchingPair kind a b one two line z w
-        → Has (map told_of h.paths) (record { weight = w; text = z }) ⊎ ((length (map told_of h.paths) ≡ n) × ((t : Told Cost) → Has (map told_of h.paths) t → cost_cmp t.weight w ≢ Greater))
+        → IsPlaced n (map told_of h.paths) (record { weight = w; text = z })
     others one two z w pair = by (h.first.others it path.1) where
       path : (p : Path (Point (Name N M))) × IsSuccessful kind (lattice line whole) p w × IsReadAsPair kind a b line p one two × (z ≡ output (letters p))
       path = has one two z w pair
@@ -111,11 +117,15 @@ module _ {N M : Type 0} (kind : ArcType) (a : Graph N) (b : Graph M) (line : Lis
       said = record { weight = w; text = z }
 
       by : Has h.paths it ⊎ ((length h.paths ≡ n) × ((p : WeightedPath (Point (Name N M))) → Has h.paths p → path_cmp p it ≡ Less))
-          → Has (map told_of h.paths) said ⊎ ((length (map told_of h.paths) ≡ n) × ((t : Told Cost) → Has (map told_of h.paths) t → cost_cmp t.weight w ≢ Greater))
-      by (inl here) = inl (subst (λ (t : List ℕ). Has (map told_of h.paths) (record { weight = w; text = t })) (sym path.3) (has_mapped told_of h.paths it here))
-      by (inr behind) = inr (length-map h.paths told_of ∙ behind.0, λ t there.
-          let from = mapped_has told_of h.paths t there in
-          subst (λ (u : Told Cost). cost_cmp u.weight w ≢ Greater) from.2 (not_worse (cost_cmp from.0.weight w) _ (behind.1 from.0 from.1)))
+          → IsPlaced n (map told_of h.paths) said
+      by (inl here) =
+          inl (subst (λ (t : List ℕ). Has (map told_of h.paths) (record { weight = w; text = t })) (sym path.3) (has_mapped told_of h.paths it here))
+      by (inr behind) = inr (
+        length-map h.paths told_of ∙ behind.0,
+        λ t there.
+            let from = mapped_has told_of h.paths t there in
+            subst (λ (u : Told Cost). cost_cmp u.weight w ≢ Greater) from.2 (not_worse (cost_cmp from.0.weight w) _ (behind.1 from.0 from.1)),
+      )
 
 -- ---- the answer of a line
 
@@ -124,5 +134,6 @@ module _ {N M V : Type 0} (kind : ArcType) (a : Graph N) (b : Graph M) (line : L
   holds_none : NoneBefore kind (composed kind a b) n limit line all_faults → HasNoZero line
   holds_none none = λ k d below zero. none BadByte (omega arith) (λ (has : HasNoZero line). has k d below zero)
 
-  pub listed_matches : (listed : List (Told V)) → IsAnswer kind (composed kind a b) n limit line value (Listed listed) → AreBestMatches kind a b line n (map (valued_told value) listed)
+  pub listed_matches : (listed : List (Told V)) → IsAnswer kind (composed kind a b) n limit line value (Listed listed)
+      → AreBestMatches kind a b line n (map (valued_told value) listed)
   listed_matches listed is = best_matches kind a b line (holds_none is.0) n (map (valued_told value) listed) is.1

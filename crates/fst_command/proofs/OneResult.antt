@@ -3,14 +3,13 @@ use Rattle.std.proofs.Common.{◌≡◌, ◌≢◌, ◌⊎◌, inl, inr, ℕ, Bo
 use Rattle.std.specs.Str.{bytes_eq}
 use Rattle.std.proofs.lemmas.Slice.Eq.{bytes_eq-Decides}
 use mathlib.Core.Path.{fun_ext}
-use Rattle.fst_desk.specs.Seen.{Files, Filed, Seen, Showing}
+use Rattle.fst_desk.specs.Seen.{Files, Filed, Seen}
 use Rattle.fst_desk.specs.Desk.{Holds, ToldHolds}
 use Rattle.fst_words.specs.declared.plan.Plan.{Plan}
 use Rattle.fst_words.specs.Plans.{plan_of}
 use Rattle.fst_verbs.specs.Causes.{Answer, Cause, done, line_of, no_memory, refused, status_of, unread, unwritten, usage}
-use Rattle.fst_verbs.specs.Meaning.{Made}
 use Rattle.fst_command.specs.Outcome.{Answers, Leaves, Makes, Output, Prescribes, Refuses, Runs, ShowsLine}
-use Rattle.fst_command.specs.OneOutcome.{EndsWith, OneOutcome}
+use Rattle.fst_command.specs.OneOutcome.{EndsWith}
 use Rattle.fst_command.specs.OneResult.{EndAlike, IsDecided}
 use Rattle.fst_command.proofs.OneOutcome.{one_outcome}
 
@@ -52,15 +51,18 @@ one_leaving (o ∷ os) old new other later same one two =
 
 -- the outputs stand
 abbrev Stands : Plan → Files → Filed → Filed → Answer → Type 0
-Stands plan files old new answer = (outputs : List Output) × (status : ℕ) × Prescribes plan (Some files) outputs × EndsWith plan (Some files) status × (answer ≡ done status) × Leaves outputs old.told new.told
+Stands plan files old new answer = (outputs : List Output) × (status : ℕ) × Prescribes plan (Some files) outputs
+    × EndsWith plan (Some files) status × (answer ≡ done status) × Leaves outputs old.told new.told
 
 -- a cause was told, and no file has changed
 abbrev Tells : Plan → Files → Filed → Filed → Answer → Type 0
 Tells plan files old new answer = (cause : Cause) × Refuses plan (Some files) cause × (answer ≡ refused cause) × (new.told ≡ old.told)
 
-settled : (plan : Plan) (files : Files) (old new : Filed) (answer : Answer) → old.told ≡ Some files → IsDecided (status_of answer) → Answers (Some plan) old new answer → Stands plan files old new answer ⊎ Tells plan files old new answer
+settled : (plan : Plan) (files : Files) (old new : Filed) (answer : Answer) → old.told ≡ Some files → IsDecided (status_of answer)
+    → Answers (Some plan) old new answer → Stands plan files old new answer ⊎ Tells plan files old new answer
 settled plan files old new (done s) told decided h =
-    inl (h.0, s, subst (λ (t : Option Files). Prescribes plan t h.0) told h.1, (h.1.made, subst (λ (t : Option Files). Makes plan t h.1.made) told h.1.makes, h.2), refl, h.3)
+    let ends : EndsWith plan (Some files) s = (h.1.made, subst (λ (t : Option Files). Makes plan t h.1.made) told h.1.makes, h.2) in
+    inl (h.0, s, subst (λ (t : Option Files). Prescribes plan t h.0) told h.1, ends, refl, h.3)
 settled plan files old new usage told decided h = absurd h
 settled plan files old new (refused c) told decided h = inr (c, subst (λ (t : Option Files). Refuses plan t c) told h.0, refl, h.2)
 settled plan files old new no_memory told decided h = absurd (decided.0 refl)
@@ -79,8 +81,10 @@ unsettled old new (unwritten name) decided h = absurd h
 -- ---- both runs
 
 -- equal answers, of runs that have stored the same outputs
-module _ (words : List (List ℕ)) (files : Files) (old new other later : Seen) (status also : ℕ) (one : Runs words old new status) (two : Runs words other later also) (told : old.filed.told ≡ Some files) (tells : other.filed.told ≡ Some files) where
-  alike : (outputs : List Output) → one.answer ≡ two.answer → Leaves outputs old.filed.told new.filed.told → Leaves outputs other.filed.told later.filed.told → EndAlike old new status other later also
+module _ (words : List (List ℕ)) (files : Files) (old new other later : Seen) (status also : ℕ)
+    (one : Runs words old new status) (two : Runs words other later also) (told : old.filed.told ≡ Some files) (tells : other.filed.told ≡ Some files) where
+  alike : (outputs : List Output) → one.answer ≡ two.answer → Leaves outputs old.filed.told new.filed.told
+      → Leaves outputs other.filed.told later.filed.told → EndAlike old new status other later also
   alike outputs same first second = record {
     status = one.status_is ∙ (ap status_of same ∙ sym two.status_is);
     told = one_leaving outputs old.filed.told new.filed.told other.filed.told later.filed.told (told ∙ sym tells) first second;
@@ -90,7 +94,9 @@ module _ (words : List (List ℕ)) (files : Files) (old new other later : Seen) 
     shows = (subst (λ (a : Answer). ShowsLine (line_of a) old.showing new.showing) same one.shows, two.shows);
   }
 
-  both : (plan : Plan) → Stands plan files old.filed new.filed one.answer ⊎ Tells plan files old.filed new.filed one.answer → Stands plan files other.filed later.filed two.answer ⊎ Tells plan files other.filed later.filed two.answer → EndAlike old new status other later also
+  both : (plan : Plan) → Stands plan files old.filed new.filed one.answer ⊎ Tells plan files old.filed new.filed one.answer
+      → Stands plan files other.filed later.filed two.answer ⊎ Tells plan files other.filed later.filed two.answer
+      → EndAlike old new status other later also
   both plan (inl a) (inl b) =
       let outputs : a.0 ≡ b.0 = (one_outcome plan files).outputs a.0 b.0 a.2 b.2 in
       let ends : a.1 ≡ b.1 = (one_outcome plan files).status a.1 b.1 a.3 b.3 in
@@ -109,9 +115,13 @@ module _ (words : List (List ℕ)) (files : Files) (old new other later : Seen) 
     second : IsDecided (status_of two.answer)
     second = subst IsDecided two.status_is settles
 
-    by : (p : Option Plan) → Answers p old.filed new.filed one.answer → Answers p other.filed later.filed two.answer → EndAlike old new status other later also
+    by : (p : Option Plan) → Answers p old.filed new.filed one.answer → Answers p other.filed later.filed two.answer
+        → EndAlike old new status other later also
     by None a b =
         let x = unsettled old.filed new.filed one.answer first a in
         let y = unsettled other.filed later.filed two.answer second b in
         alike [] (x.0 ∙ sym y.0) x.1 y.1
-    by (Some plan) a b = both plan (settled plan files old.filed new.filed one.answer told first a) (settled plan files other.filed later.filed two.answer tells second b)
+    by (Some plan) a b =
+        let x = settled plan files old.filed new.filed one.answer told first a in
+        let y = settled plan files other.filed later.filed two.answer tells second b in
+        both plan x y

@@ -1,5 +1,5 @@
 -- What one command writes the next one reads.
-use Rattle.std.proofs.Common.{◌≡◌, ◌≤◌, ℕ, Bool, true, false, List, [], ◌∷◌, length, Option, Result, Ok, refl, ap, ◌∙◌, subst, codes, arith, ltb}
+use Rattle.std.proofs.Common.{◌≡◌, ◌≤◌, ℕ, true, false, List, [], ◌∷◌, length, Option, Result, Ok, refl, ap, ◌∙◌, subst, codes, arith, ltb}
 use Rattle.std.proofs.lemmas.Bool.{le-ltb}
 use Rattle.std.specs.List.{Contains}
 use Rattle.fst_semiring.specs.declared.arc_type.ArcType.{ArcType}
@@ -26,13 +26,13 @@ use Rattle.fst_desk.specs.Seen.{Files}
 use Rattle.fst_words.specs.declared.options.Options.{Options}
 use Rattle.fst_words.specs.declared.plan.Plan.{Plan}
 use Rattle.fst_words.specs.declared.verb.Verb.{Verb}
-use Rattle.fst_words.specs.declared.verb.Verb.TheVariants as verbs
 use Rattle.fst_words.specs.declared.form.Role.TheVariants as roles
 use Rattle.fst_words.specs.Inputs.{Input}
 use Rattle.fst_words.specs.Plans.{outputs_of, rule_labels}
-use Rattle.fst_verbs.specs.Commands.{meaning_by, meaning_for}
-use Rattle.fst_verbs.specs.Causes.{faulty, misread}
-use Rattle.fst_verbs.specs.Given.{Given, arc_type_of, choices_by, codex_in, given_at, given_by, given_of, kind_of, machine_in, nothing, put, read_limit, telling, text_in}
+use Rattle.fst_verbs.specs.Commands.{meaning_by}
+use Rattle.fst_verbs.specs.Causes.{Cause, Fault, faulty, misread}
+use Rattle.fst_verbs.specs.Given.{Given, Held, choices_by, codex_in, given_at, given_by, given_of, kind_of}
+use Rattle.fst_verbs.specs.Given.{machine_in, nothing, put, read_limit, telling, text_in}
 use Rattle.fst_verbs.specs.Meaning as meanings
 use Rattle.fst_verbs.specs.Meaning.{Made, answered, bytes_of, coded, for_one, machine, separation}
 use Rattle.fst_verbs.specs.Tabling.{tables_for}
@@ -60,7 +60,8 @@ unfolding codex_in codex_of_file
 reads_codex kind t has name = rw (type_again kind t, codex_again kind t has) refl
 
 -- the outputs of one content, and of two
-one_named : (names : List (List ℕ)) (bytes : List ℕ) (outputs : List Output) → AreNamed names (bytes ∷ []) outputs → (output : Output) × (outputs ≡ output ∷ []) × (bytes ≡ output.1)
+one_named : (names : List (List ℕ)) (bytes : List ℕ) (outputs : List Output) → AreNamed names (bytes ∷ []) outputs
+    → (output : Output) × (outputs ≡ output ∷ []) × (bytes ≡ output.1)
 one_named [] bytes outputs h = absurd h
 one_named (n ∷ []) bytes outputs h = ((n, bytes), h.1 ∙ ap (λ (rest : List Output). (n, bytes) ∷ rest) h.2, refl)
 one_named (n ∷ k ∷ names) bytes outputs h = absurd h.2
@@ -83,7 +84,8 @@ again names s (coded kind table m) outputs named = λ sided can has.
 again names s (answered bytes expansions) outputs named = tt
 again names s (separation bytes) outputs named = tt
 
-pub written_reads_again : (plan : Plan) (told : Option Files) (outputs : List Output) (p : Prescribes plan told outputs) → AreReadAgain (tables_for plan p.makes.given.tables) p.made outputs
+pub written_reads_again : (plan : Plan) (told : Option Files) (outputs : List Output) (p : Prescribes plan told outputs)
+    → AreReadAgain (tables_for plan p.makes.given.tables) p.made outputs
 written_reads_again plan told outputs p = again (outputs_of plan) (tables_for plan p.makes.given.tables) p.made outputs p.named
 
 -- a command that reads one machine is given what was written
@@ -94,16 +96,21 @@ same_alike Tropical = refl
 same_alike MinMax = refl
 same_alike Lexicographic = refl
 
+-- what was read, where all is of one arc type
+abbrev at_once : Options → Held → Result Given Cause
+at_once o held = telling faulty (given_at (kind_of o held.machines) held)
+
 one_given : (o : Options) (name content : List ℕ) (kind : ArcType) (m : Machine Cost) (s : Sides) → IsReadAs kind m s content → length content ≤ read_limit
-    → (given_by o (record { name = name; role = roles.Machine } ∷ []) (content ∷ []) nothing >>= λ held. telling faulty (given_at (kind_of o held.machines) held)) ≡ Ok (given_one kind m s)
+    → (given_by o (record { name = name; role = roles.Machine } ∷ []) (content ∷ []) nothing >>= at_once o) ≡ Ok (given_one kind m s)
 unfolding put given_at
 one_given o name content kind m s reads short =
     let fits : ltb read_limit (length content) ≡ false = le-ltb read_limit (length content) short in
     rw (fits, reads name, same_alike kind) refl
 
-pub given_again : (plan : Plan) (kind : ArcType) (m : Machine Cost) (s : Sides) (content : List ℕ) → IsReadAs kind m s content → length content ≤ read_limit → ReadsOneMachine plan → given_of plan (content ∷ []) ≡ Ok (given_one kind m s)
+pub given_again : (plan : Plan) (kind : ArcType) (m : Machine Cost) (s : Sides) (content : List ℕ) → IsReadAs kind m s content
+    → length content ≤ read_limit → ReadsOneMachine plan → given_of plan (content ∷ []) ≡ Ok (given_one kind m s)
 given_again plan kind m s content reads short one =
-    ap (λ (inputs : List Input). given_by plan.options inputs (content ∷ []) nothing >>= λ held. telling faulty (given_at (kind_of plan.options held.machines) held)) one.1
+    ap (λ (inputs : List Input). given_by plan.options inputs (content ∷ []) nothing >>= at_once plan.options) one.1
     ∙ one_given plan.options one.0 content kind m s reads short
 
 -- ---- the text form
@@ -111,28 +118,37 @@ given_again plan kind m s content reads short one =
 abbrev read_as : ArcType → Machine Cost → Result Typed TextFault
 read_as kind m = Ok (record { kind = kind; machine = m })
 
-reads_text : (kind : ArcType) (choices : text.Options) (m : Machine Cost) (name bytes : List ℕ) → machine_of_text kind choices bytes ≡ Ok m → text_in kind choices name bytes ≡ Ok (record { kind = kind; machine = m })
+reads_text : (kind : ArcType) (choices : text.Options) (m : Machine Cost) (name bytes : List ℕ) → machine_of_text kind choices bytes ≡ Ok m
+    → text_in kind choices name bytes ≡ Ok (record { kind = kind; machine = m })
 unfolding text_in typed_machine_of_text
 reads_text kind choices m name bytes back =
-    ap (λ (read : Result (Machine Cost) TextFault). telling (λ fault. misread name (codes "line") (texts.line_of fault) (texts.reason_of fault)) (read >>= read_as kind)) back
+    let tell : TextFault → Fault = λ fault. misread name (codes "line") (texts.line_of fault) (texts.reason_of fault) in
+    ap (λ (read : Result (Machine Cost) TextFault). telling tell (read >>= read_as kind)) back
 
-compiles : (kind : ArcType) (choices : text.Options) (m : Machine Cost) (bytes : List ℕ) → IsTold kind choices m → text_of_machine kind choices m ≡ Ok bytes → IsCompiledAs kind choices m bytes
+compiles : (kind : ArcType) (choices : text.Options) (m : Machine Cost) (bytes : List ℕ) → IsTold kind choices m
+    → text_of_machine kind choices m ≡ Ok bytes → IsCompiledAs kind choices m bytes
 compiles kind choices m bytes tells is o isymbols osymbols reads name =
-    let back : machine_of_text kind choices bytes ≡ Ok m = compiles-back kind choices m bytes tells.tables tells.machine tells.weights tells.start tells.kept is in
+    let back : machine_of_text kind choices bytes ≡ Ok m =
+    compiles-back kind choices m bytes tells.tables tells.machine tells.weights tells.start tells.kept is in
     ap (λ (k : ArcType). text_in k (choices_by o isymbols osymbols) name bytes) reads.kind
     ∙ (ap (λ (c : text.Options). text_in kind c name bytes) reads.choices ∙ reads_text kind choices m name bytes back)
 
-printed : (o : Options) (given : Given) (made : Made) (m : Machine Cost) (ms : List (Machine Cost)) → ms ≡ m ∷ []
-    → for_one ms (λ n. (bytes : List ℕ) × (text_of_machine given.kind (print_choices o given.tables) n ≡ Ok bytes) × (made ≡ meanings.text bytes))
-    → (bytes : List ℕ) × (text_of_machine given.kind (print_choices o given.tables) m ≡ Ok bytes) × (made ≡ meanings.text bytes)
-printed o given made m ms e h =
-    subst (λ (ns : List (Machine Cost)). for_one ns (λ n. (bytes : List ℕ) × (text_of_machine given.kind (print_choices o given.tables) n ≡ Ok bytes) × (made ≡ meanings.text bytes))) e h
+-- what is made is the text of the machine
+abbrev IsPrinted : Options → Given → Made → Machine Cost → Type 0
+IsPrinted o given made n = (bytes : List ℕ) × (text_of_machine given.kind (print_choices o given.tables) n ≡ Ok bytes) × (made ≡ meanings.text bytes)
 
-pub printed_compiles_again : (plan : Plan) (told : Option Files) (outputs : List Output) (p : Prescribes plan told outputs) → IsCompiledAgain plan told outputs p
+printed : (o : Options) (given : Given) (made : Made) (m : Machine Cost) (ms : List (Machine Cost)) → ms ≡ m ∷ []
+    → for_one ms (IsPrinted o given made) → IsPrinted o given made m
+printed o given made m ms e h =
+    subst (λ (ns : List (Machine Cost)). for_one ns (IsPrinted o given made)) e h
+
+pub printed_compiles_again : (plan : Plan) (told : Option Files) (outputs : List Output) (p : Prescribes plan told outputs)
+    → IsCompiledAgain plan told outputs p
 printed_compiles_again plan told outputs p m command machines tells =
     let given : Given = p.makes.given in
     let choices : text.Options = print_choices plan.options given.tables in
-    let makes : (print_meaning plan.options).makes given p.made = subst (λ (v : Verb). (meaning_by v (rule_labels plan) plan.options).makes given p.made) command p.makes.is in
+    let makes : (print_meaning plan.options).makes given p.made =
+    subst (λ (v : Verb). (meaning_by v (rule_labels plan) plan.options).makes given p.made) command p.makes.is in
     let said = printed plan.options given p.made m given.machines machines makes in
     let s : Sides = tables_for plan given.tables in
     let one = one_named (outputs_of plan) said.0 outputs (subst (λ (x : Made). AreNamed (outputs_of plan) (bytes_of s x) outputs) said.2 p.named) in

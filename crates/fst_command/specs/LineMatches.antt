@@ -26,9 +26,11 @@ module _ {N M : Type 0} (kind : ArcType) (a : Graph N) (b : Graph M) (line : Lis
   pub record IsMatched : Type 0 where
     pub reads : (path : Path (Point (Name N M))) (w : Cost) → IsSuccessful kind (lattice line (composed kind a b)) path w
         → (one : Path N) × (two : Path M) × IsReadAsPair path one two × IsMatchingPair kind a b one two line (output (letters path)) w
-    pub clear : (path : Path (Point (Name N M))) (one other : Path N) (two another : Path M) → IsReadAsPair path one two → IsReadAsPair path other another → (one ≡ other) × (two ≡ another)
+    pub clear : (path : Path (Point (Name N M))) (one other : Path N) (two another : Path M) → IsReadAsPair path one two
+        → IsReadAsPair path other another → (one ≡ other) × (two ≡ another)
     pub has : (one : Path N) (two : Path M) (z : List ℕ) (w : Cost) → IsMatchingPair kind a b one two line z w
-        → (path : Path (Point (Name N M))) × IsSuccessful kind (lattice line (composed kind a b)) path w × IsReadAsPair path one two × (z ≡ output (letters path))
+        → (path : Path (Point (Name N M))) × IsSuccessful kind (lattice line (composed kind a b)) path w × IsReadAsPair path one two
+        × (z ≡ output (letters path))
     pub once : (path other : Path (Point (Name N M))) (v w : Cost) (one : Path N) (two : Path M) → IsSuccessful kind (lattice line (composed kind a b)) path v
         → IsSuccessful kind (lattice line (composed kind a b)) other w → IsReadAsPair path one two → IsReadAsPair other one two → path ≡ other
 

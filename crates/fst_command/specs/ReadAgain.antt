@@ -82,5 +82,6 @@ IsCompiledAs kind choices m content = (o : Options) (isymbols osymbols : Option 
 -- Where the command is print, and the machine that it is given is told whole, its one output is compiled as this machine.
 abbrev pub IsCompiledAgain : (plan : Plan) (told : Option Files) (outputs : List Output) → Prescribes plan told outputs → Type 0
 IsCompiledAgain plan told outputs p =
-    (m : Machine Cost) → plan.command ≡ verbs.Print → p.makes.given.machines ≡ m ∷ [] → IsTold p.makes.given.kind (print_choices plan.options p.makes.given.tables) m →
+    (m : Machine Cost) → plan.command ≡ verbs.Print → p.makes.given.machines ≡ m ∷ [] →
+    IsTold p.makes.given.kind (print_choices plan.options p.makes.given.tables) m →
     (output : Output) × (outputs ≡ output ∷ []) × IsCompiledAs p.makes.given.kind (print_choices plan.options p.makes.given.tables) m output.1
