@@ -12,8 +12,8 @@ use Rattle.fst_verbs.specs.Meaning.{Made, answered, coded, machine, separation, 
 use Rattle.fst_verbs.specs.declared.tables.Carried.{Carried}
 use Rattle.fst_verbs.specs.declared.tables.Tables.{Tables as DeclaredTables}
 use Rattle.fst_verbs.specs.declared.given.Given.{Given as DeclaredGiven}
-use Rattle.fst_verbs.specs.declared.made.Made.{Made as DeclaredMade}
-use Rattle.fst_verbs.specs.declared.made.Made.TheVariants as made
+use Rattle.fst_verbs.specs.declared.outputs.Made.{Made as DeclaredMade}
+use Rattle.fst_verbs.specs.declared.outputs.Made.TheVariants as made
 
 -- the names of the labels of each side: those of its own table, or else of the table of both sides
 abbrev pub input_names : DeclaredTables → Option (List Symbol)

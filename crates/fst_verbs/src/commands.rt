@@ -33,7 +33,7 @@ mod trimming;
 mod wide_weights;
 
 use crate::given::Given;
-use crate::made::Made;
+use crate::outputs::Made;
 use crate::queues::Queues;
 use crate::refusal::Refusal;
 use crate::tables::Tables;

@@ -10,14 +10,14 @@
 
 mod commands;
 mod given;
-mod made;
+mod outputs;
 mod queues;
 mod refusal;
 mod tables;
 
 pub use commands::made;
 pub use given::{Given, arc_type_of};
-pub use made::Made;
+pub use outputs::Made;
 pub use queues::Queues;
 pub use refusal::{Refusal, kinds_apart, longer, misread, not_read, not_written};
 pub use tables::{Carried, Tables, tables_for};

@@ -15,7 +15,7 @@ ghost use Rattle.fst_verbs.specs.Seeing.{given_seen, made_seen};
 use crate::commands::composing::{limit_of, uncomposed};
 use crate::commands::listing::count_of;
 use crate::given::Given;
-use crate::made::Made;
+use crate::outputs::Made;
 use crate::refusal::Refusal;
 use fst_batch::{
     BatchOptions, BatchReport, LineAnswer, Lines, OpenGate, put_answer_lines, put_number, run_batch,

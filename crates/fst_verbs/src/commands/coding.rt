@@ -12,7 +12,7 @@ ghost use Rattle.fst_verbs.specs.Seeing.{given_seen, just, made_seen};
 ghost use Rattle.fst_verbs.specs.Told.{IsMade};
 
 use crate::given::{Given, one};
-use crate::made::Made;
+use crate::outputs::Made;
 use crate::refusal::{Refusal, unmade};
 use fst_codex::{Codex, DecodeFault, into_decoded, into_encoded};
 use fst_machine::Fst;

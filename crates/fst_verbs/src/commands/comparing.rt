@@ -13,7 +13,7 @@ ghost use Rattle.fst_verbs.specs.Told.{IsMade};
 use super::composing::limit_of;
 use super::wide_weights::push_wide;
 use crate::given::Given;
-use crate::made::Made;
+use crate::outputs::Made;
 use crate::refusal::{Refusal, unmade};
 use fst_batch::put_number;
 use fst_semiring::Weight;

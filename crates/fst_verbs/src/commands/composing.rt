@@ -16,7 +16,7 @@ ghost use Rattle.fst_verbs.specs.Seeing.{given_seen, made_seen};
 ghost use Rattle.fst_verbs.specs.Told.{IsMade};
 
 use crate::given::Given;
-use crate::made::Made;
+use crate::outputs::Made;
 use crate::refusal::{Refusal, unmade};
 use fst_compose::{ComposeFault, compose};
 use fst_machine::Fst;

@@ -10,7 +10,7 @@ ghost use Rattle.fst_verbs.specs.Seeing.{given_seen, made_seen};
 
 use crate::commands::named::{add_line, add_number};
 use crate::given::Given;
-use crate::made::Made;
+use crate::outputs::Made;
 use crate::refusal::Refusal;
 use fst_semiring::{ArcType, Weight};
 use fst_trim::{Info, info};

@@ -12,7 +12,7 @@ ghost use Rattle.fst_verbs.specs.Told.{IsMade};
 
 use super::composing::limit_of;
 use crate::given::Given;
-use crate::made::Made;
+use crate::outputs::Made;
 use crate::refusal::{Refusal, unmade};
 use fst_determinize::{DeterminizeFault, SubsetWeight, determinize};
 use fst_words::Options;

@@ -12,7 +12,7 @@ ghost use Rattle.fst_verbs.specs.Told.{IsMade};
 
 use super::composing::{left_of, limit_of};
 use crate::given::Given;
-use crate::made::Made;
+use crate::outputs::Made;
 use crate::refusal::{Refusal, unmade};
 use fst_semiring::Weight;
 use fst_setops::{IntersectFault, intersect};

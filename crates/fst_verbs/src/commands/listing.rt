@@ -21,7 +21,7 @@ ghost use Rattle.fst_verbs.specs.Seeing.{given_seen, made_seen};
 ghost use Rattle.fst_verbs.specs.Told.{IsMade};
 
 use crate::given::Given;
-use crate::made::Made;
+use crate::outputs::Made;
 use crate::refusal::{Refusal, unmade};
 use fst_determinize::SubsetWeight;
 use fst_machine::{Fst, Paths, Steps};

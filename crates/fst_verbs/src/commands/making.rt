@@ -12,7 +12,7 @@ ghost use Rattle.fst_verbs.specs.Seeing.{made_seen};
 
 use crate::commands::batching::asked;
 use crate::commands::named::add_number;
-use crate::made::Made;
+use crate::outputs::Made;
 use crate::refusal::Refusal;
 use fst_batch::{BatchReport, Cascade, LineAnswer, OpenGate, make_cascade, run_batch};
 use fst_delayed::{Delayed, Meter};

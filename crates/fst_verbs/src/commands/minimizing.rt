@@ -10,7 +10,7 @@ ghost use Rattle.fst_verbs.specs.Seeing.{given_seen, made_seen};
 ghost use Rattle.fst_verbs.specs.Told.{IsMade};
 
 use crate::given::Given;
-use crate::made::Made;
+use crate::outputs::Made;
 use crate::queues::{Queues, picked};
 use crate::refusal::{Refusal, unmade};
 use fst_minimize::{MinimizeFault, minimize};

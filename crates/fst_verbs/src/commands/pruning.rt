@@ -8,7 +8,7 @@ ghost use Rattle.fst_verbs.specs.Pruning.{prune_meaning, threshold_of};
 ghost use Rattle.fst_verbs.specs.Seeing.{given_seen, made_seen};
 
 use crate::given::Given;
-use crate::made::Made;
+use crate::outputs::Made;
 use crate::queues::{Queues, picked};
 use crate::refusal::{Refusal, unmade};
 use fst_select::{PruneFault, prune};

@@ -10,7 +10,7 @@ ghost use Rattle.fst_verbs.specs.Seeing.{given_seen, made_seen};
 ghost use Rattle.fst_verbs.specs.Told.{IsMade};
 
 use crate::given::{Given, one};
-use crate::made::Made;
+use crate::outputs::Made;
 use crate::refusal::{Refusal, unmade};
 use fst_rational::{
     RationalFault, into_closure, into_concat, into_inverted, into_projected, into_relabelled,

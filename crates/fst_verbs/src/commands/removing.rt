@@ -11,7 +11,7 @@ ghost use Rattle.fst_verbs.specs.Told.{IsMade};
 
 use super::composing::is_connected;
 use crate::given::Given;
-use crate::made::Made;
+use crate::outputs::Made;
 use crate::queues::{Queues, picked};
 use crate::refusal::{Refusal, unmade};
 use fst_epsilon::{EpsilonFault, rmepsilon};

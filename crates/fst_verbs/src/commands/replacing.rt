@@ -13,7 +13,7 @@ ghost use Rattle.fst_verbs.specs.Seeing.{given_seen, just, made_seen};
 ghost use Rattle.fst_verbs.specs.Told.{IsMade};
 
 use crate::given::Given;
-use crate::made::Made;
+use crate::outputs::Made;
 use crate::refusal::{Refusal, unmade};
 use fst_machine::Fst;
 use fst_replace::{AddFault, ReplaceFault, Rule, Rules, replace};

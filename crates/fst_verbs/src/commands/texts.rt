@@ -10,7 +10,7 @@ ghost use Rattle.fst_verbs.specs.Texts.{compile_meaning, print_choices, print_me
 ghost use Rattle.fst_verbs.specs.Told.{IsMade};
 
 use crate::given::{Given, one};
-use crate::made::Made;
+use crate::outputs::Made;
 use crate::refusal::{Refusal, unmade};
 use crate::tables::Tables;
 use fst_semiring::Weight;

@@ -7,7 +7,7 @@ ghost use Rattle.fst_verbs.specs.Seeing.{given_seen, made_seen};
 ghost use Rattle.fst_verbs.specs.Trimming.{arcsort_meaning, connect_meaning, side_of};
 
 use crate::given::Given;
-use crate::made::Made;
+use crate::outputs::Made;
 use crate::refusal::Refusal;
 use fst_semiring::Weight;
 use fst_trim::{Side, into_arcsorted, into_connected};
