@@ -13,8 +13,6 @@ mod codex_files;
 #[cfg(test)]
 mod codices;
 #[cfg(test)]
-mod cut_files;
-#[cfg(test)]
 mod fields;
 #[cfg(test)]
 mod numbers;

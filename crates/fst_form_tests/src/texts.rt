@@ -32,7 +32,7 @@ fn options<'t>(form: Form, input: &'t SymbolTable, output: &'t SymbolTable) -> T
 }
 
 /// The options without tables, by which states keep their numbers.
-pub(crate) fn kept_options<'t>() -> TextOptions<'t> {
+fn kept_options<'t>() -> TextOptions<'t> {
     TextOptions {
         acceptor: false,
         keep_state_numbering: true,
