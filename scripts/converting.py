@@ -20,6 +20,8 @@ GREATEST_LABEL = 2_147_483_647
 ARC_TYPES = ("tropical", "boolean", "minmax", "lexicographic")
 # The final weights of a state that is not final.
 ZEROS = {"tropical": ("Infinity",), "boolean": ("0",), "minmax": ("Infinity",), "lexicographic": ("Infinity,Infinity",)}
+# The names that epsilon has by custom: eps, epsilon and signs of it, and these and others between brackets, as in <eps> and @0@.
+EPSILON_NAMES = re.compile(r"eps|epsilon|[εϵλ∅]|[<\[{(@*_\"']+(|0|e|eps|epsilon|[εϵλ]|epsilon_symbol|lambda|empty|null|nil|none|blk|blank)[>\]})@*_\"']+", re.IGNORECASE)
 MAGIC, TABLE_MAGIC = struct.pack("<i", 2125659606), struct.pack("<i", 2125658996)
 
 
@@ -31,6 +33,11 @@ def shown(text):
     """A text for a terminal: control bytes and bytes that are no character are written out."""
     return "".join(one if one.isprintable() else f"\\x{ord(one) & 255:02x}" if ord(one) < 160 or 0xDC80 <= ord(one) <= 0xDCFF else f"\\u{ord(one):04x}"
                    for one in text)
+
+
+def warn(message):
+    """Says on standard error what may be meant otherwise, and is done all the same."""
+    print(shown(f"{os.path.basename(sys.argv[0])}: {message}"), file=sys.stderr)
 
 
 def table_at(data, at):
@@ -117,10 +124,25 @@ def kind_of(head):
     return next((kind for start, kind in kinds if head.startswith(start)), "a binary file, and no text" if b"\0" in head else None)
 
 
+def refuse_no_machine(name, head):
+    """Refuses a file that is no machine of fst, and says what makes one of it."""
+    raise Refused(f"{shown_name(name)}: it is {kind_of(head) or ('a text: fst compile makes a machine of it' if head else 'empty')}")
+
+
 def opened(name):
     """A file to read, `-` for standard input, and its first bytes, which stay unread."""
     file = open(sys.stdin.fileno() if name == "-" else name, "rb", closefd=name != "-", buffering=1 << 16)
     return file, file.peek(4096)[:4096]
+
+
+def refuse_no_text(name):
+    """Refuses a file of which the program is to read a text, where it is of another kind."""
+    if os.path.isfile(name):
+        file, head = opened(name)
+        with file:
+            kind = kind_of(head)
+        if kind:
+            raise Refused(f"{name}: it is {kind}")
 
 
 def read_lines(place, name, source=None):
@@ -228,6 +250,11 @@ def state_of(place, field):
     return int(field)
 
 
+def is_weight(text):
+    """Whether a text is a decimal, or infinity."""
+    return DECIMAL.fullmatch(text) is not None or text.lower().removeprefix("+") in ("inf", "infinity")
+
+
 class Weights:
     """Turns decimals to whole numbers by a factor, and counts what was rounded."""
 
@@ -242,10 +269,10 @@ class Weights:
         return number
 
     def turned(self, place, text):
-        if text.lower().removeprefix("+") in ("inf", "infinity"):
-            return "Infinity", False
-        if not DECIMAL.fullmatch(text):
+        if not is_weight(text):
             place.refuse(f"bad weight {text}")
+        if not DECIMAL.fullmatch(text):
+            return "Infinity", False
         # It is slow to load, and few scripts need it.
         from fractions import Fraction
         value = Fraction(text)
@@ -270,30 +297,40 @@ def factor_of(text):
 
 
 class Symbols:
-    """A symbol table that grows: its names with their numbers, the new ones after the greatest."""
+    """A symbol table that grows: its names with their numbers, the new ones after the greatest. In a table that names labels
+    which are written, number 0 has no name that a label could have."""
 
-    def __init__(self, name=None):
-        self.numbers, taken = {}, set()
+    def __init__(self, name=None, to_write=False, warns=True):
+        self.numbers = {}
         if name is not None:
-            place = Place(name)
-            for line in read_lines(place, name):
-                fields = [field for field in FIELDS.split(line) if field]
-                if not fields:
-                    continue
-                if len(fields) != 2:
-                    place.refuse("wrong number of columns")
-                symbol, number = fields
-                if not (number.isascii() and number.isdigit() and int(number) <= GREATEST_LABEL):
-                    place.refuse(f"bad number {number}")
-                if symbol in self.numbers or int(number) in taken:
-                    place.refuse(f"{symbol if symbol in self.numbers else number} is given twice")
-                self.numbers[symbol] = int(number)
-                taken.add(int(number))
+            self.read(name, to_write)
+            if warns and not self.numbers:
+                warn(f"{shown_name(name)}: the table is empty")
         self.given = frozenset(self.numbers)
         self.epsilon = next((symbol for symbol, number in self.numbers.items() if number == 0), EPSILON)
         if self.numbers.setdefault(self.epsilon, 0) != 0:
             raise Refused(f"{name}: {EPSILON} has another number than 0")
         self.next = max(self.numbers.values()) + 1
+
+    def read(self, name, to_write):
+        place, taken = Place(name), set()
+        for line in read_lines(place, name):
+            fields = [field for field in FIELDS.split(line) if field]
+            if not fields:
+                continue
+            if len(fields) != 2:
+                place.refuse("not a symbol table? wrong number of columns")
+            symbol, number = fields
+            if not (number.isascii() and number.isdigit() and int(number) <= GREATEST_LABEL):
+                place.refuse(f"not a symbol table? bad number {number}")
+            if symbol in self.numbers:
+                place.refuse(f"{symbol} is given twice")
+            if int(number) in taken:
+                place.refuse(f"not a symbol table? {number} is given twice")
+            if to_write and int(number) == 0 and not EPSILON_NAMES.fullmatch(symbol):
+                place.refuse(f"number 0 is that of epsilon: give {symbol} another number")
+            self.numbers[symbol] = int(number)
+            taken.add(int(number))
 
     def add(self, symbol):
         if symbol not in self.numbers:
@@ -379,6 +416,8 @@ class Text:
         if options.arc_type not in (None, self.arc_type):
             raise Refused(f"{shown_name(options.input)}: the arc type is {self.arc_type}, and not {options.arc_type}")
         self.place = Place(options.input, "line of fst print")
+        for table in filter(None, self.tables):
+            refuse_no_text(table)
         words = ["print", *(f"--{side}={table}" for side, table in zip(("isymbols", "osymbols"), self.tables) if table is not None)]
         return io.BytesIO(run_on(options.input, [*words, *(["--numeric"] if self.numbers else []), *flags], data))
 
