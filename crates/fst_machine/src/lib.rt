@@ -8,10 +8,6 @@
 //! The definitions of the subject stand in `specs`, over graphs of plain values with any kind of name, of which
 //! a machine is one: paths and what they read, write and weigh, the relation and the weight of a pair, cycles,
 //! distances, breadth-first lists, the order of paths. Their laws are in `proofs`, and `laws` asks for each.
-//!
-//! No wrong body is tried in this crate. With weaker contracts here these could not be proved: `compile` of `fst_text`, which
-//! refuses too many states exactly; `union` of `fst_rational` with its limits; `connect` of `fst_trim`, which keeps states and
-//! arcs in their order; `rmepsilon` of `fst_epsilon` and `push` of `fst_distance`, which name the first state past the range.
 #![tactic(auto)]
 
 mod arc;

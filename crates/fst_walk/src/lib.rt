@@ -6,10 +6,6 @@
 //!
 //! The definitions stand in `specs`, over graphs of plain values with any kind of name; `laws` asks for the laws that
 //! operations share.
-//!
-//! No wrong body is tried in this crate. With weaker contracts here these could not be proved: `compose` of `fst_compose`,
-//! whose refusals are exact and whose machine is that of all names; `determinize` of `fst_determinize` and `intersect` of
-//! `fst_setops`, of which the same is said.
 #![tactic(auto)]
 
 mod fault;
