@@ -3,13 +3,15 @@
 set -u
 cd "$(dirname "${BASH_SOURCE[0]}")/.." || exit 1
 repository=$PWD
-# The program that the gate has just proved and built, or another that FST names: nothing is proved again. Where there is
-# none, it is proved and built first.
-fst=$(realpath -m "${FST:-crates/fst/out/fst}")
+# The program that the gate has just proved and built, or that of `make all`, or another that FST names: no check proves.
+for fst in ${FST:+"$FST"} crates/fst/out/fst out/fst; do
+  [ ! -x "$fst" ] || break
+done
 if [ ! -x "$fst" ]; then
-  make -s all || exit 1
-  fst=$repository/out/fst
+  echo 'there is no program: make all proves and builds it, and FST=path uses one that is there'
+  exit 1
 fi
+fst=$(realpath "$fst")
 folder=$(mktemp -d)
 trap 'rm -rf "$folder"' EXIT
 mkdir "$folder/bin"

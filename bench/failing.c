@@ -1,4 +1,4 @@
-/* Counts the growths of a program, each call of malloc and realloc, and refuses one of them, or all from one on.
+/* Counts the growths of a program, each call of malloc and realloc (it makes no other), and refuses one of them, or all from one on.
 
    cc -O2 -shared -fPIC failing.c -o failing.so -ldl
    FAIL_COUNT=FILE FAIL_AT=N FAIL_ONWARD=1 LD_PRELOAD=./failing.so PROGRAM ..

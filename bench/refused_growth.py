@@ -197,6 +197,8 @@ def main():
                 total += tally
                 sum_of_growths += growths
                 print(f"{line}: {growths} growths; {', '.join(f'{kind}: {number}' for kind, number in sorted(tally.items()))}", flush=True)
+    if not total:
+        sys.exit(f"no line has {words.only!r}")
     print(f"{sum_of_growths} growths, {sum(total.values())} runs; {', '.join(f'{kind}: {number}' for kind, number in sorted(total.items()))}")
     return 1 if total["WRONG"] else 0
 

@@ -6,7 +6,7 @@
 
 The runs of the two programs alternate, so that a slow minute of the machine falls on both. For each run the processor time (user
 and system) and the peak resident size are taken; the tables show medians. The parts are forms, operations, algebra, cliffs,
-improving, crafted, batch and cascades; without --only all are shown. --table shows the first three in one table with a line for each
+improving, crafted, batch and cascades; without --only all but cascades are shown. --table shows the first three in one table with a line for each
 command, --growth their instructions, which no load changes, --floors what a program in C takes for the same bytes. With --large the
 machine of the cliffs is added that takes gigabytes.
 
@@ -213,7 +213,7 @@ def measure(words, scratch):
     if words.only in (None, "batch"):
         over = batch(words.fst, words.rounds, scratch, words.lines) or over
         print()
-    if words.only in (None, "cascades"):
+    if words.only == "cascades":
         over = cascades(words.fst, words.rounds, scratch) or over
     return over
 

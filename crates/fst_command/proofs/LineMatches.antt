@@ -1,5 +1,5 @@
 -- What a batch lists of a line are matching pairs of paths of its two machines.
-use Rattle.std.proofs.Common.{◌≡◌, ◌≢◌, ◌⊎◌, inl, inr, ℕ, List, [], ◌∷◌, length, map, refl, sym, ap, ◌∙◌, subst, arith}
+use Rattle.std.proofs.Common.{◌≡◌, ◌≢◌, ◌≤◌, ◌⊎◌, inl, inr, ℕ, List, [], ◌∷◌, length, map, refl, sym, ap, ◌∙◌, subst, arith}
 use Rattle.std.specs.declared.cmp.Ordering.{Ordering}
 use Rattle.std.specs.declared.cmp.Ordering.TheVariants.{Equal, Greater, Less}
 use Rattle.std.specs.Ordering.{ordering_then}
@@ -97,12 +97,15 @@ module _ {N M : Type 0} (kind : ArcType) (a : Graph N) (b : Graph M) (line : Lis
   IsPlaced n listed said = Has listed said ⊎ ((length listed ≡ n) × ((t : Told Cost) → Has listed t → cost_cmp t.weight said.weight ≢ Greater))
 
   best_matches : (n : ℕ) (listed : List (Told Cost)) → IsListed kind (lattice line whole) n listed → AreBestMatches kind a b line n listed
-  best_matches n listed h = subst (AreBestMatches kind a b line n) (sym h.told) (record { matches = matches; others = others }) where
+  best_matches n listed h = subst (AreBestMatches kind a b line n) (sym h.told) (record { few = few; matches = matches; others = others }) where
     matches : (t : Told Cost) → Has (map told_of h.paths) t → (one : Path N) × (two : Path M) × IsMatchingPair kind a b one two line t.text t.weight
     matches t there =
         let from = mapped_has told_of h.paths t there in
         let pair = reads from.0.path from.0.weight (h.first.successful from.0 from.1) in
         (pair.0, pair.1, subst (λ (u : Told Cost). IsMatchingPair kind a b pair.0 pair.1 line u.text u.weight) from.2 pair.3)
+
+    few : length (map told_of h.paths) ≤ n
+    few = subst (λ (k : ℕ). k ≤ n) (sym (length-map h.paths told_of)) h.first.few
 
     others : (one : Path N) (two : Path M) (z : List ℕ) (w : Cost) → IsMatchingPair kind a b one two line z w
         → IsPlaced n (map told_of h.paths) (record { weight = w; text = z })

@@ -1,5 +1,5 @@
 -- How the meter is left, from the work of a command to the end of a run.
-use Rattle.std.proofs.Common.{◌≡◌, ℕ, Bool, true, false, List, Option, Some, None, Result, Ok, Err, refl, sym, ap, ◌∙◌, subst}
+use Rattle.std.proofs.Common.{◌≡◌, ℕ, Bool, true, false, Option, Some, None, Result, Ok, Err, refl, ap, ◌∙◌}
 use Rattle.fst_desk.specs.Seen.{Files, Seen}
 use Rattle.fst_semiring.specs.declared.arc_type.ArcType.{ArcType}
 use Rattle.fst_words.specs.declared.plan.Plan.{Plan}

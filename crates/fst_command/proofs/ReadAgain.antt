@@ -1,5 +1,5 @@
 -- What one command writes the next one reads.
-use Rattle.std.proofs.Common.{◌≡◌, ◌≤◌, ℕ, true, false, List, [], ◌∷◌, length, Option, Result, Ok, refl, ap, ◌∙◌, subst, codes, arith, ltb}
+use Rattle.std.proofs.Common.{◌≡◌, ◌≤◌, ℕ, true, false, List, [], ◌∷◌, length, Option, Result, Ok, refl, ap, ◌∙◌, subst, arith, ltb}
 use Rattle.std.proofs.lemmas.Bool.{le-ltb}
 use Rattle.std.specs.List.{Contains}
 use Rattle.fst_semiring.specs.declared.arc_type.ArcType.{ArcType}
@@ -8,12 +8,6 @@ use Rattle.fst_semiring.specs.Cost.{Cost}
 use Rattle.fst_semiring.specs.Names.{known}
 use Rattle.fst_machine.specs.Machine.{Machine}
 use Rattle.fst_fields.specs.Reading.{◌>>=◌}
-use Rattle.fst_text.specs.Faults as texts
-use Rattle.fst_text.specs.declared.fault.TextFault.{TextFault}
-use Rattle.fst_text.specs.Grammar.{machine_of_text}
-use Rattle.fst_text.specs.Options as text
-use Rattle.fst_text.specs.Printed.{text_of_machine}
-use Rattle.fst_text.proofs.Describing.{compiles-back}
 use Rattle.fst_binary.specs.Sides.{HasSides, Sides}
 use Rattle.fst_binary.specs.Spelling.{HasSpelling, tabled_spelling}
 use Rattle.fst_binary.proofs.Encoded.{is_again_tabled, type_of_spelling}
@@ -21,26 +15,21 @@ use Rattle.fst_codex.specs.Spelling.{HasCodexSpelling, codex_spelling}
 use Rattle.fst_codex.specs.Table.{Table}
 use Rattle.fst_codex.proofs.Again.{codex_again, type_again}
 use Rattle.fst_any.specs.Taken.{same_kind}
-use Rattle.fst_any.specs.Typed.{Typed, codex_of_file, machine_of_file, typed_machine_of_text}
+use Rattle.fst_any.specs.Typed.{codex_of_file, machine_of_file}
 use Rattle.fst_desk.specs.Seen.{Files}
 use Rattle.fst_words.specs.declared.options.Options.{Options}
 use Rattle.fst_words.specs.declared.plan.Plan.{Plan}
-use Rattle.fst_words.specs.declared.verb.Verb.{Verb}
 use Rattle.fst_words.specs.declared.form.Role.TheVariants as roles
 use Rattle.fst_words.specs.Inputs.{Input}
-use Rattle.fst_words.specs.Plans.{outputs_of, rule_labels}
-use Rattle.fst_verbs.specs.Commands.{meaning_by}
-use Rattle.fst_verbs.specs.Causes.{Cause, Fault, faulty, misread}
-use Rattle.fst_verbs.specs.Given.{Given, Held, choices_by, codex_in, given_at, given_by, given_of, kind_of}
-use Rattle.fst_verbs.specs.Given.{machine_in, nothing, put, read_limit, telling, text_in}
+use Rattle.fst_words.specs.Plans.{outputs_of}
+use Rattle.fst_verbs.specs.Causes.{Cause, faulty}
+use Rattle.fst_verbs.specs.Given.{Given, Held, codex_in, given_at, given_by, given_of, kind_of}
+use Rattle.fst_verbs.specs.Given.{machine_in, nothing, put, read_limit, telling}
 use Rattle.fst_verbs.specs.Meaning as meanings
-use Rattle.fst_verbs.specs.Meaning.{Made, answered, bytes_of, coded, for_one, machine, separation}
+use Rattle.fst_verbs.specs.Meaning.{Made, answered, bytes_of, coded, machine, separation}
 use Rattle.fst_verbs.specs.Tabling.{tables_for}
-use Rattle.fst_verbs.specs.Texts.{print_choices, print_meaning}
 use Rattle.fst_command.specs.Outcome.{AreNamed, Output, Prescribes}
-use Rattle.fst_command.specs.ReadAgain.{AreReadAgain, IsCodexAs, IsCompiledAgain, IsCompiledAs, IsReadAs, IsTold, ReadsOneMachine, given_one}
-
--- ---- the binary form
+use Rattle.fst_command.specs.ReadAgain.{AreReadAgain, IsCodexAs, IsReadAs, ReadsOneMachine, given_one}
 
 all_known : (kind : ArcType) → Contains known kind
 all_known Boolean = (0, omega arith, refl)
@@ -112,44 +101,3 @@ pub given_again : (plan : Plan) (kind : ArcType) (m : Machine Cost) (s : Sides) 
 given_again plan kind m s content reads short one =
     ap (λ (inputs : List Input). given_by plan.options inputs (content ∷ []) nothing >>= at_once plan.options) one.1
     ∙ one_given plan.options one.0 content kind m s reads short
-
--- ---- the text form
-
-abbrev read_as : ArcType → Machine Cost → Result Typed TextFault
-read_as kind m = Ok (record { kind = kind; machine = m })
-
-reads_text : (kind : ArcType) (choices : text.Options) (m : Machine Cost) (name bytes : List ℕ) → machine_of_text kind choices bytes ≡ Ok m
-    → text_in kind choices name bytes ≡ Ok (record { kind = kind; machine = m })
-unfolding text_in typed_machine_of_text
-reads_text kind choices m name bytes back =
-    let tell : TextFault → Fault = λ fault. misread name (codes "line") (texts.line_of fault) (texts.reason_of fault) in
-    ap (λ (read : Result (Machine Cost) TextFault). telling tell (read >>= read_as kind)) back
-
-compiles : (kind : ArcType) (choices : text.Options) (m : Machine Cost) (bytes : List ℕ) → IsTold kind choices m
-    → text_of_machine kind choices m ≡ Ok bytes → IsCompiledAs kind choices m bytes
-compiles kind choices m bytes tells is o isymbols osymbols reads name =
-    let back : machine_of_text kind choices bytes ≡ Ok m =
-    compiles-back kind choices m bytes tells.tables tells.machine tells.weights tells.start tells.kept is in
-    ap (λ (k : ArcType). text_in k (choices_by o isymbols osymbols) name bytes) reads.kind
-    ∙ (ap (λ (c : text.Options). text_in kind c name bytes) reads.choices ∙ reads_text kind choices m name bytes back)
-
--- what is made is the text of the machine
-abbrev IsPrinted : Options → Given → Made → Machine Cost → Type 0
-IsPrinted o given made n = (bytes : List ℕ) × (text_of_machine given.kind (print_choices o given.tables) n ≡ Ok bytes) × (made ≡ meanings.text bytes)
-
-printed : (o : Options) (given : Given) (made : Made) (m : Machine Cost) (ms : List (Machine Cost)) → ms ≡ m ∷ []
-    → for_one ms (IsPrinted o given made) → IsPrinted o given made m
-printed o given made m ms e h =
-    subst (λ (ns : List (Machine Cost)). for_one ns (IsPrinted o given made)) e h
-
-pub printed_compiles_again : (plan : Plan) (told : Option Files) (outputs : List Output) (p : Prescribes plan told outputs)
-    → IsCompiledAgain plan told outputs p
-printed_compiles_again plan told outputs p m command machines tells =
-    let given : Given = p.makes.given in
-    let choices : text.Options = print_choices plan.options given.tables in
-    let makes : (print_meaning plan.options).makes given p.made =
-    subst (λ (v : Verb). (meaning_by v (rule_labels plan) plan.options).makes given p.made) command p.makes.is in
-    let said = printed plan.options given p.made m given.machines machines makes in
-    let s : Sides = tables_for plan given.tables in
-    let one = one_named (outputs_of plan) said.0 outputs (subst (λ (x : Made). AreNamed (outputs_of plan) (bytes_of s x) outputs) said.2 p.named) in
-    (one.0, one.1, subst (IsCompiledAs given.kind choices m) one.2 (compiles given.kind choices m said.0 tells said.1))

@@ -1,5 +1,5 @@
 -- What a batch lists of a line, by the two machines of its cascade: matching pairs of their paths.
-use Rattle.std.specs.Prelude.{◌≡◌, ◌≢◌, ◌⊎◌, ℕ, List, length}
+use Rattle.std.specs.Prelude.{◌≡◌, ◌≢◌, ◌⊎◌, ℕ, ◌≤◌, List, length}
 use Rattle.std.specs.declared.cmp.Ordering.TheVariants.{Greater}
 use Rattle.fst_semiring.specs.Cost.{Cost, cost_cmp}
 use Rattle.fst_semiring.specs.declared.arc_type.ArcType.{ArcType}
@@ -37,6 +37,7 @@ module _ {N M : Type 0} (kind : ArcType) (a : Graph N) (b : Graph M) (line : Lis
   -- What is listed are at most n outputs with weights, each of a matching pair that reads the line. What each other such pair
   -- writes is not listed only where n others are, and none of these has a worse weight.
   pub record AreBestMatches (n : ℕ) (listed : List (Told Cost)) : Type 0 where
+    pub few : length listed ≤ n
     pub matches : (t : Told Cost) → Has listed t → (one : Path N) × (two : Path M) × IsMatchingPair kind a b one two line t.text t.weight
     pub others : (one : Path N) (two : Path M) (z : List ℕ) (w : Cost) → IsMatchingPair kind a b one two line z w
         → Has listed (record { weight = w; text = z }) ⊎ ((length listed ≡ n) × ((t : Told Cost) → Has listed t → cost_cmp t.weight w ≢ Greater))

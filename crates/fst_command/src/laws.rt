@@ -21,7 +21,7 @@ ghost use Rattle.fst_command.specs.Outcome.{Output, Prescribes, Runs};
 ghost use Rattle.fst_command.specs.OneOutcome.{OneOutcome};
 ghost use Rattle.fst_command.specs.OneResult.{EndAlike, IsDecided};
 ghost use Rattle.fst_command.specs.LineMatches.{AreBestMatches, IsMatched};
-ghost use Rattle.fst_command.specs.ReadAgain.{AreReadAgain, IsCompiledAgain, IsReadAs, ReadsOneMachine, given_one};
+ghost use Rattle.fst_command.specs.ReadAgain.{AreReadAgain, IsReadAs, ReadsOneMachine, given_one};
 
 /// Of what a command is given, one fault stops it and one thing is made; so the same words and the same contents of
 /// files prescribe one list of outputs and one status, or one cause, and never both.
@@ -43,12 +43,6 @@ pub fn one_result()
 pub fn written_reads_again()
     ensures outputs { (plan : Plan) (told : Option Files) (outputs : List Output) (p : Prescribes plan told outputs) → AreReadAgain (tables_for plan p.makes.given.tables) p.made outputs }
     ensures given { (plan : Plan) (kind : ArcType) (m : Machine Cost) (s : Sides) (content : List ℕ) → IsReadAs kind m s content → length content ≤ read_limit → ReadsOneMachine plan → given_of plan (content ∷ []) ≡ Ok (given_one kind m s) }
-{}
-
-/// A machine with a start that is printed with its state numbers kept, and compiled with the same choices and tables, is the
-/// same machine.
-pub fn printed_compiles_again()
-    ensures { (plan : Plan) (told : Option Files) (outputs : List Output) (p : Prescribes plan told outputs) → IsCompiledAgain plan told outputs p }
 {}
 
 /// The successful paths of the lattice of a line, of which a batch lists the best, are the matching pairs of paths of its two

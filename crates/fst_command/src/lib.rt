@@ -17,7 +17,5 @@ mod top;
 mod working;
 
 pub use fst_verbs::Queues;
-pub use laws::{
-    batch_lines_match, one_outcome, one_result, printed_compiles_again, written_reads_again,
-};
+pub use laws::{batch_lines_match, one_outcome, one_result, written_reads_again};
 pub use top::run;

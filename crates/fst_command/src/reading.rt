@@ -11,7 +11,7 @@ ghost use Rattle.fst_text.specs.Faults as texts;
 ghost use Rattle.fst_words.specs.Inputs.{input_seen};
 ghost use Rattle.fst_verbs.specs.Causes.{faulty, misread, refused};
 ghost use Rattle.fst_verbs.specs.Given.{arc_type_of, choices_by, codex_in, machine_in, pairs_in, put, table_in, text_in};
-ghost use Rattle.fst_verbs.specs.Seeing.{input_names, output_names, tables_seen};
+ghost use Rattle.fst_verbs.specs.Seeing.{input_names, output_names};
 ghost use Rattle.fst_command.specs.Views.{held_seen};
 ghost use Rattle.fst_command.specs.Steps.{ReadsAll, StepAnswer};
 ghost use Rattle.fst_verbs.specs.Told.{IsMade, Judges};
