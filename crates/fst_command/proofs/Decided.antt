@@ -15,12 +15,7 @@ use Rattle.fst_command.specs.Steps.{Decides, IsWorked}
 use Rattle.fst_verbs.specs.Told.{Fails}
 use Rattle.fst_verbs.specs.declared.refusal.Refusal.{Refusal}
 
--- what was read is not all of one arc type: a machine has another, or a codex
-pub machines_apart : (kind : ArcType) (held : Held) (refusal : Refusal) → Fails refusal (telling (kinds_differ kind) (machines_as kind held.machines)) → Fails refusal (given_at kind held)
-unfolding given_at
-machines_apart kind held refusal (inl memory) = inl memory
-machines_apart kind held refusal (inr (fault, is, tells)) = inr (fault, rw is refl, tells)
-
+-- what was read is not all of one arc type: a codex has another
 pub codex_apart : (kind : ArcType) (held : Held) (ms : List (Machine Cost)) (refusal : Refusal) → telling (kinds_differ kind) (machines_as kind held.machines) ≡ Ok ms → Fails refusal (telling (kinds_differ kind) (codex_at kind held.codex)) → Fails refusal (given_at kind held)
 unfolding given_at
 codex_apart kind held ms refusal taken (inl memory) = inl memory

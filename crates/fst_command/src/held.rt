@@ -16,10 +16,11 @@ use fst_any::{AnyCodex, AnyFst, Kinded, OtherKind, machines_of};
 use fst_codex::Codex;
 use fst_machine::Fst;
 use fst_rational::Pairs;
-use fst_semiring::ArcType;
+use fst_semiring::{ArcType, Weight};
 use fst_verbs::{Given, Refusal, Tables, arc_type_of, kinds_apart};
 use fst_words::Options;
 use std::alloc::Global;
+use std::mem::{drop, replace};
 
 /// What was read, each machine with its arc type.
 #[derive(Drop)]
@@ -95,21 +96,71 @@ fn alike_codex<W: Kinded>(alloc: Global, any: Option<AnyCodex>) -> Result<Option
     }
 }
 
+impl Held {
+    /// Takes out what has an arc type: the machines and the codex.
+    fn take_typed(&mut self, alloc: Global) -> (Vec<AnyFst>, Option<AnyCodex>)
+        ensures taken { (result.0.items ≡ self.old.machines.items) × (result.1 ≡ self.old.codex) }
+        ensures rest { self.new ≡ record self.old { machines = self.new.machines; codex = self.new.codex } }
+    {
+        let machines = replace(&mut self.machines, Vec::new(alloc));
+        (machines, replace(&mut self.codex, None))
+    }
+
+    /// What a command is given: these machines and this codex, and all else that was read but the symbol tables.
+    fn take_given<W: Weight>(
+        &mut self,
+        alloc: Global,
+        machines: Vec<Fst<W>>,
+        codex: Option<Codex<W>>,
+    ) -> Given<W>
+        ensures given { result ≡ record { ipairs = self.old.ipairs; opairs = self.old.opairs; lines = self.old.lines; machines = machines; codex = codex; text_room = self.old.text_room } }
+        ensures rest { self.new.tables ≡ self.old.tables }
+    {
+        Given {
+            ipairs: replace(&mut self.ipairs, Pairs::new(alloc)),
+            opairs: replace(&mut self.opairs, Pairs::new(alloc)),
+            lines: replace(&mut self.lines, Vec::new(alloc)),
+            machines,
+            codex,
+            text_room: replace(&mut self.text_room, Vec::new(alloc)),
+        }
+    }
+
+    /// Takes out the symbol tables.
+    fn take_tables(&mut self) -> Tables
+        ensures { result ≡ self.old.tables }
+    {
+        replace(&mut self.tables, Tables::new())
+    }
+}
+
 /// What was read, all of the arc type of the weights, and the symbol tables beside it; the room for bytes is freed. The first
-/// machine of another arc type, or else a codex of another, is a refusal.
+/// machine of another arc type, or else a codex of another, is a refusal. What is freed is dropped by name: the prover then looks
+/// at no field of it.
 #[tactic(auto, unfolding(fst_verbs::specs::Given::given_at))]
 pub(crate) fn alike<W: Kinded>(alloc: Global, held: Held) -> Result<(Given<W>, Tables), Refusal>
     ensures { Judges (λ x. given_with x.1 W.KIND W.value x.0) result (given_at W.KIND (held_seen held)) }
 {
-    let machines = alike_machines::<W>(alloc, held.machines)?;
-    let codex = alike_codex::<W>(alloc, held.codex)?;
-    let given = Given {
-        ipairs: held.ipairs,
-        opairs: held.opairs,
-        lines: held.lines,
-        machines,
-        codex,
-        text_room: held.text_room,
+    let mut held = held;
+    let (list, any) = held.take_typed(alloc);
+    let machines = match alike_machines::<W>(alloc, list) {
+        Ok(machines) => machines,
+        Err(refusal) => {
+            drop(any);
+            drop(held);
+            return Err(refusal);
+        }
     };
-    Ok((given, held.tables))
+    let codex = match alike_codex::<W>(alloc, any) {
+        Ok(codex) => codex,
+        Err(refusal) => {
+            drop(machines);
+            drop(held);
+            return Err(refusal);
+        }
+    };
+    let given = held.take_given(alloc, machines, codex);
+    let tables = held.take_tables();
+    drop(held);
+    Ok((given, tables))
 }
